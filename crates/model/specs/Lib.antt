@@ -1,0 +1,15 @@
+pub mod Limits
+pub mod Lists
+pub mod Tree
+pub mod Automaton
+pub mod Order
+pub mod Sound
+pub mod Run
+pub mod Papers
+pub mod Table
+pub mod Build
+pub mod Annotation
+pub mod Leaves
+pub mod Written
+pub mod Boolean
+pub mod Witness

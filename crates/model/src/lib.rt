@@ -1,0 +1,1 @@
+// Definitions and theorems only: specs/ says what trees, automata and runs are, proofs/ what holds of them.
