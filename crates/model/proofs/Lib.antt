@@ -1,0 +1,12 @@
+pub mod Members
+pub mod Memory
+pub mod Tab
+pub mod Below
+pub mod Rows
+pub mod Runs
+pub mod Combine
+pub mod Union
+pub mod Witness
+pub mod Dead
+pub mod Apart
+pub mod Build

@@ -1,0 +1,63 @@
+-- A loop that tests every index below n and leaves at the first that fails: what it knows at its head, and what it may return. Assumes nothing.
+use mathlib.Core.Path.{_≡_, refl, sym, ap, _∙_, subst}
+use mathlib.Core.Bool.{Bool, true, false, _&&_}
+use mathlib.Core.Logic.{_⊎_, inl, inr}
+use Prim.Native.Nat.{ℕ, zero, suc, _+_, _-_, _<_, _≤_, zero-le}
+use native.Mathlib.Nat.{le-of-suc-le-suc, not-suc-le-zero, eq-or-lt-of-le, le-antisymm}
+use native.Mathlib.Numerals.{add-one, add-one-le}
+use borrow.Author.Needs.{needs}
+use lib.Dec.{T}
+use Rattle.model.proofs.Members.{T-true}
+use Rattle.model.specs.Lists.{allBelow}
+
+and-false : (a : Bool) → (a && false) ≡ false
+and-false true = refl
+and-false false = refl
+
+true-not-false : true ≡ false → ⊥
+true-not-false e = subst T e tt
+
+yes : (b : Bool) → (b ≡ false → ⊥) → b ≡ true
+yes true h = refl
+yes false h = absurd (h refl)
+
+module _ (p : ℕ → Bool) where
+  stopped-at : (n i : ℕ) → p i ≡ false → (i < n → allBelow n p ≡ false) → (i ≡ n) ⊎ (i < n) → allBelow (suc n) p ≡ false
+  unfolding allBelow
+  stopped-at n i f below (inl e) = rw (← e, f, and-false)
+  stopped-at n i f below (inr l) = rw (below l)
+
+  pub fails : (n i : ℕ) → i < n → p i ≡ false → allBelow n p ≡ false
+  fails zero i l f = absurd (not-suc-le-zero l)
+  fails (suc n) i l f = stopped-at n i f (λ l′. fails n i l′ f) (eq-or-lt-of-le (le-of-suc-le-suc l))
+
+  -- what the whole test tells of one index
+  pub at : (n i : ℕ) → allBelow n p ≡ true → i < n → p i ≡ true
+  at n i h l = yes (p i) (λ f. true-not-false (sym h ∙ fails n i l f))
+
+pub all-at : (n : ℕ) (f : ℕ → Bool) → T (allBelow n f) → (i : ℕ) → i < n → T (f i)
+all-at n f h i l = T-true (f i) .1 (at f n i (T-true (allBelow n f) .0 h) l)
+
+-- at the loop's head: n is the number m of indices to test, and those below i pass
+pub record Passed (p : ℕ → Bool) (m n i : ℕ) : Type 0 where
+  pub count : n ≡ m
+  pub inside : i ≤ n
+  pub passed : allBelow i p ≡ true
+
+-- the loop begins; goes on, where a test r of i passed; is left at the end; is left by a test that failed
+module _ (p : ℕ → Bool) (m n : ℕ) where
+  pub passed-none : n ≡ m → Passed p m n 0
+  unfolding allBelow
+  passed-none e = record { count = e; inside = zero-le; passed = refl }
+
+  pub passed-more : (i : ℕ) (r : Bool) → Passed p m n i → i < n → r ≡ p i → r ≡ true → Passed p m n (i + 1)
+  unfolding allBelow
+  passed-more i r h l e t = record { count = h .count; inside = add-one-le l; passed = rw (add-one, h .passed, ← e, t) }
+
+  pub passed-all : (i : ℕ) → Passed p m n i → n ≤ i → true ≡ allBelow m p
+  passed-all i h l = rw (← h .count, ← le-antisymm (h .inside) l, h .passed)
+
+  pub stopped : (i : ℕ) (r : Bool) → Passed p m n i → i < n → r ≡ p i → r ≡ false → false ≡ allBelow m p
+  stopped i r h l e f = rw (← h .count, fails p n i l (sym e ∙ f))
+
+pub ruleset loops = (passed-none, passed-more, passed-all, stopped, needs)
