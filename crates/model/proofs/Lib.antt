@@ -2,6 +2,7 @@ pub mod Members
 pub mod Memory
 pub mod Tab
 pub mod Below
+pub mod WrittenTest
 pub mod Rows
 pub mod Runs
 pub mod Combine
