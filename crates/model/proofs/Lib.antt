@@ -10,3 +10,4 @@ pub mod Witness
 pub mod Dead
 pub mod Apart
 pub mod Build
+pub mod Papers
