@@ -16,37 +16,13 @@ use Rattle.model.specs.Tree.{Tree, childrenOf, symbolOf, at}
 use Rattle.model.specs.Automaton.{Rule, State, Automaton, noState, final?, carries?}
 use Rattle.model.specs.Run.{Move, IsRun, Consistent, Accepts}
 use Rattle.model.specs.Lists.{concatMap, only, tab}
-use Rattle.model.specs.Order.{before?, insert, sorted}
+use Rattle.model.specs.Order.{sorted}
 use Rattle.model.specs.Boolean.{pairState, pairNumbers, pairRule, pairRules, product, union}
 use Rattle.model.specs.Automaton.{Wellformed}
 use Rattle.model.proofs.Members.{T-and, and-T, in-concatMap, concatMap-in, in-only, only-in}
 use Rattle.model.proofs.Tab.{tab-at}
+use Rattle.model.proofs.Order.{in-sorted, sorted-in}
 use Rattle.model.proofs.Rows.{in-getD}
-
--- sorting keeps the members
-in-insert : (r : Rule) (rs : List Rule) {y : Rule} → In y (insert r rs) → In y (r ∷ rs)
-in-insert r [] h = h
-in-insert r (s ∷ rs) {y = y} h = go (before? s r) h (λ g. in-insert r rs g)
-  where
-    go : (b : Bool) → In y (cond b (s ∷ insert r rs) (r ∷ s ∷ rs)) → (In y (insert r rs) → In y (r ∷ rs)) → In y (r ∷ s ∷ rs)
-    go false g ih = g
-    go true g ih = ⊎-elim (λ e. there (here e)) (λ m. ⊎-elim here (λ n. there (there n)) (in-cons (ih m))) (in-cons g)
-
-insert-in : (r : Rule) (rs : List Rule) {y : Rule} → In y (r ∷ rs) → In y (insert r rs)
-insert-in r [] h = h
-insert-in r (s ∷ rs) {y = y} h = go (before? s r) (λ g. insert-in r rs g)
-  where
-    go : (b : Bool) → (In y (r ∷ rs) → In y (insert r rs)) → In y (cond b (s ∷ insert r rs) (r ∷ s ∷ rs))
-    go false ih = h
-    go true ih = ⊎-elim (λ e. there (ih (here e))) (λ m. ⊎-elim here (λ n. there (ih (there n))) (in-cons m)) (in-cons h)
-
-pub in-sorted : (rs : List Rule) {y : Rule} → In y (sorted rs) → In y rs
-in-sorted [] h = h
-in-sorted (r ∷ rs) h = ⊎-elim here (λ m. there (in-sorted rs m)) (in-cons (in-insert r (sorted rs) h))
-
-pub sorted-in : (rs : List Rule) {y : Rule} → In y rs → In y (sorted rs)
-sorted-in [] h = h
-sorted-in (r ∷ rs) h = insert-in r (sorted rs) (⊎-elim here (λ m. there (sorted-in rs m)) (in-cons h))
 
 -- a map of the states of `A` to those of `B` that keeps the rules and the final states, and brings no tag that `A` has not
 pub record Carried (A B : Automaton) : Type 0 where

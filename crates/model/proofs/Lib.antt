@@ -4,6 +4,8 @@ pub mod Tab
 pub mod Below
 pub mod Rows
 pub mod Runs
+pub mod Pairwise
+pub mod Order
 pub mod Combine
 pub mod Union
 pub mod Witness

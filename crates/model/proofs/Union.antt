@@ -21,7 +21,8 @@ use Rattle.model.specs.Automaton.{Wellformed}
 use Rattle.model.proofs.Members.{in-map, map-in}
 use Rattle.model.proofs.Rows.{in-getD}
 use Rattle.model.proofs.Runs.{at-kid, child-run, leaf}
-use Rattle.model.proofs.Combine.{in-sorted, sorted-in, Carried, carry, bit-low, bit-high}
+use Rattle.model.proofs.Order.{in-sorted, sorted-in}
+use Rattle.model.proofs.Combine.{Carried, carry, bit-low, bit-high}
 
 map-at : {B C : Type 0} (f : B → C) (b : B) (d : C) (xs : List B) (j : ℕ) → j < length xs → getD (map f xs) j d ≡ f (getD xs j b)
 map-at f b d [] j l = let z : ⊥ = omega arith in absurd z
