@@ -13,3 +13,4 @@ pub mod Dead
 pub mod Apart
 pub mod Build
 pub mod Papers
+pub mod SoundUnion

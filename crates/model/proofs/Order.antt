@@ -1,9 +1,9 @@
 -- The order of rules: a strict order on keys, what ascending lists are, and that sorting is the only way to an ascending list. Assumes nothing.
 use mathlib.Core.Path.{_≡_, refl, sym, ap, _∙_, subst}
 use mathlib.Core.Logic.{_⊎_, inl, inr, ⊎-elim, _↔_}
-use mathlib.Core.List.{List, [], _∷_, _++_, List·Memᴰ as In, List·Memᴰ·head as here, List·Memᴰ·tail as there, List·Memᴰ·not-nil as not-nil, List·Memᴰ·cases-cons as in-cons, Memᴰ·cast}
+use mathlib.Core.List.{List, [], _∷_, _++_, List·Memᴰ as In, List·Memᴰ·head as here, List·Memᴰ·tail as there, List·Memᴰ·not-nil as not-nil, List·Memᴰ·cases-cons as in-cons}
 use mathlib.Core.Bool.{Bool, true, false, _&&_, _||_, cond}
-use Prim.Native.Nat.{ℕ, zero, suc, _<_, _≤_}
+use Prim.Native.Nat.{ℕ, suc, _<_, _≤_}
 use native.Mathlib.Omega.{arith}
 use native.Mathlib.Decide.{decLt}
 use lib.Dec.{T, eqb, ltb, eqb→eq, eqb-refl, ltb→lt, lt→ltb}
@@ -15,17 +15,17 @@ use Rattle.model.specs.Automaton.{Rule}
 use Rattle.model.specs.Order.{place, key, lower?, before?, Ascending, insert, sorted}
 use Rattle.model.proofs.Members.{T-and, and-T, or-left, or-right}
 use Rattle.model.proofs.Tab.{tab-at, length-tab}
-use Rattle.model.proofs.Pairwise.{Pairwise, pairwise-at, at-pairwise}
+use Rattle.model.proofs.Pairwise.{Pairwise, pairwise-at, at-pairwise, pairwise-weaken}
 
 T-or : (a b : Bool) → T (a || b) → T a ⊎ T b
 T-or true b h = inl tt
 T-or false b h = inr h
 
 -- the first place decides, or the rest does
-abbrev Decided : ℕ → ℕ → List ℕ → List ℕ → Type 0
+abbrev pub Decided : ℕ → ℕ → List ℕ → List ℕ → Type 0
 Decided x y a b = (x < y) ⊎ ((x ≡ y) × T (lower? a b))
 
-lower-cons : (x y : ℕ) (a b : List ℕ) → T (lower? (x ∷ a) (y ∷ b)) ↔ Decided x y a b
+pub lower-cons : (x y : ℕ) (a b : List ℕ) → T (lower? (x ∷ a) (y ∷ b)) ↔ Decided x y a b
 lower-cons x y a b = (λ h. ⊎-elim (λ l. inl (ltb→lt x y l)) (λ g. let (e, l) = T-and (eqb x y) (lower? a b) g in inr (eqb→eq x y e, l)) (T-or (ltb x y) (eqb x y && lower? a b) h), back)
   where
     back : Decided x y a b → T (lower? (x ∷ a) (y ∷ b))
@@ -131,6 +131,10 @@ ascending-next d rs = (λ h i l. ascending-at d rs .0 h i (suc i) (omega arith) 
     back [] h = tt
     back (r ∷ []) h = tt
     back (r ∷ s ∷ rs) h = (h 0 (omega arith), back (s ∷ rs) (λ i l. h (suc i) (omega arith)))
+
+-- .. so no two of its rules have one key
+pub ascending-other : (rs : List Rule) → Ascending rs → Pairwise OtherKey rs
+ascending-other rs h = pairwise-weaken Before OtherKey rs before-other (ascending-pairwise rs h)
 
 -- sorting keeps the members
 in-insert : (r : Rule) (rs : List Rule) {y : Rule} → In y (insert r rs) → In y (r ∷ rs)

@@ -1,7 +1,7 @@
 -- Lists in which each earlier member stands in a relation to each later one. Assumes nothing.
-use mathlib.Core.Path.{_≡_, refl, sym, ap, subst}
-use mathlib.Core.Logic.{⊎-elim, _↔_}
-use mathlib.Core.List.{List, [], _∷_, _++_, map, List·Memᴰ as In, List·Memᴰ·head as here, List·Memᴰ·tail as there, List·Memᴰ·not-nil as not-nil, List·Memᴰ·cases-cons as in-cons, List·Memᴰ·append-cases as in-append}
+use mathlib.Core.Path.{_≡_, refl, sym, subst}
+use mathlib.Core.Logic.{⊎-elim}
+use mathlib.Core.List.{List, [], _∷_, _++_, map, List·Memᴰ as In, List·Memᴰ·head as here, List·Memᴰ·tail as there, List·Memᴰ·append-cases as in-append}
 use Prim.Native.Nat.{ℕ, zero, suc, _<_}
 use native.Mathlib.Omega.{arith}
 use lib.ListN.{length, getD}
@@ -53,3 +53,8 @@ module _ {A B : Type 0} (R : A → A → Type 0) (S : B → B → Type 0) where
       pairwise-append S (f x) (concatMap f xs) (each x (here refl))
       (pairwise-concatMap f xs (λ y m. each y (there m)) (λ y z m n. c y z (there m) (there n)) (h .1))
       (λ a b m n. let (y, o, q) = in-concatMap f xs n in c x y (here refl) (there o) (h .0 y o) a b m q)
+
+-- a weaker relation
+pub pairwise-weaken : {A : Type 0} (R S : A → A → Type 0) (xs : List A) → ((x y : A) → R x y → S x y) → Pairwise R xs → Pairwise S xs
+pairwise-weaken R S [] c h = tt
+pairwise-weaken R S (x ∷ xs) c h = (λ y m. c x y (h .0 y m), pairwise-weaken R S xs c (h .1))

@@ -1,8 +1,7 @@
 -- Where each tag has exactly one state and no state has two tags, acceptance is that of source document 004. Assumes nothing.
 use mathlib.Core.Path.{_≡_, refl, sym, ap, _∙_, subst}
 use mathlib.Core.Logic.{⊎-elim, _↔_}
-use mathlib.Core.Option.{some}
-use mathlib.Core.List.{List, [], _∷_, _++_, List·Memᴰ as In, List·Memᴰ·cases-cons as in-cons, Memᴰ·cast}
+use mathlib.Core.List.{List, [], _∷_, _++_, List·Memᴰ as In, List·Memᴰ·cases-cons as in-cons}
 use Prim.Native.Nat.{ℕ, _<_}
 use native.Mathlib.Omega.{arith}
 use native.Mathlib.Decide.{decLt}
@@ -10,10 +9,10 @@ use lib.Dec.{T}
 use lib.Seq.{ext-getD}
 use lib.ListN.{length, getD, List·getD-eq-default}
 use Rattle.model.specs.Lists.{tab}
-use Rattle.model.specs.Tree.{Tree, node, at, symbolOf, childrenOf}
-use Rattle.model.specs.Automaton.{Rule, State, Automaton, Wellformed, noState, arityOf, final?, carries?}
+use Rattle.model.specs.Tree.{Tree, node, symbolOf, childrenOf}
+use Rattle.model.specs.Automaton.{State, Automaton, Wellformed, noState, arityOf, final?, carries?}
 use Rattle.model.specs.Run.{Move, Accepts}
-use Rattle.model.specs.Papers.{letterAt, Rigid, IsRigid, Ground, TreeRun, Recognizes, rigidOf, Papers}
+use Rattle.model.specs.Papers.{letterAt, IsRigid, Recognizes, rigidOf, Papers}
 use Rattle.model.proofs.Tab.{tab-at, length-tab}
 use Rattle.model.proofs.Apart.{carried}
 
