@@ -91,12 +91,12 @@ pairNumbers-at n (p ∷ ps) [] h j l = let z : ⊥ = omega arith in absurd z
 pairNumbers-at n (p ∷ ps) (q ∷ qs) h zero l = refl
 pairNumbers-at n (p ∷ ps) (q ∷ qs) h (suc j) l = pairNumbers-at n ps qs (omega arith) j (omega arith)
 
--- the rules that pair one rule with a list of rules
+-- the rule that pairs two rules, and the rules that pair one with a list of rules
+pub one-pair : (n : ℕ) (a b : Rule) {r : Rule} → In r (only (eqb (a .symbol) (b .symbol)) (pairRule n a b ∷ [])) → (a .symbol ≡ b .symbol) × (r ≡ pairRule n a b)
+one-pair n a b h = let (t, o) = in-only (eqb (a .symbol) (b .symbol)) _ h in (eqb→eq (a .symbol) (b .symbol) t, eq-of-singleton o)
+
 pub pair-in : (n : ℕ) (a : Rule) (bs : List Rule) {r : Rule} → In r (concatMap (λ b. only (eqb (a .symbol) (b .symbol)) (pairRule n a b ∷ [])) bs) → (b : Rule) × In b bs × (a .symbol ≡ b .symbol) × (r ≡ pairRule n a b)
-pair-in n a bs h =
-    let (b, ib, m) = in-concatMap _ bs h in
-    let (t, o) = in-only (eqb (a .symbol) (b .symbol)) _ m in
-    (b, ib, eqb→eq (a .symbol) (b .symbol) t, eq-of-singleton o)
+pair-in n a bs h = let (b, ib, m) = in-concatMap _ bs h in let (e, is) = one-pair n a b m in (b, ib, e, is)
 
 -- what the product's state `(p, q)` is
 module _ (A B : Automaton) where

@@ -14,3 +14,4 @@ pub mod Apart
 pub mod Build
 pub mod Papers
 pub mod SoundUnion
+pub mod SoundProduct

@@ -1,10 +1,10 @@
 -- The union of two sound automata is a sound automaton that accepts what one of the two accepts. Assumes nothing.
-use mathlib.Core.Path.{_≡_, refl, sym, ap, _∙_, subst}
+use mathlib.Core.Path.{_≡_, sym, ap, _∙_, subst}
 use mathlib.Core.Logic.{_⊎_, inl, inr, ⊎-elim, _↔_}
 use mathlib.Core.List.{List, [], _∷_, _++_, map, List·Memᴰ as In}
-use Prim.Native.Nat.{ℕ, zero, suc, _+_, _-_, _*_, _^_, _<_, _≤_}
+use Prim.Native.Nat.{ℕ, zero, suc, _+_, _-_, _^_, _<_, _≤_}
 use native.Mathlib.Omega.{arith}
-use native.Mathlib.Nat.{zero-add, lt-of-lt-of-le}
+use native.Mathlib.Nat.{lt-of-lt-of-le}
 use native.Mathlib.Decide.{decLt}
 use lib.Dec.{T}
 use lib.Pow.{pow-mono, pow-pos}
@@ -12,14 +12,14 @@ use lib.ListN.{length, getD, length-append, length-map, List·getD-eq-default}
 use Rattle.model.specs.Limits.{maxChildren, maxStates, maxTags, maxRules, unused}
 use Rattle.model.specs.Lists.{tab}
 use Rattle.model.specs.Tree.{Tree}
-use Rattle.model.specs.Automaton.{Rule, State, Automaton, Wellformed, stateAt, arityOf}
-use Rattle.model.specs.Order.{place, key, lower?, Ascending}
+use Rattle.model.specs.Automaton.{Rule, Automaton, Wellformed, stateAt, arityOf}
+use Rattle.model.specs.Order.{place, lower?, Ascending}
 use Rattle.model.specs.Sound.{Sound}
 use Rattle.model.specs.Run.{Accepts}
 use Rattle.model.specs.Boolean.{shiftRule, union}
 use Rattle.model.proofs.Members.{in-map}
 use Rattle.model.proofs.Pairwise.{Pairwise, pairwise-append, pairwise-map}
-use Rattle.model.proofs.Order.{Before, OtherKey, lower-cons, before-other, key-target, ascending-pairwise, pairwise-ascending, ascending-other, length-sorted, sorted-ascending}
+use Rattle.model.proofs.Order.{Before, OtherKey, lower-cons, key-target, ascending-pairwise, pairwise-ascending, ascending-other, length-sorted, sorted-ascending}
 use Rattle.model.proofs.Combine.{mask-bound}
 use Rattle.model.proofs.Union.{map-at, union-first, union-second, rule-of, either}
 

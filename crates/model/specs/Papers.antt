@@ -9,7 +9,8 @@ use Rattle.model.specs.Lists.{tab}
 use Rattle.model.specs.Tree.{Tree, node, at, childrenOf}
 use Rattle.model.specs.Automaton.{Rule, Automaton, arityOf, final?, carries?}
 
--- A function symbol of the paper: one of our symbols with a scalar, since equality looks at the scalar too. Documents have a scalar at constants only.
+-- A function symbol of the paper: one of our symbols with a scalar, since equality looks at the scalar too. In documents only a constant has a scalar
+-- that is not bare, and scalars are finitely many; nothing here depends on it.
 pub record Letter : Type 0 where
   pub symbol : ℕ
   pub kind : ℕ
