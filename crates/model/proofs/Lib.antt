@@ -8,10 +8,10 @@ pub mod Pairwise
 pub mod Order
 pub mod Combine
 pub mod Union
+pub mod SoundUnion
+pub mod SoundProduct
+pub mod Papers
 pub mod Witness
 pub mod Dead
 pub mod Apart
 pub mod Build
-pub mod Papers
-pub mod SoundUnion
-pub mod SoundProduct
