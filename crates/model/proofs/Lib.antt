@@ -4,9 +4,9 @@ pub mod Tab
 pub mod Below
 pub mod Rows
 pub mod Runs
+pub mod Combine
 pub mod Pairwise
 pub mod Order
-pub mod Combine
 pub mod Union
 pub mod SoundUnion
 pub mod SoundProduct
