@@ -15,7 +15,7 @@ use Rattle.model.specs.Witness.{Apart, apart?}
 use Rattle.model.proofs.Members.{and-T}
 use Rattle.model.proofs.Below.{all-at}
 
-carried : (A : Automaton) (q k : ℕ) → T (carries? A q k) → q < length (A .states)
+pub carried : (A : Automaton) (q k : ℕ) → T (carries? A q k) → q < length (A .states)
 carried A q k c = go (decLt q (length (A .states)))
   where
     go : Dec (q < length (A .states)) → q < length (A .states)

@@ -6,7 +6,12 @@ pub mod WrittenTest
 pub mod Rows
 pub mod Runs
 pub mod Combine
+pub mod Pairwise
+pub mod Order
 pub mod Union
+pub mod SoundUnion
+pub mod SoundProduct
+pub mod Papers
 pub mod Witness
 pub mod Dead
 pub mod Apart

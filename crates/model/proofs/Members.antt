@@ -22,11 +22,11 @@ pub T-true : (b : Bool) → T b ↔ (b ≡ true)
 T-true true = (λ h. refl, λ h. tt)
 T-true false = (λ h. absurd h, λ h. subst T (sym h) tt)
 
-or-left : (a b : Bool) → T a → T (a || b)
+pub or-left : (a b : Bool) → T a → T (a || b)
 or-left true b h = tt
 or-left false b h = absurd h
 
-or-right : (a b : Bool) → T b → T (a || b)
+pub or-right : (a b : Bool) → T b → T (a || b)
 or-right true b h = tt
 or-right false b h = h
 
