@@ -11,28 +11,14 @@ use Rattle.model.specs.Lists.{allBelow, any}
 use Rattle.model.specs.Automaton.{Automaton, final?, carries?}
 use Rattle.model.specs.Table.{Row}
 use Rattle.model.specs.Written.{Step, stepAt, ruleOf, rowOf, StepFits, WrittenRun}
-use Rattle.model.specs.WrittenTest.{known?, childFits?, fits?, sameRow?, oneRow?, ends?, uses?, anyBelow, used?, written?}
+use Rattle.model.specs.WrittenTest.{known?, childFits?, fits?, sameRow?, oneRow?, ends?, uses?, used?, written?}
 use Rattle.model.proofs.Members.{T-and, and-T, in-any}
-use Rattle.model.proofs.Below.{all-at}
+use Rattle.model.proofs.Below.{all-at, any-below}
 
 implied : (a b c : Bool) → T (not (a && b) || c) → T a → T b → T c
 implied true true c h ta tb = h
 implied true false c h ta tb = absurd tb
 implied false b c h ta tb = absurd ta
-
--- a test that holds somewhere below n holds at a number
-pub any-below : (n : ℕ) (p : ℕ → Bool) → T (anyBelow n p) → (i : ℕ) × (i < n) × T (p i)
-unfolding allBelow
-any-below zero p h = absurd h
-any-below (suc n) p h = go (p n) refl h (λ g. any-below n p g)
-  where
-    go : (b : Bool) → p n ≡ b → T (not (allBelow n (λ i. not (p i)) && not b)) → (T (anyBelow n p) → (i : ℕ) × (i < n) × T (p i)) → (i : ℕ) × (i < suc n) × T (p i)
-    go true e g ih = (n, omega arith, subst T (sym e) tt)
-    go false e g ih = let (i, l, t) = ih (weaker (allBelow n (λ i. not (p i))) g) in (i, omega arith, t)
-      where
-        weaker : (a : Bool) → T (not (a && true)) → T (not a)
-        weaker true x = x
-        weaker false x = tt
 
 module _ (A : Automaton) (rows : List Row) (run : List Step) where
   step-fits : (i : ℕ) → T (known? A rows run i) → T (fits? A rows run i) → StepFits A rows run i

@@ -4,7 +4,7 @@ use mathlib.Core.Bool.{Bool, true, false, _&&_, _||_, not}
 use Prim.Native.Nat.{ℕ, zero, suc, _+_, _-_}
 use lib.Dec.{eqb, ltb}
 use lib.ListN.{length, getD}
-use Rattle.model.specs.Lists.{allBelow, any}
+use Rattle.model.specs.Lists.{allBelow, anyBelow, any}
 use Rattle.model.specs.Automaton.{Automaton, final?, carries?}
 use Rattle.model.specs.Table.{Row}
 use Rattle.model.specs.Written.{Step, stepAt, ruleOf, rowOf}
@@ -43,9 +43,6 @@ ends? A rows run =
 -- 26: a step, not the last, is used by a later one
 abbrev pub uses? : List Step → ℕ → ℕ → Bool
 uses? run i j = ltb i j && any (eqb i) ((stepAt run j) .steps)
-
-abbrev pub anyBelow : ℕ → (ℕ → Bool) → Bool
-anyBelow n p = not (allBelow n (λ i. not (p i)))
 
 abbrev pub used? : List Step → ℕ → Bool
 used? run i = anyBelow (length run) (uses? run i)
