@@ -4,6 +4,7 @@ pub mod Tab
 pub mod Below
 pub mod Rows
 pub mod Runs
+pub mod Derivable
 pub mod Combine
 pub mod Union
 pub mod Witness
