@@ -5,6 +5,7 @@ pub mod Below
 pub mod Rows
 pub mod Runs
 pub mod Derivable
+pub mod Leaves
 pub mod Combine
 pub mod Union
 pub mod Witness
