@@ -6,6 +6,8 @@ pub mod Rows
 pub mod Runs
 pub mod Derivable
 pub mod Leaves
+pub mod Count
+pub mod Decides
 pub mod Combine
 pub mod Union
 pub mod Witness
