@@ -8,6 +8,7 @@ pub mod Derivable
 pub mod Leaves
 pub mod Count
 pub mod Decides
+pub mod Written
 pub mod Combine
 pub mod Union
 pub mod Witness
