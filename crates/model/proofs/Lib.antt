@@ -9,6 +9,7 @@ pub mod Leaves
 pub mod Count
 pub mod Decides
 pub mod Written
+pub mod Needed
 pub mod Combine
 pub mod Union
 pub mod Witness
