@@ -10,6 +10,7 @@ pub mod Count
 pub mod Decides
 pub mod Written
 pub mod Needed
+pub mod ShortRun
 pub mod Combine
 pub mod Union
 pub mod Witness

@@ -139,3 +139,9 @@ pub eqAnnotation-refl : (a : Annotation) → T (eqAnnotation a a)
 eqAnnotation-refl a =
     and-T (eqb (a .row) (a .row)) (eqb (a .state) (a .state) && eqList (a .memory) (a .memory)) (eqb-refl (a .row))
     (and-T (eqb (a .state) (a .state)) (eqList (a .memory) (a .memory)) (eqb-refl (a .state)) (eqList-refl (a .memory)))
+
+-- a mapped list at a place, whatever stands past its end
+pub map-at : {A B : Type 0} (f : A → B) (a : A) (d : B) (xs : List A) (j : ℕ) → j < length xs → getD (map f xs) j d ≡ f (getD xs j a)
+map-at f a d [] j l = let z : ⊥ = omega arith in absurd z
+map-at f a d (x ∷ xs) zero l = refl
+map-at f a d (x ∷ xs) (suc j) l = map-at f a d xs j (omega arith)

@@ -52,15 +52,15 @@ module _ {N : Type 0} (row state : N → ℕ) (kids : N → List N) where
       ⊎-elim (λ e. subst P (sym e) (step y x (below y iy) ix)) (below z) (in-cons h)
 
   module _ {root : N} where
-    pub chain-ascends : {l : List N} → Chain root l → (i j : ℕ) → i ≤ j → j < length l → row (getD l i root) ≤ row (getD l j root)
-    chain-ascends chain-root zero zero h lj = omega arith
-    chain-ascends chain-root zero (suc j) h lj = let z : ⊥ = omega arith in absurd z
-    chain-ascends chain-root (suc i) zero h lj = let z : ⊥ = omega arith in absurd z
-    chain-ascends chain-root (suc i) (suc j) h lj = let z : ⊥ = omega arith in absurd z
-    chain-ascends (chain-more c low new iy ix) zero zero h lj = omega arith
-    chain-ascends (chain-more {l = l} c low new iy ix) zero (suc j) h lj = low _ (in-getD root l j (omega arith))
-    chain-ascends (chain-more c low new iy ix) (suc i) zero h lj = let z : ⊥ = omega arith in absurd z
-    chain-ascends (chain-more c low new iy ix) (suc i) (suc j) h lj = chain-ascends c i j (omega arith) (omega arith)
+    -- the lower row stands first
+    pub chain-ascends : {l : List N} → Chain root l → (i j : ℕ) → i < length l → row (getD l i root) < row (getD l j root) → i < j
+    chain-ascends chain-root zero zero li h = let z : ⊥ = omega arith in absurd z
+    chain-ascends chain-root zero (suc j) li h = omega arith
+    chain-ascends chain-root (suc i) j li h = let z : ⊥ = omega arith in absurd z
+    chain-ascends (chain-more c low new iy ix) zero zero li h = let z : ⊥ = omega arith in absurd z
+    chain-ascends (chain-more c low new iy ix) zero (suc j) li h = omega arith
+    chain-ascends (chain-more {l = l} c low new iy ix) (suc i) zero li h = let g = low _ (in-getD root l i (omega arith)) in let z : ⊥ = omega arith in absurd z
+    chain-ascends (chain-more c low new iy ix) (suc i) (suc j) li h = let g = chain-ascends c i j (omega arith) h in omega arith
 
     pub chain-once : {l : List N} → Chain root l → (i j : ℕ) → i < length l → j < length l → Same (getD l i root) (getD l j root) → i ≡ j
     chain-once chain-root i j li lj s = omega arith

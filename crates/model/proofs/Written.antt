@@ -14,6 +14,7 @@ use Rattle.model.specs.Run.{Labelling, IsRun, Consistent, Accepts}
 use Rattle.model.specs.Table.{Row, rowAt, treeAt, treeOf, Lower, Distinct}
 use Rattle.model.specs.Annotation.{Annotation, annotation, annotations}
 use Rattle.model.specs.Written.{Step, stepAt, ruleOf, noRule, StepFits, WrittenRun, OnePerPair}
+use Rattle.model.proofs.Members.{map-at}
 use Rattle.model.proofs.Tab.{length-tab, tab-in}
 use Rattle.model.proofs.Rows.{in-getD, kids-tree}
 use Rattle.model.proofs.Runs.{Runs, node-runs, leaf}
@@ -21,18 +22,13 @@ use Rattle.model.proofs.Derivable.{listed-derivable}
 use Rattle.model.proofs.Leaves.{consistent-left}
 use Rattle.model.proofs.Count.{pigeonhole}
 
-map-at : {B : Type 0} (f : ℕ → B) (d : B) (cs : List ℕ) (j : ℕ) → j < length cs → getD (map f cs) j d ≡ f (getD cs j 0)
-map-at f d [] j l = let z : ⊥ = omega arith in absurd z
-map-at f d (c ∷ cs) zero l = refl
-map-at f d (c ∷ cs) (suc j) l = map-at f d cs j (omega arith)
-
 -- a row's run, from its children's
 row-runs : (A : Automaton) (rows : List Row) → Lower rows → (Q : ℕ → Tree → Type 0) (i : ℕ) → i < length rows → (r : Rule) → In r (A .rules) → r .symbol ≡ (rowAt rows i) .symbol → length (r .children) ≡ length ((rowAt rows i) .children) → Q (r .target) (treeAt rows i) → ((j : ℕ) → j < length ((rowAt rows i) .children) → Runs A Q (treeAt rows (getD ((rowAt rows i) .children) j 0)) (getD (r .children) j 0)) → Runs A Q (treeAt rows i) (r .target)
 row-runs A rows lower Q i l r ir es el own h =
     let cs = (rowAt rows i) .children in
     let lm = length-map cs (treeAt rows) in
     node-runs (treeAt rows i) (map (treeAt rows) cs) (kids-tree rows lower i l) r ir es (el ∙ sym lm) own
-    (λ j lj. subst (λ t. Runs A Q t (getD (r .children) j 0)) (sym (map-at (treeAt rows) leaf cs j (omega arith))) (h j (omega arith)))
+    (λ j lj. subst (λ t. Runs A Q t (getD (r .children) j 0)) (sym (map-at (treeAt rows) 0 leaf cs j (omega arith))) (h j (omega arith)))
 
 module _ (A : Automaton) (rows : List Row) (lower : Lower rows) (run : List Step) (written : WrittenRun A rows run) where
   -- a step in state q on a row whose tree is u
