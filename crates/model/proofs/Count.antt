@@ -1,19 +1,12 @@
 -- Counting: a list without repeats, and no more numbers than values where each number has a value of its own. Assumes nothing.
 use mathlib.Core.Path.{_≡_, refl, sym, ap, _∙_, subst}
 use mathlib.Core.Logic.{_⊎_, inl, inr, ⊎-elim}
-use mathlib.Core.Bool.{Bool, true, false, cond}
 use mathlib.Core.List.{List, [], _∷_, _++_, List·Memᴰ as In, List·Memᴰ·head as here, List·Memᴰ·tail as there, List·Memᴰ·cases-cons as in-cons, Memᴰ·cast}
-use Prim.Native.Nat.{ℕ, zero, suc, _+_, _<_, _≤_, zero-le}
+use Prim.Native.Nat.{ℕ, zero, suc, _<_, _≤_, zero-le}
 use native.Mathlib.Omega.{arith}
-use native.Mathlib.Nat.{eq-or-lt-of-le, le-of-suc-le-suc}
-use lib.Dec.{T}
+use native.Mathlib.Nat.{eq-or-lt-of-le}
 use lib.ListN.{length, getD, length-append, List·getD-append}
 use lib.Seq.{getD-append-seam}
-use Rattle.model.specs.Lists.{any, concatMap}
-use Rattle.model.specs.Automaton.{Automaton}
-use Rattle.model.specs.Table.{Row}
-use Rattle.model.specs.Annotation.{Annotation, eqAnnotation, addNew, byRule, annotationsBelow, annotations}
-use Rattle.model.proofs.Members.{T-true, any-in, eqAnnotation-refl}
 use Rattle.model.proofs.Rows.{in-getD}
 
 module _ {B : Type 0} where
@@ -65,15 +58,7 @@ module _ {B : Type 0} where
       cases {i} {j} (inr g) (inl e) q = absurd (new (Memᴰ·cast (sym (last j e) ∙ sym q ∙ old i g) (in-getD d l i g)))
       cases {i} {j} (inr g) (inr g′) q = h i j g g′ (sym (old i g) ∙ q ∙ old j g′)
 
-addNew-once : (d : Annotation) (as′ known : List Annotation) → NoRepeats d known → NoRepeats d (addNew known as′)
-addNew-once d [] known h = h
-addNew-once d (a ∷ as′) known h = addNew-once d as′ _ (go (any (eqAnnotation a) known) refl)
-  where
-    go : (b : Bool) → any (eqAnnotation a) known ≡ b → NoRepeats d (cond b known (known ++ a ∷ []))
-    go true e = h
-    go false e = one-more d known a h (λ m. subst T e (any-in (eqAnnotation a) m (eqAnnotation-refl a)))
-
--- No annotation is listed twice.
-pub no-duplicates : (A : Automaton) (rows : List Row) (d : Annotation) (n : ℕ) → NoRepeats d (annotationsBelow A rows n)
-no-duplicates A rows d zero = λ i j li lj e. let z : ⊥ = omega arith in absurd z
-no-duplicates A rows d (suc n) = addNew-once d (concatMap (byRule A rows (annotationsBelow A rows n) n) (A .rules)) (annotationsBelow A rows n) (no-duplicates A rows d n)
+  -- a list without repeats whose values all stand in another is not longer
+  pub no-longer : (d : B) (xs ys : List B) → NoRepeats d xs → ((x : B) → In x xs → In x ys) → length xs ≤ length ys
+  no-longer d xs ys once h =
+      pigeonhole (λ i y. getD xs i d ≡ y) (length xs) ys (λ i l. (getD xs i d, h (getD xs i d) (in-getD d xs i l), refl)) (λ i j y li lj e e′. once i j li lj (e ∙ sym e′))

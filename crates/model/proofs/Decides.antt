@@ -1,9 +1,9 @@
 -- The computed test answers whether an accepting run exists. Assumes nothing.
-use mathlib.Core.Path.{_≡_, refl, sym, ap, _∙_, subst}
+use mathlib.Core.Path.{_≡_, sym, subst}
 use mathlib.Core.Logic.{_↔_}
-use mathlib.Core.List.{List, [], List·Memᴰ as In}
-use mathlib.Core.Bool.{Bool, true, _&&_}
-use Prim.Native.Nat.{ℕ, zero, suc, _-_, _<_}
+use mathlib.Core.List.{List, []}
+use mathlib.Core.Bool.{true}
+use Prim.Native.Nat.{ℕ, _-_, _<_}
 use native.Mathlib.Omega.{arith}
 use lib.Dec.{T, eqb, eqb→eq, eqb-refl}
 use lib.ListN.{length}
@@ -12,7 +12,7 @@ use Rattle.model.specs.Run.{Accepts}
 use Rattle.model.specs.Table.{Row, treeOf, Lower, Distinct}
 use Rattle.model.specs.Annotation.{Memory, annotation, Derivable, annotations, accepting?, accepts?}
 use Rattle.model.proofs.Members.{T-and, and-T, T-true, in-any, any-in}
-use Rattle.model.proofs.Derivable.{listed-derivable}
+use Rattle.model.proofs.Listed.{listed-derivable}
 use Rattle.model.proofs.Leaves.{derivable-run, consistent-left}
 
 -- an annotation of the last row in a final state

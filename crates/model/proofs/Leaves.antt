@@ -2,22 +2,22 @@
 use mathlib.Core.Path.{_≡_, refl, sym, ap, _∙_, subst}
 use mathlib.Core.Logic.{_⊎_, inl, inr, ⊎-elim, _↔_}
 use mathlib.Core.Option.{some, Option·some-injective}
-use mathlib.Core.List.{List, [], _∷_, _++_, List·Memᴰ as In, List·Memᴰ·head as here}
-use Prim.Native.Nat.{ℕ, zero, suc, _<_, _≤_}
+use mathlib.Core.List.{List, [], _∷_, List·Memᴰ as In, List·Memᴰ·head as here}
+use Prim.Native.Nat.{ℕ, zero, suc, _<_}
 use native.Mathlib.Omega.{arith}
 use lib.Dec.{T}
 use lib.ListN.{length, getD}
-use Rattle.model.specs.Tree.{Tree, at, childrenOf}
+use Rattle.model.specs.Tree.{Tree, at}
 use Rattle.model.specs.Automaton.{Rule, Automaton, carries?}
 use Rattle.model.specs.Run.{Labelling, Move, IsRun, Consistent}
 use Rattle.model.specs.Table.{Row, rowAt, treeAt, Lower, Distinct}
 use Rattle.model.specs.Annotation.{Memory, emptyMemory, agree?, joined, ownMemory, finish, Derivable, derived, Joins, joins-none, joins-more}
 use Rattle.model.specs.Leaves.{Tagged, RunLeaving}
 use Rattle.model.proofs.Members.{only-in}
-use Rattle.model.proofs.Memory.{Within, within-left, within-right, joined-from, agree-of, cond-from, same-memory}
+use Rattle.model.proofs.Memory.{within-left, within-right, joined-from, agree-of, cond-from, same-memory}
 use Rattle.model.proofs.Tab.{tab-from}
 use Rattle.model.proofs.Rows.{in-getD, below, above, row-at, as-many-kids, equal-trees}
-use Rattle.model.proofs.Derivable.{finish-joined, finish-within, finish-own, width, as-many, row-known}
+use Rattle.model.proofs.Derivable.{finish-joined, finish-within, finish-own, width, as-many}
 
 module _ (A : Automaton) (rows : List Row) where
   -- the tagged subtrees of the labelling ρ of t are exactly the rows that m names
@@ -61,6 +61,22 @@ module _ (A : Automaton) (rows : List Row) where
       let (tk, e) = cond-from (carries? A (ρ []) k) i j c in
       subst (Tagged A rows (treeAt rows i) ρ k) e (record { tag = lk; row = l; place = []; stands = refl; carried = tk })
 
+  -- no tag stands at two rows
+  abbrev pub OneRow : Tree → Labelling → Type 0
+  OneRow t ρ = (k j j′ : ℕ) → Tagged A rows t ρ k j → Tagged A rows t ρ k j′ → j ≡ j′
+
+  -- an annotation that derives and says what the labelling ρ leaves
+  pub record Left (i : ℕ) (ρ : Labelling) : Type 0 where
+    pub memory : Memory
+    pub derivable : Derivable A rows i (ρ []) memory
+    pub leaves : Leaves (treeAt rows i) ρ memory
+
+  abbrev Seen : Tree → Labelling → Memory → Type 0
+  Seen t ρ m = (k j : ℕ) → getD m k 0 ≡ suc j → Tagged A rows t ρ k j
+
+  agrees : (t : Tree) (ρ : Labelling) → OneRow t ρ → (a b : Memory) → Seen t ρ a → Seen t ρ b → T (agree? a b)
+  agrees t ρ one a b sa sb = agree-of a b (λ k j j′ e e′. one k j j′ (sa k j e) (sb k j′ e′))
+
   module _ (lower : Lower rows) where
     under-tagged : (i : ℕ) → i < length rows → (ρ : Labelling) (k j : ℕ) → Under ((rowAt rows i) .children) (λ n p. ρ (n ∷ p)) k j → Tagged A rows (treeAt rows i) ρ k j
     under-tagged i l ρ k j u =
@@ -72,15 +88,15 @@ module _ (A : Automaton) (rows : List Row) where
     finish-leaves i l ρ m y one lm iy k j = (
       λ h.
           ⊎-elim (λ e. ⊎-elim (λ z. absurd (no-entry k j z)) (under-tagged i l ρ k j) (lm k j .0 e)) (own-tagged i l ρ k j)
-          (joined-from m (ownMemory A (ρ []) i) k j (subst (λ z. getD z k 0 ≡ suc j) (finish-joined A rows (ρ []) i m iy .1) h)),
+          (joined-from m (ownMemory A (ρ []) i) k j (subst (λ z. getD z k 0 ≡ suc j) (finish-joined A (ρ []) i m iy .1) h)),
       λ g. back (g .place) (g .tag) (g .row) (g .stands) (g .carried),
     )
       where
         back : (p : List ℕ) → k < A .tags → j < length rows → at (treeAt rows i) p ≡ some (treeAt rows j) → T (carries? A (ρ p) k) → getD y k 0 ≡ suc j
-        back [] lk lj e c = finish-own A rows (ρ []) i m iy k lk c ∙ ap suc (one k j lk c lj (Option·some-injective _ _ e))
+        back [] lk lj e c = finish-own A (ρ []) i m iy k lk c ∙ ap suc (one k j lk c lj (Option·some-injective _ _ e))
         back (n ∷ p) lk lj e c =
             let (h, e′) = below rows lower i l n p _ e in
-            finish-within A rows (ρ []) i m iy k j (lm k j .1 (inr (record { child = n; is-child = h; tagged = record { tag = lk; row = lj; place = p; stands = e′; carried = c } })))
+            finish-within A (ρ []) i m iy k j (lm k j .1 (inr (record { child = n; is-child = h; tagged = record { tag = lk; row = lj; place = p; stands = e′; carried = c } })))
 
     -- a run on each child, and a rule at the root
     row-run : (i : ℕ) → i < length rows → (r : Rule) → In r (A .rules) → r .symbol ≡ (rowAt rows i) .symbol → length (r .children) ≡ length ((rowAt rows i) .children) → (ρ : Labelling) → r .target ≡ ρ [] → ((n : ℕ) → n < length ((rowAt rows i) .children) → ρ (n ∷ []) ≡ getD (r .children) n 0) → ((n : ℕ) → n < length ((rowAt rows i) .children) → IsRun A (treeAt rows (getD ((rowAt rows i) .children) n 0)) (λ p. ρ (n ∷ p))) → IsRun A (treeAt rows i) ρ
@@ -165,22 +181,6 @@ module _ (A : Automaton) (rows : List Row) where
         joins-runs (joins-more {m = m} {x = x} {y = y} {c = c} {q = q} {cs = cs} {qs = qs} d t js) = more-runs m x y c q cs qs (derivable-run d) t (joins-runs js)
 
     -- FROM RUNS TO DERIVATIONS
-    -- no tag stands at two rows
-    abbrev pub OneRow : Tree → Labelling → Type 0
-    OneRow t ρ = (k j j′ : ℕ) → Tagged A rows t ρ k j → Tagged A rows t ρ k j′ → j ≡ j′
-
-    -- an annotation that derives and says what the labelling ρ leaves
-    pub record Left (i : ℕ) (ρ : Labelling) : Type 0 where
-      pub memory : Memory
-      pub derivable : Derivable A rows i (ρ []) memory
-      pub leaves : Leaves (treeAt rows i) ρ memory
-
-    abbrev Seen : Tree → Labelling → Memory → Type 0
-    Seen t ρ m = (k j : ℕ) → getD m k 0 ≡ suc j → Tagged A rows t ρ k j
-
-    agrees : (t : Tree) (ρ : Labelling) → OneRow t ρ → (a b : Memory) → Seen t ρ a → Seen t ρ b → T (agree? a b)
-    agrees t ρ one a b sa sb = agree-of a b (λ k j j′ e e′. one k j j′ (sa k j e) (sb k j′ e′))
-
     -- the children of a position of a run, joined
     join-all : (t : Tree) (ρ : Labelling) → OneRow t ρ → (cs qs : List ℕ) (ρs : ℕ → Labelling) (m : Memory) → Seen t ρ m → length qs ≡ length cs → ((n : ℕ) → n < length cs → Left (getD cs n 0) (ρs n)) → ((n : ℕ) → n < length cs → ρs n [] ≡ getD qs n 0) → ((k j : ℕ) → Under cs ρs k j → Tagged A rows t ρ k j) → (y : Memory) × Joins A rows m cs qs y × JoinLeaves m cs ρs y
     join-all t ρ one [] [] ρs m sm e each roots up = (m, joins-none, leave-none m ρs)

@@ -4,9 +4,10 @@ pub mod Tab
 pub mod Below
 pub mod Rows
 pub mod Runs
-pub mod Derivable
-pub mod Leaves
 pub mod Count
+pub mod Derivable
+pub mod Listed
+pub mod Leaves
 pub mod Decides
 pub mod Written
 pub mod Needed

@@ -2,14 +2,14 @@
 use mathlib.Core.Path.{_≡_, refl, sym, ap, _∙_, subst}
 use mathlib.Core.Logic.{⊎-elim}
 use mathlib.Core.List.{List, [], _∷_, map, List·Memᴰ as In, List·Memᴰ·not-nil as not-nil, List·Memᴰ·cases-cons as in-cons}
-use Prim.Native.Nat.{ℕ, zero, suc, _-_, _*_, _<_, _≤_, zero-le}
+use Prim.Native.Nat.{ℕ, suc, _-_, _<_, _≤_, zero-le}
 use native.Mathlib.Omega.{arith}
 use lib.Dec.{T}
 use lib.ListN.{length, getD, length-map}
-use Rattle.model.specs.Automaton.{Rule, Automaton, final?, carries?, Wellformed}
+use Rattle.model.specs.Automaton.{Rule, Automaton, final?, carries?}
 use Rattle.model.specs.Run.{Accepts}
 use Rattle.model.specs.Table.{Row, rowAt, treeOf, Lower, Distinct}
-use Rattle.model.specs.Annotation.{Memory, emptyMemory, agree?, joined, finish, Derivable, derived, Joins, joins-none, joins-more, annotations}
+use Rattle.model.specs.Annotation.{Memory, Derivable, derived, Joins, joins-none, joins-more, annotations}
 use Rattle.model.specs.Written.{Step, stepAt, noRule, ruleAt, ruleOf, StepFits, WrittenRun, OnePerPair}
 use Rattle.model.proofs.Members.{map-in, map-at}
 use Rattle.model.proofs.Memory.{Within, within-right}
@@ -18,7 +18,7 @@ use Rattle.model.proofs.Derivable.{row-known, joins-within, finish-with
 use Rattle.model.proofs.Count.{place-of}
 use Rattle.model.proofs.Decides.{Final, final-accepts}
 use Rattle.model.proofs.Written.{few-annotations}
-use Rattle.model.proofs.Needed.{Same, placeIn, found, Chain, chain-holds, chain-ascends, chain-once, chain-used, chain-some, chain-last, Level, needed}
+use Rattle.model.proofs.Needed.{placeIn, found, chain-holds, chain-ascends, chain-once, chain-used, chain-some, chain-last, Level, needed}
 
 module _ (A : Automaton) (rows : List Row) where
   -- an annotation that derives
@@ -70,8 +70,8 @@ module _ (A : Automaton) (rows : List Row) where
         kids = ks .list;
         rows-are = ks .rows-are;
         states-are = ks .states-are ∙ sym (ap (λ (z : Rule). z .children) e);
-        within = λ n h g j w. finish-within A rows q i m iy g j (ks .within n h g j w);
-        own = finish-own A rows q i m iy;
+        within = λ n h g j w. finish-within A q i m iy g j (ks .within n h g j w);
+        own = finish-own A q i m iy;
       }
 
   abbrev sourceOf : (n : Node) → Source (n .row) (n .state) (n .memory)

@@ -1,7 +1,7 @@
 -- A written run is an accepting run; with one step for each pair of row and state it is short. Assumes nothing.
 use mathlib.Core.Path.{_≡_, refl, sym, ap, _∙_, subst}
 use mathlib.Core.Option.{some}
-use mathlib.Core.List.{List, [], _∷_, map, List·Memᴰ as In}
+use mathlib.Core.List.{List, [], map, List·Memᴰ as In}
 use Prim.Native.Nat.{ℕ, zero, suc, _+_, _*_, _-_, _/_, _%_, _<_, _≤_}
 use native.Mathlib.Omega.{arith}
 use lib.Dec.{T}
@@ -10,15 +10,15 @@ use lib.ListN.{length, getD, length-map}
 use Rattle.model.specs.Lists.{tab}
 use Rattle.model.specs.Tree.{Tree, at}
 use Rattle.model.specs.Automaton.{Rule, Automaton, final?, carries?, Wellformed}
-use Rattle.model.specs.Run.{Labelling, IsRun, Consistent, Accepts}
+use Rattle.model.specs.Run.{Labelling, Consistent, Accepts}
 use Rattle.model.specs.Table.{Row, rowAt, treeAt, treeOf, Lower, Distinct}
 use Rattle.model.specs.Annotation.{Annotation, annotation, annotations}
-use Rattle.model.specs.Written.{Step, stepAt, ruleOf, noRule, StepFits, WrittenRun, OnePerPair}
+use Rattle.model.specs.Written.{Step, stepAt, ruleOf, noRule, WrittenRun, OnePerPair}
 use Rattle.model.proofs.Members.{map-at}
 use Rattle.model.proofs.Tab.{length-tab, tab-in}
 use Rattle.model.proofs.Rows.{in-getD, kids-tree}
 use Rattle.model.proofs.Runs.{Runs, node-runs, leaf}
-use Rattle.model.proofs.Derivable.{listed-derivable}
+use Rattle.model.proofs.Listed.{listed-derivable}
 use Rattle.model.proofs.Leaves.{consistent-left}
 use Rattle.model.proofs.Count.{pigeonhole}
 
