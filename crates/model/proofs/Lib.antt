@@ -5,6 +5,14 @@ pub mod Below
 pub mod WrittenTest
 pub mod Rows
 pub mod Runs
+pub mod Count
+pub mod Derivable
+pub mod Listed
+pub mod Leaves
+pub mod Decides
+pub mod Written
+pub mod Needed
+pub mod ShortRun
 pub mod Combine
 pub mod Pairwise
 pub mod Order

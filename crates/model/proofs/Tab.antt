@@ -29,3 +29,8 @@ pub tab-from : (n : ℕ) (f : ℕ → ℕ) (k j : ℕ) → getD (tab n f) k 0 �
 tab-from zero f k j h = let z : ⊥ = omega arith in absurd z
 tab-from (suc n) f zero j h = (omega arith, h)
 tab-from (suc n) f (suc k) j h = let r = tab-from n (λ i. f (suc i)) k j h in (omega arith, r .1)
+
+pub tab-in : {B : Type 0} (n : ℕ) (f : ℕ → B) (i : ℕ) → i < n → In (f i) (tab n f)
+tab-in zero f i l = let z : ⊥ = omega arith in absurd z
+tab-in (suc n) f zero l = here refl
+tab-in (suc n) f (suc i) l = there (tab-in n (λ k. f (suc k)) i (omega arith))
