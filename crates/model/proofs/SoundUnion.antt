@@ -17,11 +17,11 @@ use Rattle.model.specs.Order.{place, lower?, Ascending}
 use Rattle.model.specs.Sound.{Sound}
 use Rattle.model.specs.Run.{Accepts}
 use Rattle.model.specs.Boolean.{shiftRule, union}
-use Rattle.model.proofs.Members.{in-map}
+use Rattle.model.proofs.Members.{in-map, map-at}
 use Rattle.model.proofs.Pairwise.{Pairwise, pairwise-append, pairwise-map}
 use Rattle.model.proofs.Order.{Before, OtherKey, lower-cons, key-target, ascending-pairwise, pairwise-ascending, ascending-other, length-sorted, sorted-ascending}
 use Rattle.model.proofs.Combine.{mask-bound}
-use Rattle.model.proofs.Union.{map-at, union-first, union-second, rule-of, either}
+use Rattle.model.proofs.Union.{union-first, union-second, rule-of, either}
 
 -- a key after its symbol: m places, then the target
 abbrev rest : ℕ → (ℕ → ℕ) → ℕ → List ℕ

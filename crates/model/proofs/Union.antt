@@ -16,16 +16,11 @@ use Rattle.model.specs.Tree.{Tree, childrenOf, at}
 use Rattle.model.specs.Automaton.{Rule, State, Automaton, Wellformed, noState, stateAt, final?, carries?}
 use Rattle.model.specs.Run.{Move, IsRun, Accepts}
 use Rattle.model.specs.Boolean.{shiftState, shiftRule, union}
-use Rattle.model.proofs.Members.{in-map, map-in}
+use Rattle.model.proofs.Members.{in-map, map-in, map-at}
 use Rattle.model.proofs.Rows.{in-getD}
 use Rattle.model.proofs.Runs.{at-kid, child-run, leaf}
 use Rattle.model.proofs.Order.{in-sorted, sorted-in}
 use Rattle.model.proofs.Combine.{Carried, carry, bit-low, bit-high}
-
-pub map-at : {B C : Type 0} (f : B → C) (b : B) (d : C) (xs : List B) (j : ℕ) → j < length xs → getD (map f xs) j d ≡ f (getD xs j b)
-map-at f b d [] j l = let z : ⊥ = omega arith in absurd z
-map-at f b d (x ∷ xs) zero l = refl
-map-at f b d (x ∷ xs) (suc j) l = map-at f b d xs j (omega arith)
 
 -- a mask has no bit at or past its width
 bit-past : (m t k : ℕ) → m < 2 ^ t → t ≤ k → T (eqb (m / 2 ^ k % 2) 1) → ⊥
