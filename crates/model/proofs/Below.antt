@@ -7,7 +7,8 @@ use native.Mathlib.Nat.{le-of-suc-le-suc, not-suc-le-zero, eq-or-lt-of-le, le-an
 use native.Mathlib.Numerals.{add-one, add-one-le}
 use borrow.Author.Needs.{needs}
 use lib.Dec.{T}
-use Rattle.model.proofs.Members.{T-true}
+use native.Mathlib.Omega.{arith}
+use Rattle.model.proofs.Members.{T-true, and-T}
 use Rattle.model.specs.Lists.{allBelow}
 
 and-false : (a : Bool) → (a && false) ≡ false
@@ -37,6 +38,11 @@ module _ (p : ℕ → Bool) where
 
 pub all-at : (n : ℕ) (f : ℕ → Bool) → T (allBelow n f) → (i : ℕ) → i < n → T (f i)
 all-at n f h i l = T-true (f i) .1 (at f n i (T-true (allBelow n f) .0 h) l)
+
+pub all-of : (n : ℕ) (f : ℕ → Bool) → ((i : ℕ) → i < n → T (f i)) → T (allBelow n f)
+unfolding allBelow
+all-of zero f h = tt
+all-of (suc n) f h = and-T (allBelow n f) (f n) (all-of n f (λ i l. h i (omega arith))) (h n (omega arith))
 
 -- at the loop's head: n is the number m of indices to test, and those below i pass
 pub record Passed (p : ℕ → Bool) (m n i : ℕ) : Type 0 where

@@ -2,6 +2,8 @@ pub mod Members
 pub mod Memory
 pub mod Tab
 pub mod Below
+pub mod Pigeon
+pub mod Levels
 pub mod Rows
 pub mod Runs
 pub mod Combine
