@@ -9,6 +9,8 @@ pub mod Runs
 pub mod Combine
 pub mod Union
 pub mod Witness
+pub mod Rounds
 pub mod Dead
+pub mod Lowest
 pub mod Apart
 pub mod Build
