@@ -14,3 +14,4 @@ pub mod Dead
 pub mod Lowest
 pub mod Apart
 pub mod Build
+pub mod BuiltTable

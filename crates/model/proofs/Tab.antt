@@ -25,6 +25,11 @@ pub in-tab : {B : Type 0} (n : ℕ) (f : ℕ → B) {y : B} → In y (tab n f) �
 in-tab zero f h = absurd (not-nil h)
 in-tab (suc n) f h = ⊎-elim (λ e. (0, omega arith, e)) (λ m. let (i, l, e) = in-tab n (λ k. f (suc k)) m in (suc i, omega arith, e)) (in-cons h)
 
+pub tab-in : {B : Type 0} (n : ℕ) (f : ℕ → B) (i : ℕ) → i < n → In (f i) (tab n f)
+tab-in zero f i l = let z : ⊥ = omega arith in absurd z
+tab-in (suc n) f zero l = here refl
+tab-in (suc n) f (suc i) l = there (tab-in n (λ k. f (suc k)) i (omega arith))
+
 pub tab-from : (n : ℕ) (f : ℕ → ℕ) (k j : ℕ) → getD (tab n f) k 0 ≡ suc j → (k < n) × (f k ≡ suc j)
 tab-from zero f k j h = let z : ⊥ = omega arith in absurd z
 tab-from (suc n) f zero j h = (omega arith, h)

@@ -1,4 +1,5 @@
 -- The table of a tree: rows in left-to-right order of first finishing, equal rows once (document 01, sections "Documents" and "Joining, demanding both, and the sample"). Assumes nothing.
+use mathlib.Core.Path.{_≡_}
 use mathlib.Core.List.{List, [], _∷_, _++_}
 use mathlib.Core.Option.{Option, none, some, Option·map}
 use mathlib.Core.Bool.{Bool, true, false, _&&_, cond}
@@ -7,7 +8,7 @@ use lib.Dec.{eqb}
 use lib.ListN.{length}
 use Rattle.model.specs.Tree.{Tree, Forest, node, fnil, fcons}
 use Rattle.model.specs.Lists.{eqList}
-use Rattle.model.specs.Table.{Row}
+use Rattle.model.specs.Table.{Row, treeOf}
 
 abbrev pub eqRow : Row → Row → Bool
 eqRow a b = eqb (a .symbol) (b .symbol) && (eqb (a .kind) (b .kind) && (eqb (a .payload) (b .payload) && eqList (a .children) (b .children)))
@@ -41,3 +42,7 @@ unfoldable mutual
 unfoldable pub rowsOf : Tree → List Row
 unfolding addTree
 rowsOf t = addTree t [] .0
+
+-- The rows are in left-to-right order of first finishing already.
+abbrev pub FirstFinishing : List Row → Type 0
+FirstFinishing rows = rowsOf (treeOf rows) ≡ rows
