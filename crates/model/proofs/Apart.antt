@@ -1,21 +1,20 @@
 -- The test for shared tags says what it should. Assumes nothing.
-use mathlib.Core.Path.{_≡_, refl, sym, ap, _∙_, subst}
-use mathlib.Core.Logic.{_⊎_, inl, inr, ⊎-elim, _↔_}
-use mathlib.Core.List.{List, [], _∷_, _++_, List·Memᴰ as In}
-use mathlib.Core.Bool.{Bool, true, false, _&&_, not, cond}
-use Prim.Native.Nat.{ℕ, zero, suc, _/_, _%_, _^_, _<_, _≤_}
+use mathlib.Core.Path.{_≡_, subst}
+use mathlib.Core.Logic.{_↔_}
+use mathlib.Core.Bool.{true, _&&_, not}
+use Prim.Native.Nat.{ℕ, _/_, _%_, _^_, _<_}
 use native.Mathlib.Omega.{arith}
 use native.Mathlib.Nat.{zero-div}
 use native.Mathlib.Decide.{decLt}
 use lib.Dec.{T, T-not, not-T, eqb}
-use lib.ListN.{length, getD, List·getD-eq-default}
+use lib.ListN.{length, List·getD-eq-default}
 use Rattle.model.specs.Automaton.{State, Automaton, noState, carries?}
-use Rattle.model.specs.Lists.{allBelow, any}
+use Rattle.model.specs.Lists.{allBelow}
 use Rattle.model.specs.Witness.{Apart, apart?}
 use Rattle.model.proofs.Members.{T-and, and-T, T-true}
 use Rattle.model.proofs.Below.{all-at, all-of}
 
-carried : (A : Automaton) (q k : ℕ) → T (carries? A q k) → q < length (A .states)
+pub carried : (A : Automaton) (q k : ℕ) → T (carries? A q k) → q < length (A .states)
 carried A q k c = go (decLt q (length (A .states)))
   where
     go : Dec (q < length (A .states)) → q < length (A .states)

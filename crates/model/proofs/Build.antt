@@ -1,10 +1,10 @@
 -- The table of a tree has that tree, children below their rows, no two equal rows, and a row for each subtree only. Assumes nothing.
 use mathlib.Core.Path.{_≡_, refl, sym, ap, _∙_, subst}
 use mathlib.Core.Logic.{_⊎_, inl, inr, ⊎-elim}
-use mathlib.Core.Option.{Option, none, some, Option·map, Option·some-injective, Option·none-ne-some}
-use mathlib.Core.List.{List, [], _∷_, _++_, map, append-assoc, append-nil, List·Memᴰ as In, List·Memᴰ·head as here, List·Memᴰ·tail as there, List·Memᴰ·not-nil as not-nil, List·Memᴰ·cases-cons as in-cons}
+use mathlib.Core.Option.{Option, none, some, Option·map, Option·some-injective}
+use mathlib.Core.List.{List, [], _∷_, _++_, map, append-assoc, append-nil, List·Memᴰ as In, List·Memᴰ·not-nil as not-nil, List·Memᴰ·cases-cons as in-cons}
 use mathlib.Core.Bool.{Bool, true, false, _&&_, cond}
-use Prim.Native.Nat.{ℕ, zero, suc, _+_, _<_, _≤_, _-_}
+use Prim.Native.Nat.{ℕ, zero, suc, _<_, _≤_, _-_}
 use native.Mathlib.Omega.{arith}
 use native.Mathlib.Nat.{eq-or-lt-of-le, le-of-suc-le-suc}
 use native.Mathlib.Decide.{decLt}
@@ -13,7 +13,7 @@ use lib.ListN.{length, getD, length-append, List·getD-append}
 use lib.Seq.{getD-append-seam}
 use Rattle.model.specs.Tree.{Tree, Forest, node, fnil, fcons, trees, forest, at, levels, highest}
 use Rattle.model.specs.Lists.{eqList}
-use Rattle.model.specs.Table.{Row, noRow, rowAt, noTree, treeIn, treeAt, treeOf, Lower, Distinct, AllUsed}
+use Rattle.model.specs.Table.{Row, noRow, rowAt, treeIn, treeAt, treeOf, Lower, Distinct, AllUsed}
 use Rattle.model.specs.Build.{eqRow, findRow, placed, addTree, addForest, rowsOf}
 use Rattle.model.proofs.Members.{T-and, and-T, eqList→eq, eqList-refl, map-same}
 use Rattle.model.proofs.Rows.{tree-eq, one-tree, below, in-getD}

@@ -1,25 +1,24 @@
 -- The table of a tree that fits an automaton is sound; a table built again from its tree has as many rows. Assumes nothing.
 use mathlib.Core.Path.{_≡_, refl, sym, ap, _∙_, subst}
-use mathlib.Core.Logic.{_⊎_, inl, inr, ⊎-elim, _↔_}
-use mathlib.Core.Option.{Option, none, some, Option·some-injective, Option·none-ne-some}
+use mathlib.Core.Logic.{_↔_}
+use mathlib.Core.Option.{some, Option·some-injective, Option·none-ne-some}
 use mathlib.Core.List.{List, [], _∷_, _++_, map, List·Memᴰ as In, List·Memᴰ·head as here, List·Memᴰ·tail as there, Memᴰ·cast}
 use Prim.Native.Nat.{ℕ, zero, suc, _+_, _-_, _<_, _≤_}
 use native.Mathlib.Omega.{arith}
-use native.Mathlib.Nat.{le-antisymm}
 use native.Mathlib.Decide.{decLt}
 use lib.ListN.{length, getD, getElem?, length-map}
 use Rattle.model.specs.Limits.{maxRows, maxLevels}
 use Rattle.model.specs.Lists.{tab}
 use Rattle.model.specs.Tree.{Tree, Forest, node, fnil, fcons, trees, forest, childrenOf, at, andThen, levels}
-use Rattle.model.specs.Automaton.{Automaton, arityOf}
+use Rattle.model.specs.Automaton.{Automaton}
 use Rattle.model.specs.Table.{Row, rowAt, treeIn, treeAt, treeOf, Lower, Distinct, AllUsed, SoundRow, SoundTable}
-use Rattle.model.specs.Fit.{Fit, FitNode, FitTree, FitForest}
+use Rattle.model.specs.Fit.{FitNode, FitTree, FitForest}
 use Rattle.model.specs.Build.{rowsOf, FirstFinishing}
 use Rattle.model.proofs.Tab.{length-tab, tab-in}
 use Rattle.model.proofs.Pigeon.{pigeons}
 use Rattle.model.proofs.Levels.{atIn}
 use Rattle.model.proofs.Rows.{trees-forest, in-getD, at-step, kid-at, one-tree, below}
-use Rattle.model.proofs.Build.{Table, table}
+use Rattle.model.proofs.Build.{table}
 
 module _ (A : Automaton) where
   mutual

@@ -1,6 +1,6 @@
 -- A tree with a run has its root's state marked after as many rounds as it has levels; so an automaton without a witness accepts no tree. Rules alone are used, never tags. Assumes nothing.
-use mathlib.Core.Path.{_≡_, refl, sym, ap, _∙_, subst}
-use mathlib.Core.Option.{Option, none, some, Option·none-ne-some}
+use mathlib.Core.Path.{_≡_, refl, sym, subst}
+use mathlib.Core.Option.{Option, none, some}
 use mathlib.Core.List.{List, [], _∷_, List·Memᴰ as In, List·Memᴰ·head as here, List·Memᴰ·tail as there}
 use mathlib.Core.Bool.{Bool, true, false}
 use Prim.Native.Nat.{ℕ, zero, suc, _<_, _≤_}
@@ -12,7 +12,8 @@ use Rattle.model.specs.Automaton.{Rule, Automaton, Wellformed}
 use Rattle.model.specs.Run.{IsRun, Accepts}
 use Rattle.model.specs.Witness.{orElse, when?, Marks, treesIn, topped, byRule, byFirst, nextRound, rounds, firstFinal, witness}
 use Rattle.model.proofs.Levels.{larger-bounds}
-use Rattle.model.proofs.Rounds.{round-at, none-final, no-witness}
+use Rattle.model.proofs.Rounds.{round-at}
+use Rattle.model.proofs.FirstRound.{none-final, no-witness}
 use Rattle.model.proofs.Runs.{child-run, leaf}
 
 -- whether an option is there

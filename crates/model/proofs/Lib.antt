@@ -10,8 +10,10 @@ pub mod Combine
 pub mod Union
 pub mod Witness
 pub mod Rounds
+pub mod FirstRound
 pub mod Dead
 pub mod Lowest
 pub mod Apart
 pub mod Build
 pub mod BuiltTable
+pub mod WitnessTable

@@ -1,35 +1,20 @@
 -- Levels of the witness: those of the round that marks it, no more than the states, and no accepted tree has fewer; and dead exactly where no tree is accepted. Assumes nothing.
-use mathlib.Core.Path.{_≡_, refl, sym, ap, _∙_, subst}
-use mathlib.Core.Logic.{_⊎_, inl, inr, ⊎-elim, _↔_}
-use mathlib.Core.Option.{Option, none, some, Option·some-injective, Option·none-ne-some}
-use mathlib.Core.List.{List, [], _∷_, List·Memᴰ as In, List·Memᴰ·not-nil as not-nil, List·Memᴰ·cases-cons as in-cons}
-use Prim.Native.Nat.{ℕ, zero, suc, _<_, _≤_}
+use mathlib.Core.Path.{_≡_, refl, subst}
+use mathlib.Core.Logic.{⊎-elim, _↔_}
+use mathlib.Core.Option.{Option, none, some}
+use Prim.Native.Nat.{ℕ, zero, suc, _≤_}
 use native.Mathlib.Omega.{arith}
-use native.Mathlib.Decide.{decLe, decLt}
+use native.Mathlib.Decide.{decLe}
 use lib.ListN.{length, getD}
-use Rattle.model.specs.Lists.{tab}
-use Rattle.model.specs.Tree.{Tree, node, forest, levels, highest}
-use Rattle.model.specs.Automaton.{Rule, Automaton, Wellformed}
+use Rattle.model.specs.Tree.{Tree, levels}
+use Rattle.model.specs.Automaton.{Automaton, Wellformed}
 use Rattle.model.specs.Run.{Accepts}
-use Rattle.model.specs.Witness.{orElse, Marks, treesIn, byFirst, nextRound, rounds, witness, Apart}
+use Rattle.model.specs.Witness.{rounds, witness, Apart}
 use Rattle.model.proofs.Levels.{highest-least}
-use Rattle.model.proofs.Witness.{then-some, or-cases, tab-some, By, by-first, none-marked, alive}
-use Rattle.model.proofs.Rounds.{has-run, none-final, lowest-final, FirstRound, first-round}
+use Rattle.model.proofs.Witness.{By, none-marked, alive}
+use Rattle.model.proofs.Rounds.{each-tree, marked-by, has-run}
+use Rattle.model.proofs.FirstRound.{none-final, lowest-final, FirstRound, first-round}
 use Rattle.model.proofs.Dead.{some?, not-none, run-marked, final-marked, dead}
-
--- what holds of each marked tree holds of the trees of marked states
-pub each-tree : (P : Tree → Type 0) (M : Marks) → ((q : ℕ) (t : Tree) → getD M q none ≡ some t → P t) → (qs : List ℕ) (ts : List Tree) → treesIn M qs ≡ some ts → (t : Tree) → In t ts → P t
-each-tree P M h [] ts e t m = absurd (not-nil (subst (In t) (sym (Option·some-injective _ _ e)) m))
-each-tree P M h (q ∷ qs) ts e t m =
-    let (u, eu, e₁) = then-some (getD M q none) _ e in
-    let (us, es, e₂) = then-some (treesIn M qs) _ e₁ in
-    ⊎-elim (λ i. subst P (sym i) (h q u eu)) (each-tree P M h qs us es t) (in-cons (subst (In t) (sym (Option·some-injective _ _ e₂)) m))
-
--- a state that is marked, was marked before or gets its tree by a rule
-pub marked-by : (A : Automaton) (M : Marks) (q : ℕ) (t : Tree) → getD (nextRound A M) q none ≡ some t → (getD M q none ≡ some t) ⊎ By A M q (A .rules) t
-marked-by A M q t e =
-    ⊎-elim inl (λ b. inr (by-first A M q (A .rules) t b))
-    (or-cases (getD M q none) (byFirst M q (A .rules)) (tab-some (length (A .states)) (λ z. orElse (getD M z none) (byFirst M z (A .rules))) q e .1))
 
 -- no more levels than rounds
 pub few-levels : (A : Automaton) (n q : ℕ) (t : Tree) → getD (rounds A n) q none ≡ some t → levels t ≤ n

@@ -1,22 +1,22 @@
 -- The witness is accepted: what is marked has a run at whose positions the marked trees stand. Assumes nothing.
 use mathlib.Core.Path.{_≡_, refl, sym, ap, _∙_, subst}
-use mathlib.Core.Logic.{_⊎_, inl, inr, ⊎-elim, _↔_}
+use mathlib.Core.Logic.{_⊎_, inl, inr, ⊎-elim}
 use mathlib.Core.Option.{Option, none, some, Option·some-injective, Option·none-ne-some}
-use mathlib.Core.List.{List, [], _∷_, _++_, map, List·Memᴰ as In, List·Memᴰ·head as here, List·Memᴰ·tail as there}
-use mathlib.Core.Bool.{Bool, true, false, _&&_, _||_, cond}
-use Prim.Native.Nat.{ℕ, zero, suc, _+_, _<_, _≤_}
+use mathlib.Core.List.{List, [], _∷_, List·Memᴰ as In, List·Memᴰ·head as here, List·Memᴰ·tail as there}
+use mathlib.Core.Bool.{Bool, true, false}
+use Prim.Native.Nat.{ℕ, zero, suc, _+_, _<_}
 use native.Mathlib.Omega.{arith}
 use native.Mathlib.Nat.{zero-add, add-zero}
-use lib.Dec.{T, eqb, eqb→eq, eqb-refl}
-use lib.ListN.{length, getD, getElem?}
-use Rattle.model.specs.Tree.{Tree, Forest, node, fnil, fcons, trees, forest, childrenOf, symbolOf, at, andThen}
-use Rattle.model.specs.Automaton.{Rule, Automaton, final?, carries?}
-use Rattle.model.specs.Run.{Move, IsRun, Consistent, Accepts}
+use lib.Dec.{T, eqb, eqb→eq}
+use lib.ListN.{length, getD}
+use Rattle.model.specs.Tree.{Tree, node, forest, andThen}
+use Rattle.model.specs.Automaton.{Rule, Automaton, final?}
+use Rattle.model.specs.Run.{Accepts}
 use Rattle.model.specs.Lists.{tab}
 use Rattle.model.specs.Witness.{orElse, when?, treesIn, topped, byRule, byFirst, nextRound, noMarks, firstFinal, witnessIn, witness, Apart}
 use Rattle.model.proofs.Tab.{tab-at}
 use Rattle.model.proofs.Rows.{trees-forest}
-use Rattle.model.proofs.Runs.{Fine, Runs, finer, node-runs, leaf}
+use Rattle.model.proofs.Runs.{Runs, finer, node-runs, leaf}
 
 module _ {A B : Type 0} where
   pub then-some : (o : Option A) (f : A → Option B) {b : B} → andThen o f ≡ some b → (a : A) × (o ≡ some a) × (f a ≡ some b)
