@@ -1,17 +1,18 @@
--- Levels of the witness: those of the round that marks it, no more than the states, and no accepted tree has fewer; and dead exactly where no tree is accepted. Assumes nothing.
-use mathlib.Core.Path.{_≡_, refl, subst}
+-- Levels of the witness: those of the round that marks it, no more than the states, and no accepted tree has fewer; it is accepted, and there is none exactly where no tree is. Assumes nothing.
+use mathlib.Core.Path.{_≡_, refl, sym, ap, _∙_, subst}
 use mathlib.Core.Logic.{⊎-elim, _↔_}
-use mathlib.Core.Option.{Option, none, some}
+use mathlib.Core.Option.{Option, none, some, Option·some-injective}
 use Prim.Native.Nat.{ℕ, zero, suc, _≤_}
 use native.Mathlib.Omega.{arith}
 use native.Mathlib.Decide.{decLe}
+use lib.Dec.{T}
 use lib.ListN.{length, getD}
 use Rattle.model.specs.Tree.{Tree, levels}
-use Rattle.model.specs.Automaton.{Automaton, Wellformed}
+use Rattle.model.specs.Automaton.{Automaton, Wellformed, final?}
 use Rattle.model.specs.Run.{Accepts}
 use Rattle.model.specs.Witness.{rounds, witness, Apart}
 use Rattle.model.proofs.Levels.{highest-least}
-use Rattle.model.proofs.Witness.{By, none-marked, alive}
+use Rattle.model.proofs.Witness.{By, none-marked}
 use Rattle.model.proofs.Rounds.{each-tree, marked-by, has-run}
 use Rattle.model.proofs.FirstRound.{none-final, lowest-final, FirstRound, first-round}
 use Rattle.model.proofs.Dead.{some?, not-none, run-marked, final-marked, dead}
@@ -27,6 +28,19 @@ few-levels A (suc n) q t e =
     by h b =
         let l = highest-least (b .under-it) n (each-tree (λ u. levels u ≤ n) (rounds A n) h (b .rule .children) (b .under-it) (b .marked)) in
         subst (λ z. levels z ≤ suc n) (b .is) (omega arith)
+
+-- THE WITNESS IS ACCEPTED: where two positions carry a tag, their states are the same, and so are the trees marked for them
+pub live-accepted : (A : Automaton) → Apart A → (w : Tree) → witness A ≡ some w → Accepts A w
+live-accepted A d w e =
+    let (n, h) = first-round A w e in
+    let v = lowest-final A (rounds A n) w (h .found) in
+    let (ρ, g) = has-run A n (v .state) w (v .marked) in
+    record {
+      run = ρ;
+      runs = g .runs;
+      accepting = subst (λ z. T (final? A z)) (sym (g .root)) (v .final);
+      consistent = λ k l p p′ u u′ e e′ c c′. Option·some-injective u u′ (sym (g .all p u e) ∙ ap (λ z. getD (rounds A n) z none) (d k l (ρ p) (ρ p′) c c′) ∙ g .all p′ u′ e′);
+    }
 
 module _ (A : Automaton) (wellformed : Wellformed A) where
   -- THE LEVELS OF A MARKED TREE: a state first marked in round n + 1 has a tree of n + 1 levels
@@ -57,14 +71,10 @@ module _ (A : Automaton) (wellformed : Wellformed A) where
   pub witness-levels : (w : Tree) → witness A ≡ some w → levels w ≤ length (A .states)
   witness-levels w e = let (k, h) = first-round A w e in omega (arith, levels-first w k h, h .within)
 
-  -- THE WITNESS IS ACCEPTED
-  pub live-accepted : Apart A → (w : Tree) → witness A ≡ some w → Accepts A w
-  live-accepted = alive A
-
   -- DEAD EXACTLY WHERE NO TREE IS ACCEPTED
   pub dead-exactly : Apart A → (witness A ≡ none) ↔ ((t : Tree) → Accepts A t → ⊥)
   dead-exactly d = (dead A wellformed, λ h. go h (witness A) refl)
     where
       go : ((t : Tree) → Accepts A t → ⊥) → (o : Option Tree) → witness A ≡ o → o ≡ none
       go h none e = refl
-      go h (some w) e = absurd (h w (alive A d w e))
+      go h (some w) e = absurd (h w (live-accepted A d w e))

@@ -1,19 +1,17 @@
--- The witness is accepted: what is marked has a run at whose positions the marked trees stand. Assumes nothing.
+-- A marked tree has a run from its state at whose positions stand the trees that are marked for their states. Assumes nothing.
 use mathlib.Core.Path.{_≡_, refl, sym, ap, _∙_, subst}
 use mathlib.Core.Logic.{_⊎_, inl, inr, ⊎-elim}
 use mathlib.Core.Option.{Option, none, some, Option·some-injective, Option·none-ne-some}
 use mathlib.Core.List.{List, [], _∷_, List·Memᴰ as In, List·Memᴰ·head as here, List·Memᴰ·tail as there}
 use mathlib.Core.Bool.{Bool, true, false}
-use Prim.Native.Nat.{ℕ, zero, suc, _+_, _<_}
+use Prim.Native.Nat.{ℕ, zero, suc, _<_}
 use native.Mathlib.Omega.{arith}
-use native.Mathlib.Nat.{zero-add, add-zero}
 use lib.Dec.{T, eqb, eqb→eq}
 use lib.ListN.{length, getD}
 use Rattle.model.specs.Tree.{Tree, node, forest, andThen}
-use Rattle.model.specs.Automaton.{Rule, Automaton, final?}
-use Rattle.model.specs.Run.{Accepts}
+use Rattle.model.specs.Automaton.{Rule, Automaton}
 use Rattle.model.specs.Lists.{tab}
-use Rattle.model.specs.Witness.{orElse, when?, treesIn, topped, byRule, byFirst, nextRound, noMarks, firstFinal, witnessIn, witness, Apart}
+use Rattle.model.specs.Witness.{orElse, when?, treesIn, topped, byRule, byFirst, nextRound, noMarks}
 use Rattle.model.proofs.Tab.{tab-at}
 use Rattle.model.proofs.Rows.{trees-forest}
 use Rattle.model.proofs.Runs.{Runs, finer, node-runs, leaf}
@@ -115,34 +113,5 @@ module _ (A : Automaton) where
           (top-run M (nextRound A M) (kept M i) (b .rule) (b .listed) (b .under-it) (kids M h (b .rule .children) (b .under-it) (b .marked))
           (ap (λ z. getD (nextRound A M) z none) (b .target) ∙ e ∙ ap some (sym (b .is)))))
 
-  -- the first final state that is marked
-  first-final : (M : List (Option Tree)) (n : ℕ) (t : Tree) → firstFinal A M n ≡ some t → (q : ℕ) × T (final? A (n + q)) × (getD M q none ≡ some t)
-  first-final [] n t e = absurd (Option·none-ne-some t e)
-  first-final (o ∷ M) n t e =
-      ⊎-elim
-      (λ a. let (f, e′) = when-some (final? A n) o a in (0, subst (λ z. T (final? A z)) (sym (add-zero n)) f, e′))
-      (λ a. let (q, f, e′) = first-final M (suc n) t a in (suc q, subst (λ z. T (final? A z)) (omega arith) f, e′))
-      (or-cases (when? (final? A n) o) (firstFinal A M (suc n)) e)
-
-  let-in : Apart A → (M : List (Option Tree)) → Homely M → (t : Tree) → firstFinal A M 0 ≡ some t → Accepts A t
-  let-in d M h t e =
-      let (q, f, e₁) = first-final M 0 t e in
-      let (ρ, g) = h q t e₁ in
-      record {
-        run = ρ;
-        runs = g .runs;
-        accepting = subst (λ z. T (final? A z)) (zero-add q ∙ sym (g .root)) f;
-        consistent = λ k l p p′ u u′ e e′ c c′. Option·some-injective u u′ (sym (g .all p u e) ∙ ap (λ z. getD M z none) (d k l (ρ p) (ρ p′) c c′) ∙ g .all p′ u′ e′);
-      }
-
-  witness-in : Apart A → (n : ℕ) (M : List (Option Tree)) → InRange M → Homely M → (t : Tree) → witnessIn A n M ≡ some t → Accepts A t
-  witness-in d zero M i h t e = let-in d M h t e
-  witness-in d (suc n) M i h t e =
-      ⊎-elim (let-in d M h t) (witness-in d n (nextRound A M) (in-range M) (next-homely M i h) t) (or-cases (firstFinal A M 0) (witnessIn A n (nextRound A M)) e)
-
   pub none-marked : (q : ℕ) (t : Tree) → getD (noMarks A) q none ≡ some t → ⊥
   none-marked q t e = Option·none-ne-some t (tab-some (length (A .states)) (λ z. none) q e .1)
-
-  -- THE THEOREM
-  pub alive : Apart A → (t : Tree) → witness A ≡ some t → Accepts A t
-  alive d = witness-in d (length (A .states)) (noMarks A) (λ q t e. absurd (none-marked q t e)) (λ q t e. absurd (none-marked q t e))
