@@ -30,11 +30,11 @@ eqRow-refl : (a : Row) → T (eqRow a a)
 eqRow-refl a = and-T (eqb (a .symbol) (a .symbol)) _ (eqb-refl (a .symbol)) (and-T (eqb (a .kind) (a .kind)) _ (eqb-refl (a .kind)) (and-T (eqb (a .payload) (a .payload)) _ (eqb-refl (a .payload)) (eqList-refl (a .children))))
 
 -- what the scan finds: the row, or that there is none
-abbrev Found : Row → List Row → Option ℕ → Type 0
+abbrev pub Found : Row → List Row → Option ℕ → Type 0
 Found r rows (some i) = (i < length rows) × (rowAt rows i ≡ r)
 Found r rows none = (i : ℕ) → i < length rows → rowAt rows i ≡ r → ⊥
 
-find-ok : (r : Row) (rows : List Row) → Found r rows (findRow r rows)
+pub find-ok : (r : Row) (rows : List Row) → Found r rows (findRow r rows)
 find-ok r [] = λ i l e. omega arith
 find-ok r (x ∷ rows) = go (eqRow r x) refl (findRow r rows) (find-ok r rows)
   where
@@ -47,7 +47,7 @@ module _ (rows more : List Row) (lower : Lower rows) where
   row-kept : (i : ℕ) → i < length rows → rowAt (rows ++ more) i ≡ rowAt rows i
   row-kept i l = List·getD-append rows more noRow i l
 
-  tree-kept : (n i : ℕ) → i < length rows → treeIn (rows ++ more) n i ≡ treeIn rows n i
+  pub tree-kept : (n i : ℕ) → i < length rows → treeIn (rows ++ more) n i ≡ treeIn rows n i
   tree-kept zero i l = refl
   tree-kept (suc n) i l =
       rw (row-kept i l)
@@ -56,10 +56,10 @@ module _ (rows more : List Row) (lower : Lower rows) where
 
 -- one row more
 module _ (rows : List Row) (lower : Lower rows) (distinct : Distinct rows) (r : Row) where
-  len : length (rows ++ r ∷ []) ≡ suc (length rows)
+  pub len : length (rows ++ r ∷ []) ≡ suc (length rows)
   len = length-append rows (r ∷ []) ∙ omega arith
 
-  new-row : rowAt (rows ++ r ∷ []) (length rows) ≡ r
+  pub new-row : rowAt (rows ++ r ∷ []) (length rows) ≡ r
   new-row = getD-append-seam rows r [] noRow
 
   old-row : (i : ℕ) → i < length rows → rowAt (rows ++ r ∷ []) i ≡ rowAt rows i
@@ -87,25 +87,25 @@ forest-trees fnil = refl
 forest-trees (fcons t f) = ap (fcons t) (forest-trees f)
 
 -- a table that goes on from `rows`, and whose new trees have P
-record From (P : Tree → Type 0) (rows rows′ : List Row) : Type 0 where
-  more : List Row
-  is : rows′ ≡ rows ++ more
-  lower : Lower rows′
-  distinct : Distinct rows′
-  new : (i : ℕ) → length rows ≤ i → i < length rows′ → P (treeAt rows′ i)
+pub record From (P : Tree → Type 0) (rows rows′ : List Row) : Type 0 where
+  pub more : List Row
+  pub is : rows′ ≡ rows ++ more
+  pub lower : Lower rows′
+  pub distinct : Distinct rows′
+  pub new : (i : ℕ) → length rows ≤ i → i < length rows′ → P (treeAt rows′ i)
 
-record TreeIn (P : Tree → Type 0) (rows : List Row) (t : Tree) (out : List Row × ℕ) : Type 0 where
-  from : From P rows (out .0)
-  at-row : out .1 < length (out .0)
-  tree : treeAt (out .0) (out .1) ≡ t
+pub record TreeIn (P : Tree → Type 0) (rows : List Row) (t : Tree) (out : List Row × ℕ) : Type 0 where
+  pub from : From P rows (out .0)
+  pub at-row : out .1 < length (out .0)
+  pub tree : treeAt (out .0) (out .1) ≡ t
 
-record ForestIn (P : Tree → Type 0) (rows : List Row) (f : Forest) (out : List Row × List ℕ) : Type 0 where
-  from : From P rows (out .0)
-  at-rows : (j : ℕ) → In j (out .1) → j < length (out .0)
-  forest-is : map (treeAt (out .0)) (out .1) ≡ trees f
+pub record ForestIn (P : Tree → Type 0) (rows : List Row) (f : Forest) (out : List Row × List ℕ) : Type 0 where
+  pub from : From P rows (out .0)
+  pub at-rows : (j : ℕ) → In j (out .1) → j < length (out .0)
+  pub forest-is : map (treeAt (out .0)) (out .1) ≡ trees f
 
 -- the tree of a row with the given children
-tree-of : (rows : List Row) → Lower rows → (s k p : ℕ) (f : Forest) (js : List ℕ) → map (treeAt rows) js ≡ trees f → (i : ℕ) → i < length rows → rowAt rows i ≡ record { symbol = s; kind = k; payload = p; children = js } → treeAt rows i ≡ node s k p f
+pub tree-of : (rows : List Row) → Lower rows → (s k p : ℕ) (f : Forest) (js : List ℕ) → map (treeAt rows) js ≡ trees f → (i : ℕ) → i < length rows → rowAt rows i ≡ record { symbol = s; kind = k; payload = p; children = js } → treeAt rows i ≡ node s k p f
 tree-of rows lower s k p f js e i l er =
     tree-eq rows lower i l
     ∙ ap (λ (r : Row). node (r .symbol) (r .kind) (r .payload) (forest (map (treeAt rows) (r .children)))) er
@@ -119,7 +119,7 @@ longer : {P : Tree → Type 0} {rows rows′ : List Row} → From P rows rows′
 longer {rows} g = omega (arith, ap length (g .is), length-append rows (g .more))
 
 module _ (P : Tree → Type 0) where
-  place-ok : (rows : List Row) (s k p : ℕ) (f : Forest) (rows′ : List Row) (js : List ℕ) → P (node s k p f) → ForestIn P rows f (rows′, js) → (o : Option ℕ) → Found (record { symbol = s; kind = k; payload = p; children = js }) rows′ o → TreeIn P rows (node s k p f) (placed rows′ (record { symbol = s; kind = k; payload = p; children = js }) o)
+  pub place-ok : (rows : List Row) (s k p : ℕ) (f : Forest) (rows′ : List Row) (js : List ℕ) → P (node s k p f) → ForestIn P rows f (rows′, js) → (o : Option ℕ) → Found (record { symbol = s; kind = k; payload = p; children = js }) rows′ o → TreeIn P rows (node s k p f) (placed rows′ (record { symbol = s; kind = k; payload = p; children = js }) o)
   place-ok rows s k p f rows′ js hp F (some i) h = record { from = F .from; at-row = h .0; tree = tree-of rows′ (F .from .lower) s k p f js (F .forest-is) i (h .0) (h .1) }
   place-ok rows s k p f rows′ js hp F none h =
       record {
@@ -176,13 +176,13 @@ module _ (P : Tree → Type 0) where
   mutual
     unfolding addTree
 
-    tree-in : (t : Tree) → ((p : List ℕ) (u : Tree) → at t p ≡ some u → P u) → (rows : List Row) → Lower rows → Distinct rows → TreeIn P rows t (addTree t rows)
+    pub tree-in : (t : Tree) → ((p : List ℕ) (u : Tree) → at t p ≡ some u → P u) → (rows : List Row) → Lower rows → Distinct rows → TreeIn P rows t (addTree t rows)
     tree-in (node s k p f) h rows lower distinct =
         let o = addForest f rows in
         let r : Row = record { symbol = s; kind = k; payload = p; children = o .1 } in
         place-ok rows s k p f (o .0) (o .1) (h [] (node s k p f) refl) (forest-in f (λ j q. h (j ∷ q)) rows lower distinct) (findRow r (o .0)) (find-ok r (o .0))
 
-    forest-in : (f : Forest) → ((j : ℕ) (p : List ℕ) (u : Tree) → atIn f j p ≡ some u → P u) → (rows : List Row) → Lower rows → Distinct rows → ForestIn P rows f (addForest f rows)
+    pub forest-in : (f : Forest) → ((j : ℕ) (p : List ℕ) (u : Tree) → atIn f j p ≡ some u → P u) → (rows : List Row) → Lower rows → Distinct rows → ForestIn P rows f (addForest f rows)
     forest-in fnil h rows lower distinct =
         record {
           from = record { more = []; is = sym (append-nil rows); lower = lower; distinct = distinct; new = λ i a b. let z : ⊥ = omega arith in absurd z };
@@ -204,10 +204,10 @@ last-placed s k p f rows′ js F (some i) h =
     absurd z
 last-placed s k p f rows′ js F none h = sym (len rows′ (F .from .lower) (F .from .distinct) (record { symbol = s; kind = k; payload = p; children = js }))
 
-no-rows : Lower []
+pub no-rows : Lower []
 no-rows i l = let z : ⊥ = omega arith in absurd z
 
-no-pair : Distinct []
+pub no-pair : Distinct []
 no-pair i j l = let z : ⊥ = omega arith in absurd z
 
 last : (t : Tree) → suc (addTree t [] .1) ≡ length (addTree t [] .0)

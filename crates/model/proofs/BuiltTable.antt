@@ -13,7 +13,7 @@ use Rattle.model.specs.Tree.{Tree, Forest, node, fnil, fcons, trees, for
 use Rattle.model.specs.Automaton.{Automaton}
 use Rattle.model.specs.Table.{Row, rowAt, treeIn, treeAt, treeOf, Lower, Distinct, AllUsed, SoundRow, SoundTable}
 use Rattle.model.specs.Fit.{FitNode, FitTree, FitForest}
-use Rattle.model.specs.Build.{rowsOf, FirstFinishing}
+use Rattle.model.specs.Build.{rowsOf}
 use Rattle.model.proofs.Tab.{length-tab, tab-in}
 use Rattle.model.proofs.Pigeon.{pigeons}
 use Rattle.model.proofs.Levels.{atIn}
@@ -128,7 +128,3 @@ module _ (A : Automaton) (rows : List Row) (sound : SoundTable A rows) where
 
   pub sound-again : SoundTable A (rowsOf (treeOf rows))
   sound-again = sound-table A (treeOf rows) fit-tree (sound .low) (subst (_≤ maxRows) (sym as-many-rows) (sound .few-rows))
-
--- the rows of a tree are in order, so building again changes nothing
-pub in-order : (t : Tree) → FirstFinishing (rowsOf t)
-in-order t = ap rowsOf (table t .tree)

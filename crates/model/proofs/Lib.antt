@@ -15,5 +15,6 @@ pub mod Dead
 pub mod Lowest
 pub mod Apart
 pub mod Build
+pub mod Finishing
 pub mod BuiltTable
 pub mod WitnessTable

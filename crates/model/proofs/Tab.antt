@@ -1,7 +1,7 @@
 -- Lists made of a function of the index. Assumes nothing.
 use mathlib.Core.Path.{_≡_, refl, ap}
 use mathlib.Core.Logic.{⊎-elim}
-use mathlib.Core.List.{List, [], _∷_, List·Memᴰ as In, List·Memᴰ·head as here, List·Memᴰ·tail as there, List·Memᴰ·cases-cons as in-cons, List·Memᴰ·not-nil as not-nil}
+use mathlib.Core.List.{List, [], _∷_, _++_, List·Memᴰ as In, List·Memᴰ·head as here, List·Memᴰ·tail as there, List·Memᴰ·cases-cons as in-cons, List·Memᴰ·not-nil as not-nil}
 use Prim.Native.Nat.{ℕ, zero, suc, _<_, _≤_}
 use native.Mathlib.Omega.{arith}
 use lib.ListN.{length, getD}
@@ -34,3 +34,11 @@ pub tab-from : (n : ℕ) (f : ℕ → ℕ) (k j : ℕ) → getD (tab n f) k 0 �
 tab-from zero f k j h = let z : ⊥ = omega arith in absurd z
 tab-from (suc n) f zero j h = (omega arith, h)
 tab-from (suc n) f (suc k) j h = let r = tab-from n (λ i. f (suc i)) k j h in (omega arith, r .1)
+
+pub tab-same : {B : Type 0} (n : ℕ) (f g : ℕ → B) → ((k : ℕ) → k < n → f k ≡ g k) → tab n f ≡ tab n g
+tab-same zero f g h = refl
+tab-same (suc n) f g h = cc (h 0 (omega arith), tab-same n (λ k. f (suc k)) (λ k. g (suc k)) (λ k l. h (suc k) (omega arith)))
+
+pub tab-snoc : {B : Type 0} (n : ℕ) (f : ℕ → B) → tab (suc n) f ≡ tab n f ++ f n ∷ []
+tab-snoc zero f = refl
+tab-snoc {B} (suc n) f = ap {B = List B} (λ l. f 0 ∷ l) (tab-snoc n (λ k. f (suc k)))

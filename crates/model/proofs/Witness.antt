@@ -50,10 +50,10 @@ module _ (A : Automaton) where
   abbrev pub Onto : List (Option Tree) → List (Option Tree) → Type 0
   Onto M N = (q : ℕ) (t : Tree) → getD M q none ≡ some t → getD N q none ≡ some t
 
-  abbrev Kids : List (Option Tree) → List ℕ → List Tree → Type 0
+  abbrev pub Kids : List (Option Tree) → List ℕ → List Tree → Type 0
   Kids M qs ts = (length qs ≡ length ts) × ((j : ℕ) → j < length ts → Runs A (Marked M) (getD ts j leaf) (getD qs j 0))
 
-  kids : (M : List (Option Tree)) → Homely M → (qs : List ℕ) (ts : List Tree) → treesIn M qs ≡ some ts → Kids M qs ts
+  pub kids : (M : List (Option Tree)) → Homely M → (qs : List ℕ) (ts : List Tree) → treesIn M qs ≡ some ts → Kids M qs ts
   kids M h [] ts e = subst (Kids M []) (Option·some-injective _ _ e) (refl, λ j l. let z : ⊥ = omega arith in absurd z)
   kids M h (q ∷ qs) ts e =
       let (t, et, e₁) = then-some (getD M q none) _ e in

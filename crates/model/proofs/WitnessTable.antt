@@ -1,8 +1,8 @@
 -- The witness's table is sound and has no more rows than the automaton has states. Assumes nothing.
 use mathlib.Core.Path.{_≡_, refl, sym, ap, _∙_, subst}
 use mathlib.Core.Logic.{⊎-elim}
-use mathlib.Core.Option.{Option, none, some, Option·some-injective}
-use mathlib.Core.List.{List, [], _∷_, Memᴰ·cast}
+use mathlib.Core.Option.{Option, none, some}
+use mathlib.Core.List.{List, Memᴰ·cast}
 use Prim.Native.Nat.{ℕ, zero, suc, _≤_}
 use native.Mathlib.Omega.{arith}
 use lib.ListN.{length, getD}
@@ -13,23 +13,16 @@ use Rattle.model.specs.Sound.{Sound}
 use Rattle.model.specs.Table.{SoundTable}
 use Rattle.model.specs.Fit.{FitNode}
 use Rattle.model.specs.Build.{rowsOf}
-use Rattle.model.specs.Witness.{Marks, treesIn, rounds, witness}
+use Rattle.model.specs.Witness.{rounds, witness}
 use Rattle.model.proofs.Tab.{length-tab, tab-in}
 use Rattle.model.proofs.Rows.{trees-forest}
 use Rattle.model.proofs.Runs.{leaf}
-use Rattle.model.proofs.Witness.{then-some, By, none-marked}
+use Rattle.model.proofs.Witness.{By, kids, none-marked}
 use Rattle.model.proofs.Rounds.{in-states, has-run, marked-by}
 use Rattle.model.proofs.FirstRound.{lowest-final, first-round}
 use Rattle.model.proofs.Lowest.{witness-levels}
 use Rattle.model.proofs.Build.{table}
 use Rattle.model.proofs.BuiltTable.{at-fit, sound-table, few-rows}
-
-as-many-trees : (M : Marks) (qs : List ℕ) (ts : List Tree) → treesIn M qs ≡ some ts → length ts ≡ length qs
-as-many-trees M [] ts e = ap length (sym (Option·some-injective _ _ e))
-as-many-trees M (q ∷ qs) ts e =
-    let (u, eu, e₁) = then-some (getD M q none) _ e in
-    let (us, es, e₂) = then-some (treesIn M qs) _ e₁ in
-    ap length (sym (Option·some-injective _ _ e₂)) ∙ ap suc (as-many-trees M qs us es)
 
 or-leaf : Option Tree → Tree
 or-leaf none = leaf
@@ -46,7 +39,7 @@ module _ (A : Automaton) where
           subst (FitNode A) (b .is)
           (record {
             known = wf .symbols (b .rule) (b .listed);
-            as-many = ap length (trees-forest (b .under-it)) ∙ as-many-trees (rounds A n) (b .rule .children) (b .under-it) (b .marked) ∙ wf .as-many (b .rule) (b .listed);
+            as-many = ap length (trees-forest (b .under-it)) ∙ sym (kids A (rounds A n) (has-run A n) (b .rule .children) (b .under-it) (b .marked) .0) ∙ wf .as-many (b .rule) (b .listed);
             scalar = tt;
             bare = λ l. (refl, refl);
           })
