@@ -2,11 +2,11 @@
 use mathlib.Core.Path.{_≡_, refl, sym, ap, _∙_, subst}
 use mathlib.Core.Logic.{_↔_}
 use mathlib.Core.Option.{some, Option·some-injective, Option·none-ne-some}
-use mathlib.Core.List.{List, [], _∷_, _++_, map, List·Memᴰ as In, List·Memᴰ·head as here, List·Memᴰ·tail as there, Memᴰ·cast}
+use mathlib.Core.List.{List, [], _∷_, _++_, map, List·Memᴰ as In, Memᴰ·cast}
 use Prim.Native.Nat.{ℕ, zero, suc, _+_, _-_, _<_, _≤_}
 use native.Mathlib.Omega.{arith}
 use native.Mathlib.Decide.{decLt}
-use lib.ListN.{length, getD, getElem?, length-map}
+use lib.ListN.{length, getElem?, length-map}
 use Rattle.model.specs.Limits.{maxRows, maxLevels}
 use Rattle.model.specs.Lists.{tab}
 use Rattle.model.specs.Tree.{Tree, Forest, node, fnil, fcons, trees, forest, childrenOf, at, andThen, levels}
@@ -15,9 +15,9 @@ use Rattle.model.specs.Table.{Row, rowAt, treeIn, treeAt, treeOf, Lower,
 use Rattle.model.specs.Fit.{FitNode, FitTree, FitForest}
 use Rattle.model.specs.Build.{rowsOf}
 use Rattle.model.proofs.Tab.{length-tab, tab-in}
-use Rattle.model.proofs.Pigeon.{pigeons}
+use Rattle.model.proofs.Count.{place-of, pigeonhole}
 use Rattle.model.proofs.Levels.{atIn}
-use Rattle.model.proofs.Rows.{trees-forest, in-getD, at-step, kid-at, one-tree, below}
+use Rattle.model.proofs.Rows.{trees-forest, at-step, kid-at, equal-trees, row-at}
 use Rattle.model.proofs.Build.{table}
 
 module _ (A : Automaton) where
@@ -70,26 +70,13 @@ module _ (A : Automaton) where
 -- no more rows than a list that holds every subtree
 pub few-rows : (rows : List Row) → Lower rows → Distinct rows → (t : Tree) → ((i : ℕ) → i < length rows → (p : List ℕ) × (at t p ≡ some (treeAt rows i))) → (us : List Tree) → ((p : List ℕ) (u : Tree) → at t p ≡ some u → In u us) → length rows ≤ length us
 few-rows rows lower distinct t sub us h =
-    pigeons (length rows) (treeAt rows) us
-    (λ i j li lj e. one-tree rows lower distinct (suc i) i j (omega arith) li lj e)
-    (λ i l. let (p, e) = sub i l in h p (treeAt rows i) e)
-
-place : {x : ℕ} {xs : List ℕ} → In x xs → (c : ℕ) × (c < length xs) × (getD xs c 0 ≡ x)
-place (here e) = (0, omega arith, sym e)
-place (there m) = let (c, l, e) = place m in (suc c, omega arith, e)
+    pigeonhole (λ i u. treeAt rows i ≡ u) (length rows) us
+    (λ i l. let (p, e) = sub i l in (treeAt rows i, h p (treeAt rows i) e, refl))
+    (λ i j u li lj a b. equal-trees rows lower distinct i j li lj .0 (a ∙ sym b))
 
 module _ (rows : List Row) (lower : Lower rows) where
-  -- a subtree of a row's tree is the tree of a row
-  pub row-of : (p : List ℕ) (i : ℕ) → i < length rows → (u : Tree) → at (treeAt rows i) p ≡ some u → (j : ℕ) × (j < length rows) × (u ≡ treeAt rows j)
-  row-of [] i l u e = (i, l, sym (Option·some-injective _ _ e))
-  row-of (c ∷ p) i l u e =
-      let (lc, e′) = below rows lower i l c p u e in
-      let k : ℕ = getD ((rowAt rows i) .children) c 0 in
-      let lk = lower i l k (in-getD 0 ((rowAt rows i) .children) c lc) in
-      row-of p k (omega arith) u e′
-
   in-rows : 0 < length rows → (p : List ℕ) (u : Tree) → at (treeOf rows) p ≡ some u → In u (tab (length rows) (treeAt rows))
-  in-rows l p u e = let (j, lj, q) = row-of p (length rows - 1) (omega arith) u e in Memᴰ·cast q (tab-in (length rows) (treeAt rows) j lj)
+  in-rows l p u e = let (j, lj, q) = row-at rows lower p (length rows - 1) (omega arith) u e in Memᴰ·cast q (tab-in (length rows) (treeAt rows) j lj)
 
   -- where every row is used, its tree stands in the last row's
   from-last : AllUsed rows → (n i : ℕ) → i < length rows → length rows ≤ i + n → (p : List ℕ) × (at (treeOf rows) p ≡ some (treeAt rows i))
@@ -101,7 +88,7 @@ module _ (rows : List Row) (lower : Lower rows) where
       go (yes h) ih =
           let (j, a, g, m) = used i h in
           let (p, e) = ih j a g in
-          let (c, lc, ec) = place m in
+          let (c, lc, ec) = place-of 0 m in
           (p ++ c ∷ [], at-step p (treeOf rows) c ∙ ap (λ o. andThen o (λ u. getElem? (childrenOf u) c)) e ∙ kid-at rows lower j g c lc ∙ ap (λ z. some (treeAt rows z)) ec)
 
 -- THE SAME TREE AND AS MANY ROWS, where a sound table is built again from its tree
@@ -123,7 +110,7 @@ module _ (A : Automaton) (rows : List Row) (sound : SoundTable A rows) where
       at-fit A (treeOf rows)
       (λ p u e.
       let l = sound .some-row in
-      let (j, lj, q) = row-of rows (sound .lower) p (length rows - 1) (omega arith) u e in
+      let (j, lj, q) = row-at rows (sound .lower) p (length rows - 1) (omega arith) u e in
       subst (FitNode A) (sym q) (sound-row A rows j .1 (sound .each j lj)))
 
   pub sound-again : SoundTable A (rowsOf (treeOf rows))

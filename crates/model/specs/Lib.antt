@@ -13,5 +13,6 @@ pub mod Build
 pub mod Annotation
 pub mod Leaves
 pub mod Written
+pub mod WrittenTest
 pub mod Boolean
 pub mod Witness
