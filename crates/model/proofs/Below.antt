@@ -8,7 +8,7 @@ use native.Mathlib.Numerals.{add-one, add-one-le}
 use borrow.Author.Needs.{needs}
 use native.Mathlib.Omega.{arith}
 use lib.Dec.{T}
-use Rattle.model.proofs.Members.{T-true, or-left, or-right}
+use Rattle.model.proofs.Members.{T-true, and-T, or-left, or-right}
 use Rattle.model.specs.Lists.{allBelow, anyBelow}
 
 and-false : (a : Bool) → (a && false) ≡ false
@@ -38,6 +38,11 @@ module _ (p : ℕ → Bool) where
 
 pub all-at : (n : ℕ) (f : ℕ → Bool) → T (allBelow n f) → (i : ℕ) → i < n → T (f i)
 all-at n f h i l = T-true (f i) .1 (at f n i (T-true (allBelow n f) .0 h) l)
+
+pub all-of : (n : ℕ) (f : ℕ → Bool) → ((i : ℕ) → i < n → T (f i)) → T (allBelow n f)
+unfolding allBelow
+all-of zero f h = tt
+all-of (suc n) f h = and-T (allBelow n f) (f n) (all-of n f (λ i l. h i (omega arith))) (h n (omega arith))
 
 -- a test that passes somewhere below n passes at a number
 pub any-below : (n : ℕ) (p : ℕ → Bool) → T (anyBelow n p) → (i : ℕ) × (i < n) × T (p i)

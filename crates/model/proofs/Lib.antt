@@ -2,6 +2,7 @@ pub mod Members
 pub mod Memory
 pub mod Tab
 pub mod Below
+pub mod Levels
 pub mod WrittenTest
 pub mod Rows
 pub mod Runs
@@ -21,6 +22,12 @@ pub mod SoundUnion
 pub mod SoundProduct
 pub mod Papers
 pub mod Witness
+pub mod Rounds
+pub mod FirstRound
 pub mod Dead
+pub mod Lowest
 pub mod Apart
 pub mod Build
+pub mod Finishing
+pub mod BuiltTable
+pub mod WitnessTable

@@ -24,7 +24,7 @@ in-getD d [] j h = let z : ⊥ = omega arith in absurd z
 in-getD d (x ∷ xs) zero h = here refl
 in-getD d (x ∷ xs) (suc j) h = there (in-getD d xs j (omega arith))
 
-map-inj : {A B : Type 0} (f : A → B) (xs ys : List A) → ((x y : A) → In x xs → In y ys → f x ≡ f y → x ≡ y) → map f xs ≡ map f ys → xs ≡ ys
+pub map-inj : {A B : Type 0} (f : A → B) (xs ys : List A) → ((x y : A) → In x xs → In y ys → f x ≡ f y → x ≡ y) → map f xs ≡ map f ys → xs ≡ ys
 map-inj f [] [] h e = refl
 map-inj f [] (y ∷ ys) h e = absurd (nil≢cons e)
 map-inj f (x ∷ xs) [] h e = absurd (cons≢nil e)
@@ -56,10 +56,10 @@ at-below t f cs e j p u h = go cs j (rw e at h)
     go (c ∷ l) zero g = (omega arith, g)
     go (c ∷ l) (suc j) g = let r = go l j g in (omega arith, r .1)
 
-kindOf : Tree → ℕ
+abbrev pub kindOf : Tree → ℕ
 kindOf (node s k p f) = k
 
-payloadOf : Tree → ℕ
+abbrev pub payloadOf : Tree → ℕ
 payloadOf (node s k p f) = p
 
 module _ (rows : List Row) (lower : Lower rows) where
@@ -89,7 +89,6 @@ module _ (rows : List Row) (lower : Lower rows) where
 
   -- rows without equals have trees without equals
   one-row : (i j : ℕ) → treeAt rows i ≡ treeAt rows j → (rowAt rows i) .children ≡ (rowAt rows j) .children → rowAt rows i ≡ rowAt rows j
-  unfolding kindOf payloadOf
   one-row i j e k = λ x. record { symbol = ap symbolOf e x; kind = ap kindOf e x; payload = ap payloadOf e x; children = k x }
 
   pub one-tree : Distinct rows → (n i j : ℕ) → i < n → i < length rows → j < length rows → treeAt rows i ≡ treeAt rows j → i ≡ j

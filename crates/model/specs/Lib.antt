@@ -8,6 +8,7 @@ pub mod Sound
 pub mod Run
 pub mod Papers
 pub mod Table
+pub mod Fit
 pub mod Build
 pub mod Annotation
 pub mod Leaves
