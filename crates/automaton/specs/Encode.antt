@@ -1,4 +1,5 @@
 -- The stored form of an automaton, and bytes put into a lent space (document 01, section "Sets"). Assumes nothing.
+use mathlib.Core.Path.{_≡_}
 use mathlib.Core.List.{List, [], _∷_, _++_}
 use mathlib.Core.Bool.{Bool, true, false, cond}
 use Prim.Native.Nat.{ℕ, _+_, _/_, _%_}
@@ -60,3 +61,8 @@ putAt out at bytes = cond (fits? out at bytes) (take at out ++ bytes ++ drop (at
 -- the place after the bytes, where they fit whole; else the place itself
 unfoldable pub placeAfter : List ℕ → ℕ → List ℕ → ℕ
 placeAfter out at bytes = cond (fits? out at bytes) (at + length bytes) at
+
+-- the bytes put at this place of the space: what it holds then, and the place that is answered
+pub record Put (out : List ℕ) (at : ℕ) (bytes out′ : List ℕ) (r : ℕ) : Type 0 where
+  pub space : out′ ≡ putAt out at bytes
+  pub place : r ≡ placeAfter out at bytes

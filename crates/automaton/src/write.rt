@@ -1,13 +1,14 @@
 // Writing the stored form from front to back: each function puts a part at a place and answers the place after it; where the part does not fit whole, nothing
 // is written and the place itself is the answer.
 ghost use mathlib.Core.Path.{_≡_};
+ghost use mathlib.Core.Bool.{cond};
 ghost use mathlib.Core.List.{_++_};
 ghost use Prim.Native.Nat.{_+_, _*_, _/_, _%_, _≤_, _<_};
 ghost use lib.Dec.{leb};
 ghost use lib.ListN.{length, take, drop};
 ghost use Rattle.model.specs.Lists.{concatMap};
 ghost use Rattle.automaton.specs.Form.{statesOffset, rulesOffset, totalLength};
-ghost use Rattle.automaton.specs.Encode.{encodeWord, encodeHeader, encodeSymbol, encodeState, encodePlaces, putAt, placeAfter};
+ghost use Rattle.automaton.specs.Encode.{encodeWord, encodeHeader, encodeSymbol, encodeState, encodePlaces, Put};
 use super::HEADER_WIDTH;
 use super::RULE_WIDTH;
 use super::STATE_WIDTH;
@@ -52,6 +53,12 @@ fn high(x: u16) -> u8
     (x / 256 % 256) as u8
 }
 
+fn flag(b: bool) -> u8
+    ensures { λ r. ⌜ r ≡ cond b 1 0 ⌝ }
+{
+    if b { 1 } else { 0 }
+}
+
 // A number's lowest 16 bits.
 fn cut(x: usize) -> u16
     ensures { λ r. ⌜ r ≡ x % 65536 ⌝ }
@@ -75,7 +82,7 @@ fn paste_words(out: &mut [u8], at: usize, words: &[u16])
 
 fn put_words(out: &mut [u8], at: usize, words: &[u16]) -> usize
     requires { ⌜ length (now words) < 65536 ⌝ }
-    ensures { λ r. ⌜ (now (out .exit) ≡ putAt (now (out .entry)) at (concatMap encodeWord (now (words .entry)))) × (r ≡ placeAfter (now (out .entry)) at (concatMap encodeWord (now (words .entry)))) ⌝ }
+    ensures { λ r. ⌜ Put (now (out .entry)) at (concatMap encodeWord (now (words .entry))) (now (out .exit)) r ⌝ }
 {
     let n = 2 * words.len();
     if fits(out.len(), at, n) {
@@ -86,7 +93,7 @@ fn put_words(out: &mut [u8], at: usize, words: &[u16]) -> usize
 }
 
 pub fn put_header(out: &mut [u8], symbols: u16, states: u16, tags: u16, rules: u16) -> usize
-    ensures { λ r. ⌜ (now (out .exit) ≡ putAt (now (out .entry)) 0 (encodeHeader symbols states tags rules)) × (r ≡ placeAfter (now (out .entry)) 0 (encodeHeader symbols states tags rules)) ⌝ }
+    ensures { λ r. ⌜ Put (now (out .entry)) 0 (encodeHeader symbols states tags rules) (now (out .exit)) r ⌝ }
 {
     let states_at = cut(states_offset(symbols));
     let rules_at = cut(rules_offset(symbols, states));
@@ -105,7 +112,7 @@ pub fn put_header(out: &mut [u8], symbols: u16, states: u16, tags: u16, rules: u
 }
 
 pub fn put_symbol(out: &mut [u8], at: usize, arity: u16) -> usize
-    ensures { λ r. ⌜ (now (out .exit) ≡ putAt (now (out .entry)) at (encodeSymbol arity)) × (r ≡ placeAfter (now (out .entry)) at (encodeSymbol arity)) ⌝ }
+    ensures { λ r. ⌜ Put (now (out .entry)) at (encodeSymbol arity) (now (out .exit)) r ⌝ }
 {
     if at < out.len() {
         out[at] = low(arity);
@@ -115,10 +122,10 @@ pub fn put_symbol(out: &mut [u8], at: usize, arity: u16) -> usize
 }
 
 pub fn put_state(out: &mut [u8], at: usize, accepting: bool, mask: u16) -> usize
-    ensures { λ r. ⌜ (now (out .exit) ≡ putAt (now (out .entry)) at (encodeState accepting mask)) × (r ≡ placeAfter (now (out .entry)) at (encodeState accepting mask)) ⌝ }
+    ensures { λ r. ⌜ Put (now (out .entry)) at (encodeState accepting mask) (now (out .exit)) r ⌝ }
 {
     if fits(out.len(), at, STATE_WIDTH) {
-        out[at] = if accepting { 1 } else { 0 };
+        out[at] = flag(accepting);
         out[at + 1] = low(mask);
         return at + STATE_WIDTH;
     }
@@ -126,7 +133,7 @@ pub fn put_state(out: &mut [u8], at: usize, accepting: bool, mask: u16) -> usize
 }
 
 pub fn put_rule(out: &mut [u8], at: usize, r: StoredRule) -> usize
-    ensures { λ n. ⌜ (now (out .exit) ≡ putAt (now (out .entry)) at (encodePlaces (r .symbol) (r .target .0) (r .places))) × (n ≡ placeAfter (now (out .entry)) at (encodePlaces (r .symbol) (r .target .0) (r .places))) ⌝ }
+    ensures { λ n. ⌜ Put (now (out .entry)) at (encodePlaces (r .symbol) (r .target .0) (r .places)) (now (out .exit)) n ⌝ }
 {
     let places = r.places;
     let words = [
