@@ -4,6 +4,7 @@
 
 pub mod documents;
 pub mod lists;
+pub mod pairs;
 pub mod random;
 pub mod rows;
 pub mod runs;

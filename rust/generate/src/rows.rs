@@ -25,16 +25,28 @@ pub fn lent(
 
 /// The cells of a table with one to three things changed; a change may turn out harmless.
 pub fn damaged(random: &mut Random, automaton: &Automaton, document: Document) -> Vec<u16> {
-    let mut document = document;
-    match random.below(12) {
-        0..=2 => split_a_row(random, &mut document),
-        3 | 4 => add_an_unused_row(random, automaton, &mut document),
-        5 | 6 => heighten(random, automaton, &mut document),
-        7 => pass_the_row_limit(&mut document),
-        _ => {}
+    if random.percent(45) {
+        return with_wrong_shape(random, automaton, document);
     }
     let mut cells = document.cells();
-    for _ in 0..random.pick(&[0, 1, 1, 1, 2, 3]) {
+    for _ in 0..random.pick(&[1, 1, 1, 2, 3]) {
+        damage_once(random, &mut cells);
+    }
+    cells
+}
+
+/// The cells of a table whose rows are sound one by one but not together; sometimes a cell is
+/// changed as well.
+fn with_wrong_shape(random: &mut Random, automaton: &Automaton, document: Document) -> Vec<u16> {
+    let mut document = document;
+    match random.below(20) {
+        0..=4 => split_a_row(random, &mut document),
+        5..=9 => add_an_unused_row(random, automaton, &mut document),
+        10..=18 => heighten(random, automaton, &mut document),
+        _ => pass_the_row_limit(&mut document),
+    }
+    let mut cells = document.cells();
+    if random.percent(15) {
         damage_once(random, &mut cells);
     }
     cells
@@ -77,7 +89,7 @@ pub fn add_an_unused_row(random: &mut Random, automaton: &Automaton, document: &
 pub fn heighten(random: &mut Random, automaton: &Automaton, document: &mut Document) {
     let inner = (0..automaton.arities.len()).find(|&symbol| automaton.arity(symbol) > 0);
     let Some(symbol) = inner else { return };
-    let wanted = MAX_LEVELS + random.pick(&[0, 1, 1, 1, 2, 40]);
+    let wanted = MAX_LEVELS + random.pick(&[0, 1, 1, 1, 1, 2, 2, 40]);
     for _ in document.levels()..wanted {
         if document.rows.len() == MAX_ROWS {
             return;

@@ -27,6 +27,11 @@ pub fn small_sizes() -> Sizes {
     Sizes { symbols: 1..=6, states: 1..=8, tags: 0..=4, rules: 0..=40 }
 }
 
+/// Small sets with many rules and tags, so that tags often decide.
+pub fn tagged_sizes() -> Sizes {
+    Sizes { symbols: 2..=5, states: 2..=6, tags: 1..=8, rules: 8..=40 }
+}
+
 /// Sets of middling size.
 pub fn medium_sizes() -> Sizes {
     Sizes { symbols: 1..=20, states: 1..=40, tags: 0..=8, rules: 0..=200 }
