@@ -14,7 +14,10 @@ const LARGEST_PLACE: u64 = (1 << 55) - 1;
 pub enum Answer {
     Value(u64),
     /// A refusal; its place is 0 where the number has none.
-    Refused { number: u8, place: u64 },
+    Refused {
+        number: u8,
+        place: u64,
+    },
 }
 
 impl Answer {

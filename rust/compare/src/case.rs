@@ -1,6 +1,6 @@
-//! One comparison: the input, to be printed should the answers or the spaces differ.
+//! One comparison: a call, its two answers, and the input to print should something differ.
 
-use std::fmt::Write;
+use std::fmt::{self, Write};
 
 use crate::answer::Answer;
 use crate::lent::{Element, Lent};
@@ -17,21 +17,37 @@ pub enum Input<'a> {
     Space(usize),
 }
 
-/// A function called on an input.
+/// What the library must answer.
+pub enum Expected {
+    /// This and nothing else.
+    Exactly(Answer),
+    /// A yes with a run of the library's choice, of at least one step and at most so many.
+    RunOfAtMost(usize),
+}
+
+/// A function called on an input, with the answers of library and reference.
 pub struct Case<'a> {
     pub function: &'static str,
     pub inputs: &'a [(&'static str, Input<'a>)],
+    pub library: Answer,
+    pub expected: Expected,
 }
 
 impl Case<'_> {
-    /// Stops with the input printed unless library and reference give the same answer.
-    pub fn same_answer(&self, library: Answer, reference: Answer) {
-        if library != reference {
-            self.fail(&format!("the library answers: {library}\nthe reference answers: {reference}"));
+    /// Stops with everything printed unless the library answers as it must.
+    pub fn same_answer(&self) {
+        let agrees = match self.expected {
+            Expected::Exactly(answer) => self.library == answer,
+            Expected::RunOfAtMost(most) => {
+                matches!(self.library, Answer::Value(steps) if (1..=most as u64).contains(&steps))
+            }
+        };
+        if !agrees {
+            self.fail("the answers differ");
         }
     }
 
-    /// Stops with the input printed unless a lent space holds what it must, guards included.
+    /// Stops with everything printed unless a lent space holds what it must, guards included.
     pub fn same_space<T: Element>(&self, name: &str, lent: &Lent<T>, expected: &[T]) {
         if !lent.guards_are_untouched() {
             self.fail(&format!("the library wrote outside the space `{name}`"));
@@ -40,18 +56,27 @@ impl Case<'_> {
         if let Some(at) = (0..expected.len()).find(|&at| found[at] != expected[at]) {
             let (found, expected) = (found[at], expected[at]);
             self.fail(&format!(
-                "space `{name}`, element {at}: the library leaves {found:?}, it must be {expected:?}"
+                "element {at} of the space `{name}`: the library leaves {found:?}, it must be {expected:?}"
             ));
         }
     }
 
-    /// Stops with the input printed.
+    /// Stops with the input and both answers printed.
     pub fn fail(&self, difference: &str) -> ! {
-        let mut message = format!("{} differs\n", self.function);
+        let mut message = format!("{}: {difference}\n", self.function);
         for (name, input) in self.inputs {
             let _ = writeln!(message, "{name}: {}", shown(input));
         }
-        panic!("{message}{difference}");
+        panic!("{message}library: {}\nreference: {}", self.library, self.expected);
+    }
+}
+
+impl fmt::Display for Expected {
+    fn fmt(&self, out: &mut fmt::Formatter) -> fmt::Result {
+        match self {
+            Expected::Exactly(answer) => answer.fmt(out),
+            Expected::RunOfAtMost(most) => write!(out, "yes, with a run of at most {most} steps"),
+        }
     }
 }
 

@@ -1,7 +1,7 @@
 //! The library's check of a stored set against the reference's.
 
 use compare::answer::Answer;
-use compare::case::{Case, Input};
+use compare::case::{Case, Expected, Input};
 use compare::library::check::check_automaton;
 use compare::tally::{Tally, SET};
 use generate::{set_bytes, sets, Random};
@@ -11,9 +11,11 @@ use reference::{Automaton, Rule};
 
 /// Compares one call, and answers what both answered.
 fn compare(set: &[u8]) -> Answer {
-    let case = Case { function: "check_automaton", inputs: &[("set", Input::Set(set))] };
+    let library = check_automaton(set);
     let reference = Answer::of_reference(reference::check_automaton(set).map(|_| 0));
-    case.same_answer(check_automaton(set), reference);
+    let inputs = [("set", Input::Set(set))];
+    let expected = Expected::Exactly(reference);
+    Case { function: "check_automaton", inputs: &inputs, library, expected }.same_answer();
     reference
 }
 
@@ -145,18 +147,16 @@ fn tags_and_final_bytes_at_their_limits() {
 fn a_wrong_rule_is_found_wherever_it_stands() {
     let sound = of_counts(3, 64, 0, 1024);
     for at in [0, 1, 511, 1022, 1023] {
-        let wrong: [(fn(&mut Rule), Option<u8>); 5] = [
-            (|rule| rule.symbol = 3, Some(6)),
-            (|rule| rule.target = 64, Some(6)),
-            (|rule| rule.children[3] = 64, Some(6)),
-            (|rule| rule.children[3] = 65_535, Some(6)),
-            (|rule| rule.target = 63, None),
-        ];
-        for (change, expected) in wrong {
+        let with = |change: fn(&mut Rule)| {
             let mut automaton = sound.clone();
             change(&mut automaton.rules[at]);
-            assert_eq!(number(&automaton), expected, "rule {at}");
-        }
+            number(&automaton)
+        };
+        assert_eq!(with(|rule| rule.symbol = 3), Some(6), "rule {at}");
+        assert_eq!(with(|rule| rule.target = 64), Some(6), "rule {at}");
+        assert_eq!(with(|rule| rule.children[3] = 64), Some(6), "rule {at}");
+        assert_eq!(with(|rule| rule.children[3] = 65_535), Some(6), "rule {at}");
+        assert_eq!(with(|rule| rule.target = 63), None, "rule {at}");
     }
 }
 

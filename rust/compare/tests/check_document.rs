@@ -1,7 +1,7 @@
 //! The library's check of a row table against the reference's.
 
 use compare::answer::Answer;
-use compare::case::{Case, Input};
+use compare::case::{Case, Expected, Input};
 use compare::library::check::check_document;
 use compare::tally::{Tally, SET, TABLE};
 use generate::{documents, rows, set_bytes, sets, Random};
@@ -11,10 +11,11 @@ use reference::{Automaton, Row, Scalar};
 
 /// Compares one call, and answers what both answered.
 fn compare(set: &[u8], rows: &[u16]) -> Answer {
-    let inputs = [("set", Input::Set(set)), ("rows", Input::Cells(rows, ROW_CELLS))];
-    let case = Case { function: "check_document", inputs: &inputs };
+    let library = check_document(set, rows);
     let reference = Answer::of_reference(reference::check_document(set, rows).map(|_| 0));
-    case.same_answer(check_document(set, rows), reference);
+    let inputs = [("set", Input::Set(set)), ("rows", Input::Cells(rows, ROW_CELLS))];
+    let expected = Expected::Exactly(reference);
+    Case { function: "check_document", inputs: &inputs, library, expected }.same_answer();
     reference
 }
 

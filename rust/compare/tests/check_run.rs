@@ -1,7 +1,7 @@
 //! The library's check of a written run against the reference's.
 
 use compare::answer::Answer;
-use compare::case::{Case, Input};
+use compare::case::{Case, Expected, Input};
 use compare::library::membership::check_run;
 use compare::tally::{Tally, RUN, SET, TABLE};
 use generate::{documents, rows, runs, set_bytes, sets, Random};
@@ -18,9 +18,10 @@ fn compare(set: &[u8], rows: &[u16], run: &[u16]) -> Answer {
         ("rows", Input::Cells(rows, ROW_CELLS)),
         ("run", Input::Cells(run, STEP_CELLS)),
     ];
-    let case = Case { function: "check_run", inputs: &inputs };
+    let library = check_run(set, rows, run);
     let reference = Answer::of_reference(reference::check_run(set, rows, run).map(|()| 0));
-    case.same_answer(check_run(set, rows, run), reference);
+    let expected = Expected::Exactly(reference);
+    Case { function: "check_run", inputs: &inputs, library, expected }.same_answer();
     reference
 }
 
@@ -35,11 +36,8 @@ fn seeded_runs() {
         let Some(document) = documents::document(random, &automaton, most) else { continue };
         let run = runs::lent(random, &automaton, &document, 60);
         let set = set_bytes::stored(random, &automaton, 15);
-        let table = if random.percent(20) {
-            rows::damaged(random, &automaton, document)
-        } else {
-            document.cells()
-        };
+        let table =
+            if random.percent(20) { rows::damaged(random, &automaton, document) } else { document.cells() };
         tally.count(compare(&set, &table, &run), |_| "passes");
     }
     let numbers = [&SET[..], &TABLE, &RUN].concat();

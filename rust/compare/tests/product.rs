@@ -6,8 +6,7 @@ use compare::library::boolean::product;
 use pairs::{of_counts, Operation};
 use reference::examples::{set_b, set_d, set_e};
 
-const PRODUCT: Operation =
-    Operation { name: "product", library: product, reference: reference::product };
+const PRODUCT: Operation = Operation { name: "product", library: product, reference: reference::product };
 
 #[test]
 fn seeded_pairs() {

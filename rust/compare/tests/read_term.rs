@@ -1,7 +1,7 @@
 //! The library's reader of term text against the reference's.
 
 use compare::answer::Answer;
-use compare::case::{Case, Input};
+use compare::case::{Case, Expected, Input};
 use compare::lent::Lent;
 use compare::library;
 use compare::tally::{Tally, NAMES, SET, TEXT};
@@ -20,14 +20,15 @@ fn compare(set: &[u8], site: &[u8], built_in: &[u8], text: &[u8], row_cells: usi
         ("text", Input::Text(text)),
         ("rows", Input::Space(row_cells)),
     ];
-    let case = Case { function: "read_term", inputs: &inputs };
     let mut rows = Lent::of_length(row_cells);
     let library = library::term::read_term(set, site, built_in, text, rows.space());
     let result = reference::read_term(set, site, built_in, text, row_cells);
     let written = result.as_ref().map_or(Vec::new(), |document| document.cells());
-    case.same_space("rows", &rows, &rows.with_front(&written));
     let reference = Answer::of_reference(result.map(|document| document.rows.len()));
-    case.same_answer(library, reference);
+    let expected = Expected::Exactly(reference);
+    let case = Case { function: "read_term", inputs: &inputs, library, expected };
+    case.same_answer();
+    case.same_space("rows", &rows, &rows.with_front(&written));
     reference
 }
 
@@ -190,6 +191,22 @@ fn lists_at_their_limits() {
     assert_eq!(number(b"s1", b"\ns0"), Some(66));
     assert_eq!(number(b"p\r\n", b""), Some(61));
     assert_eq!(number(b"s1", b"A"), Some(61));
+}
+
+#[test]
+fn names_of_16_bytes_for_64_symbols() {
+    let set = reference::Automaton { arities: vec![0; 64], rules: vec![], ..set_e() }.encode();
+    let names: Vec<String> = (0..64).map(|line| format!("abcdefghijklmn{line:02}")).collect();
+    let list = names.join("\n");
+    for (symbol, name) in names.iter().enumerate() {
+        let mut rows = Lent::of_length(ROW_CELLS);
+        let answer = library::term::read_term(&set, list.as_bytes(), b"", name.as_bytes(), rows.space());
+        assert_eq!(answer, Answer::Value(1));
+        assert_eq!(rows.contents()[0], symbol as u16);
+        assert_eq!(compare(&set, b"", list.as_bytes(), name.as_bytes(), ROW_CELLS), Answer::Value(1));
+        let same_twice = list.replace(name, &names[(symbol + 1) % 64]);
+        assert_eq!(compare(&set, same_twice.as_bytes(), b"", b"s0", 10).number(), Some(62));
+    }
 }
 
 #[test]

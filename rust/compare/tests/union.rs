@@ -6,8 +6,7 @@ use compare::library::boolean::union;
 use pairs::{of_counts, Operation};
 use reference::examples::{set_b, set_d, set_e};
 
-const UNION: Operation =
-    Operation { name: "union", library: union, reference: reference::union };
+const UNION: Operation = Operation { name: "union", library: union, reference: reference::union };
 
 #[test]
 fn seeded_pairs() {

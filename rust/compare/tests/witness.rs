@@ -1,7 +1,7 @@
 //! The library's dead or live with a sample against the reference's.
 
 use compare::answer::Answer;
-use compare::case::{Case, Input};
+use compare::case::{Case, Expected, Input};
 use compare::lent::Lent;
 use compare::library;
 use compare::tally::{Tally, SET};
@@ -13,14 +13,15 @@ use reference::{Automaton, Document};
 /// Compares one call with a row space of so many cells, and answers what both answered.
 fn compare(set: &[u8], row_cells: usize) -> Answer {
     let inputs = [("set", Input::Set(set)), ("rows", Input::Space(row_cells))];
-    let case = Case { function: "witness", inputs: &inputs };
     let mut rows = Lent::of_length(row_cells);
     let library = library::witness::witness(set, rows.space());
     let sample = reference::witness(set, row_cells);
     let written = sample.as_ref().ok().and_then(Option::as_ref).map(Document::cells);
-    case.same_space("rows", &rows, &rows.with_front(&written.unwrap_or_default()));
     let reference = Answer::of_reference(sample.map(|sample| sample.map_or(0, as_value)));
-    case.same_answer(library, reference);
+    let expected = Expected::Exactly(reference);
+    let case = Case { function: "witness", inputs: &inputs, library, expected };
+    case.same_answer();
+    case.same_space("rows", &rows, &rows.with_front(&written.unwrap_or_default()));
     reference
 }
 
@@ -79,9 +80,8 @@ fn the_examples_with_every_space() {
 
 /// Each state over two of the one before, so that the tree doubles 255 times; states counted up or down.
 fn doubling_set(number: fn(usize) -> usize) -> Automaton {
-    let mut rules: Vec<_> = (0..255)
-        .map(|below| rule(0, &[number(below), number(below)], number(below + 1)))
-        .collect();
+    let mut rules: Vec<_> =
+        (0..255).map(|below| rule(0, &[number(below), number(below)], number(below + 1))).collect();
     rules.push(rule(1, &[], number(0)));
     rules.sort();
     let is_final = |state: usize| state == number(255);

@@ -1,7 +1,7 @@
 //! The library's writer of term text against the reference's.
 
 use compare::answer::Answer;
-use compare::case::{Case, Input};
+use compare::case::{Case, Expected, Input};
 use compare::lent::Lent;
 use compare::library;
 use compare::tally::{Tally, NAMES, SET, TABLE};
@@ -19,14 +19,15 @@ fn compare(set: &[u8], site: &[u8], built_in: &[u8], rows: &[u16], space: usize)
         ("rows", Input::Cells(rows, ROW_CELLS)),
         ("text", Input::Space(space)),
     ];
-    let case = Case { function: "write_term", inputs: &inputs };
     let mut text = Lent::of_length(space);
     let library = library::term::write_term(set, site, built_in, rows, text.space());
     let result = reference::write_term(set, site, built_in, rows, space);
-    let written = result.as_deref().unwrap_or(&[]);
-    case.same_space("text", &text, &text.with_front(written));
+    let written = result.clone().unwrap_or_default();
     let reference = Answer::of_reference(result.map(|text| text.len()));
-    case.same_answer(library, reference);
+    let expected = Expected::Exactly(reference);
+    let case = Case { function: "write_term", inputs: &inputs, library, expected };
+    case.same_answer();
+    case.same_space("text", &text, &text.with_front(&written));
     reference
 }
 
@@ -82,6 +83,22 @@ fn texts_too_long_for_any_space() {
     }
     let doubling = documents::chain(&set_e(), 256).expect("there is a leaf");
     assert_eq!(compare(&set_e().encode(), b"", b"", &doubling.cells(), 5000).number(), Some(68));
+}
+
+/// Lengths that a sum of 16, 32 or 64 bits would take for small ones: pairs of pairs of a leaf have
+/// 7 * 2^n - 5 bytes, and each g around them adds 4.
+#[test]
+fn texts_whose_length_would_wrap_around() {
+    let set = reference::Automaton { arities: vec![2, 0, 0, 1], rules: vec![], ..set_e() };
+    for levels in [17, 18, 33, 34, 64, 65, 66, 67, 130, 240] {
+        let mut document = documents::chain(&set, levels).expect("there is a leaf");
+        for _ in 0..6 {
+            let children = vec![document.last()];
+            document.rows.push(Row { symbol: 3, children, scalar: Scalar::Bare });
+            let answer = compare(&set.encode(), b"", b"", &document.cells(), 400);
+            assert_eq!(answer.number(), Some(68), "{levels} levels of pairs");
+        }
+    }
 }
 
 /// Rows over a leaf with two, three or four children that are all the row below.

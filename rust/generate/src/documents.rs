@@ -31,7 +31,7 @@ pub fn scalar(random: &mut Random) -> Scalar {
         5 | 6 => Scalar::Count(random.pick(&[0, 1, 2, 7, 10, u64::MAX])),
         7 => Scalar::Name(random.pick(&[0, 1, 10, u32::MAX])),
         8 => Scalar::Rate(random.pick(&[0, 1 << 63, 0x7ff8_0000_0000_0001, 1.5f64.to_bits()])),
-        _ => Scalar::Count(random.next() >> random.below(64)),
+        _ => Scalar::Count(random.word() >> random.below(64)),
     }
 }
 
@@ -60,20 +60,12 @@ fn leaf(random: &mut Random, leaves: &[usize]) -> Row {
 }
 
 /// A row over rows below a number, recent ones being likelier.
-fn over_recent_rows(
-    random: &mut Random,
-    automaton: &Automaton,
-    inner: &[usize],
-    number: usize,
-) -> Row {
+fn over_recent_rows(random: &mut Random, automaton: &Automaton, inner: &[usize], number: usize) -> Row {
     let symbol = random.pick(inner);
     let reach = number.min(6);
-    let mut child = || number - 1 - if random.percent(80) { random.below(reach) } else { random.below(number) };
-    Row {
-        symbol,
-        children: (0..automaton.arity(symbol)).map(|_| child()).collect(),
-        scalar: Scalar::Bare,
-    }
+    let mut child =
+        || number - 1 - if random.percent(80) { random.below(reach) } else { random.below(number) };
+    Row { symbol, children: (0..automaton.arity(symbol)).map(|_| child()).collect(), scalar: Scalar::Bare }
 }
 
 /// The sound table of the last row's tree: equal rows become one, unused rows go, the order stays.
@@ -107,7 +99,7 @@ pub fn broad(random: &mut Random, automaton: &Automaton, rows: usize) -> Option<
     let arity = automaton.arity(widest);
     let leaf_count = if arity == 1 { 1 } else { most_leaves(rows, arity) };
     let mut table: Vec<Row> = Vec::new();
-    let first_count = random.next() >> 1;
+    let first_count = random.word() >> 1;
     for number in 0..leaf_count {
         let scalar = Scalar::Count(first_count + number as u64);
         table.push(Row { symbol: first_leaf, children: Vec::new(), scalar });
@@ -168,13 +160,8 @@ pub fn grown(random: &mut Random, automaton: &Automaton, most: usize) -> Option<
         return None;
     }
     let depth = random.between(1, 6);
-    let mut grower = Grower {
-        automaton,
-        ranks,
-        rows: Vec::new(),
-        row_of_tag: [None; MAX_TAGS],
-        most: most.min(MAX_ROWS),
-    };
+    let mut grower =
+        Grower { automaton, ranks, rows: Vec::new(), row_of_tag: [None; MAX_TAGS], most: most.min(MAX_ROWS) };
     let root = random.pick(&finals);
     grower.grow(random, root, depth)?;
     let mut rows = grower.rows;

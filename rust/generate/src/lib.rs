@@ -8,8 +8,8 @@ pub mod pairs;
 pub mod random;
 pub mod rows;
 pub mod runs;
-pub mod sets;
 pub mod set_bytes;
+pub mod sets;
 pub mod texts;
 
 pub use random::Random;

@@ -59,7 +59,9 @@ fn damage(random: &mut Random, list: &mut Vec<u8>, symbols: usize) {
 
 /// Puts a byte in, takes one out, or changes one.
 fn change_a_byte(random: &mut Random, list: &mut Vec<u8>) {
-    let byte = random.pick(&[b'a', b'0', b'9', b'z', b'A', b'Z', b'_', b' ', 9, 10, 10, 13, b'`', b'{', b'/', b':', 0, 255]);
+    let byte = random.pick(&[
+        b'a', b'0', b'9', b'z', b'A', b'Z', b'_', b' ', 9, 10, 10, 13, b'`', b'{', b'/', b':', 0, 255,
+    ]);
     let at = random.below(list.len() + 1);
     match random.below(3) {
         0 if at < list.len() => list[at] = byte,

@@ -10,7 +10,8 @@ impl Random {
         Random { state: seed }
     }
 
-    pub fn next(&mut self) -> u64 {
+    /// The next 64 bits.
+    pub fn word(&mut self) -> u64 {
         self.state = self.state.wrapping_add(0x9e37_79b9_7f4a_7c15);
         let mut mixed = self.state;
         mixed = (mixed ^ mixed >> 30).wrapping_mul(0xbf58_476d_1ce4_e5b9);
@@ -20,7 +21,7 @@ impl Random {
 
     /// A number below `end`, which is not 0. The slight bias of the remainder does not matter here.
     pub fn below(&mut self, end: usize) -> usize {
-        (self.next() % end as u64) as usize
+        (self.word() % end as u64) as usize
     }
 
     /// A number from `low` to `high`, both included.
@@ -39,9 +40,8 @@ impl Random {
 
     /// A 16-bit number to put in the place of an old one: a limit, a neighbour, one changed bit, or any.
     pub fn telling_number(&mut self, old: u16) -> u16 {
-        const EDGES: [u16; 22] = [
-            0, 1, 2, 3, 4, 5, 8, 9, 15, 16, 17, 63, 64, 65, 255, 256, 257, 1023, 1024, 1025, 65534, 65535,
-        ];
+        const EDGES: [u16; 22] =
+            [0, 1, 2, 3, 4, 5, 8, 9, 15, 16, 17, 63, 64, 65, 255, 256, 257, 1023, 1024, 1025, 65534, 65535];
         match self.below(8) {
             0 | 1 => self.pick(&EDGES),
             2 => old.wrapping_add(1),
@@ -49,7 +49,7 @@ impl Random {
             4 => old ^ 1 << self.below(16),
             5 => self.below(8) as u16,
             6 => 65535,
-            _ => self.next() as u16,
+            _ => self.word() as u16,
         }
     }
 
@@ -60,7 +60,7 @@ impl Random {
             0 | 1 => self.pick(&EDGES),
             2 => old.wrapping_add(1),
             3 => old ^ 1 << self.below(8),
-            _ => self.next() as u8,
+            _ => self.word() as u8,
         }
     }
 }

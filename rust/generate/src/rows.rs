@@ -7,12 +7,7 @@ use crate::{documents, Random};
 
 /// The cells of a table that is mostly sound; damaged in so many of a hundred cases. Where the set
 /// allows no document, a bare leaf stands in.
-pub fn lent(
-    random: &mut Random,
-    automaton: &Automaton,
-    most: usize,
-    damaged_percent: usize,
-) -> Vec<u16> {
+pub fn lent(random: &mut Random, automaton: &Automaton, most: usize, damaged_percent: usize) -> Vec<u16> {
     let leaf = Row { symbol: 0, children: Vec::new(), scalar: Scalar::Bare };
     let document = documents::document(random, automaton, most);
     let document = document.unwrap_or(Document { rows: vec![leaf] });
@@ -80,7 +75,7 @@ pub fn add_an_unused_row(random: &mut Random, automaton: &Automaton, document: &
     let leaf = (0..automaton.arities.len()).find(|&symbol| automaton.arity(symbol) == 0);
     if let Some(symbol) = leaf {
         let number = random.below(document.rows.len());
-        let scalar = Scalar::Count(random.next());
+        let scalar = Scalar::Count(random.word());
         insert(document, number, Row { symbol, children: Vec::new(), scalar });
     }
 }

@@ -35,7 +35,7 @@ pub fn lent(
 /// single step that hardly fits.
 fn some_run(random: &mut Random, automaton: &Automaton, document: &Document) -> Vec<Step> {
     let mut lenient = automaton.clone();
-    let any_tags = random.percent(35);
+    let any_tags = random.percent(45);
     let any_end = random.percent(20);
     for state in &mut lenient.states {
         state.tags = if any_tags { 0 } else { state.tags };

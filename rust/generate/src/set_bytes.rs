@@ -89,7 +89,7 @@ fn change_length(random: &mut Random, bytes: &mut Vec<u8>) {
         bytes.truncate(bytes.len().saturating_sub(cut));
     } else {
         let added = random.pick(&[1, 2, 12, 256]);
-        bytes.resize(bytes.len() + added, random.next() as u8);
+        bytes.resize(bytes.len() + added, random.word() as u8);
     }
 }
 

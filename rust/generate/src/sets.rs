@@ -147,8 +147,7 @@ fn within(random: &mut Random, range: &RangeInclusive<usize>) -> usize {
 
 /// Numbers of children, few being likelier; the last symbol is mostly a leaf, so that trees exist.
 fn arities(random: &mut Random, symbols: usize) -> Vec<u8> {
-    let mut arities: Vec<u8> =
-        (0..symbols).map(|_| random.pick(&[0, 0, 0, 1, 1, 2, 2, 2, 3, 4])).collect();
+    let mut arities: Vec<u8> = (0..symbols).map(|_| random.pick(&[0, 0, 0, 1, 1, 2, 2, 2, 3, 4])).collect();
     if random.percent(95) {
         arities[symbols - 1] = 0;
     }
@@ -160,7 +159,7 @@ fn states(random: &mut Random, count: usize, tag_count: usize) -> Vec<State> {
     let tagged = random.pick(&[10, 30, 80]);
     (0..count)
         .map(|_| {
-            let mask = if random.percent(70) { 1 << random.below(8) } else { random.next() as u8 };
+            let mask = if random.percent(70) { 1 << random.below(8) } else { random.word() as u8 };
             State {
                 is_final: random.percent(40),
                 tags: if random.percent(tagged) { mask & allowed } else { 0 },

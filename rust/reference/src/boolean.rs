@@ -31,12 +31,7 @@ fn check_both(first: &[u8], second: &[u8]) -> Result<(Automaton, Automaton), Ref
     Ok((first, second))
 }
 
-fn result_is_too_large(
-    first: &Automaton,
-    second: &Automaton,
-    states: usize,
-    rules: usize,
-) -> bool {
+fn result_is_too_large(first: &Automaton, second: &Automaton, states: usize, rules: usize) -> bool {
     states > MAX_STATES || first.tag_count + second.tag_count > MAX_TAGS || rules > MAX_RULES
 }
 
@@ -49,10 +44,10 @@ fn write(result: &Automaton, space: usize) -> Result<Vec<u8>, Refusal> {
 /// The first set's states and tags, then the second's, shifted.
 pub fn united(first: &Automaton, second: &Automaton) -> Automaton {
     let shift = first.states.len();
-    let shifted_states = second.states.iter().map(|state| State {
-        is_final: state.is_final,
-        tags: shifted(state.tags, first.tag_count),
-    });
+    let shifted_states = second
+        .states
+        .iter()
+        .map(|state| State { is_final: state.is_final, tags: shifted(state.tags, first.tag_count) });
     let shifted_rules = second.rules.iter().map(|rule| Rule {
         symbol: rule.symbol,
         children: rule.children.iter().map(|child| child + shift).collect(),
@@ -88,12 +83,7 @@ pub fn multiplied(first: &Automaton, second: &Automaton) -> Automaton {
         })
         .collect();
     rules.sort();
-    Automaton {
-        arities: first.arities.clone(),
-        states,
-        tag_count: first.tag_count + second.tag_count,
-        rules,
-    }
+    Automaton { arities: first.arities.clone(), states, tag_count: first.tag_count + second.tag_count, rules }
 }
 
 /// The second set's tags, moved past the first set's; with 8 tags in the first, none are left.
@@ -102,10 +92,7 @@ fn shifted(tags: u8, by: usize) -> u8 {
 }
 
 /// Every pair of rules with the same symbol.
-fn rule_pairs<'a>(
-    first: &'a Automaton,
-    second: &'a Automaton,
-) -> impl Iterator<Item = (&'a Rule, &'a Rule)> {
+fn rule_pairs<'a>(first: &'a Automaton, second: &'a Automaton) -> impl Iterator<Item = (&'a Rule, &'a Rule)> {
     first.rules.iter().flat_map(|one| {
         second.rules.iter().filter(|other| other.symbol == one.symbol).map(move |other| (one, other))
     })

@@ -43,15 +43,12 @@ pub fn lets_in(automaton: &Automaton, tree: &Tree) -> bool {
 
 /// The annotations of all rows, each read off from the runs on the row's tree.
 pub fn annotations(automaton: &Automaton, document: &Document) -> HashSet<Annotation> {
-    let trees: Vec<Tree> =
-        (0..document.rows.len()).map(|row| Tree::of_row(document, row)).collect();
+    let trees: Vec<Tree> = (0..document.rows.len()).map(|row| Tree::of_row(document, row)).collect();
     let mut found = HashSet::new();
     for (row, tree) in trees.iter().enumerate() {
         let positions = Positions::of(tree);
         for states in every_labelling(positions.subtrees.len(), automaton.states.len()) {
-            if respects_rules(automaton, &positions, &states)
-                && tags_agree(automaton, &positions, &states)
-            {
+            if respects_rules(automaton, &positions, &states) && tags_agree(automaton, &positions, &states) {
                 found.insert(read_off(automaton, &trees, row, &positions, &states));
             }
         }

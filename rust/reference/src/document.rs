@@ -61,8 +61,7 @@ fn row_count_is_wrong(cells: &[u16]) -> bool {
 fn a_child_place_is_wrong(automaton: &Automaton, lent: &[LentRow]) -> bool {
     lent.iter().enumerate().any(|(number, row)| {
         let (used, unused) = row.places.split_at(automaton.arity(row.symbol));
-        used.iter().any(|&child| usize::from(child) >= number)
-            || unused.iter().any(|&place| place != UNUSED)
+        used.iter().any(|&child| usize::from(child) >= number) || unused.iter().any(|&place| place != UNUSED)
     })
 }
 
@@ -179,8 +178,7 @@ impl Document {
 
     /// Whether a row, not the last, is a child of no later row. Children are lower, so any user is later.
     fn has_unused_row(&self) -> bool {
-        let used: HashSet<usize> =
-            self.rows.iter().flat_map(|row| row.children.iter().copied()).collect();
+        let used: HashSet<usize> = self.rows.iter().flat_map(|row| row.children.iter().copied()).collect();
         (0..self.last()).any(|row| !used.contains(&row))
     }
 }

@@ -57,11 +57,7 @@ pub fn membership(
 }
 
 /// The decision, or 31 where there are more distinct annotations over all rows than the room.
-pub fn judge(
-    automaton: &Automaton,
-    document: &Document,
-    room: usize,
-) -> Result<Judgement, Refusal> {
+pub fn judge(automaton: &Automaton, document: &Document, room: usize) -> Result<Judgement, Refusal> {
     let mut annotations = Annotations::new(automaton, document);
     for row in 0..document.rows.len() {
         for rule in 0..automaton.rules.len() {
@@ -117,9 +113,7 @@ impl<'a> Annotations<'a> {
     /// the annotations that first gave it.
     fn joined_memories(&self, row: usize, rule: &Rule) -> BTreeMap<Memory, Vec<usize>> {
         let mut joined = BTreeMap::from([(EMPTY_MEMORY, Vec::new())]);
-        for (&child_row, &child_state) in
-            self.document.rows[row].children.iter().zip(&rule.children)
-        {
+        for (&child_row, &child_state) in self.document.rows[row].children.iter().zip(&rule.children) {
             let mut longer = BTreeMap::new();
             for (memory, chosen) in &joined {
                 for &index in &self.on_row[child_row] {

@@ -6,14 +6,9 @@ use crate::limits::{MAX_LIST_LINES, MAX_NAME_BYTES};
 use crate::refusal::{refuse_if, Refusal};
 
 /// The name shown for each of a set's symbols, once both lists have been checked.
-pub fn check_names(
-    site: &[u8],
-    built_in: &[u8],
-    symbols: usize,
-) -> Result<Vec<Vec<u8>>, Refusal> {
+pub fn check_names(site: &[u8], built_in: &[u8], symbols: usize) -> Result<Vec<Vec<u8>>, Refusal> {
     refuse_if(list_is_wrong(site) || list_is_wrong(built_in), 61)?;
-    let shown: Vec<Vec<u8>> =
-        (0..symbols).map(|symbol| shown_name(site, built_in, symbol)).collect();
+    let shown: Vec<Vec<u8>> = (0..symbols).map(|symbol| shown_name(site, built_in, symbol)).collect();
     let distinct: HashSet<&Vec<u8>> = shown.iter().collect();
     refuse_if(distinct.len() < shown.len(), 62)?;
     Ok(shown)

@@ -38,11 +38,7 @@ pub fn check_run(set: &[u8], rows: &[u16], run: &[u16]) -> Result<(), Refusal> {
 }
 
 /// Checks a run's cells. Each number is tried over all steps before the next one is.
-pub fn check_steps(
-    automaton: &Automaton,
-    document: &Document,
-    cells: &[u16],
-) -> Result<(), Refusal> {
+pub fn check_steps(automaton: &Automaton, document: &Document, cells: &[u16]) -> Result<(), Refusal> {
     refuse_if(step_count_is_wrong(cells), 21)?;
     let run = Run { automaton, document, steps: read_steps(cells) };
     refuse_if(run.names_unknown_rule_or_row(), 22)?;
@@ -87,9 +83,9 @@ impl Run<'_> {
     }
 
     fn names_unknown_rule_or_row(&self) -> bool {
-        self.steps.iter().any(|step| {
-            step.rule >= self.automaton.rules.len() || step.row >= self.document.rows.len()
-        })
+        self.steps
+            .iter()
+            .any(|step| step.rule >= self.automaton.rules.len() || step.row >= self.document.rows.len())
     }
 
     fn a_step_does_not_fit(&self) -> bool {

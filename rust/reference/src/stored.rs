@@ -2,8 +2,7 @@
 
 use crate::automaton::{Automaton, Rule, State};
 use crate::limits::{
-    HEADER_BYTES, MAX_CHILDREN, MAX_RULES, MAX_STATES, MAX_SYMBOLS, MAX_TAGS, RULE_BYTES,
-    STATE_BYTES, UNUSED,
+    HEADER_BYTES, MAX_CHILDREN, MAX_RULES, MAX_STATES, MAX_SYMBOLS, MAX_TAGS, RULE_BYTES, STATE_BYTES, UNUSED,
 };
 use crate::refusal::{refuse_if, Refusal};
 
@@ -104,9 +103,7 @@ impl Parts {
 
     fn a_state_is_wrong(&self, tags: usize) -> bool {
         let allowed = (1u16 << tags) - 1;
-        self.states
-            .iter()
-            .any(|state| state.is_final > 1 || u16::from(state.tags) & !allowed != 0)
+        self.states.iter().any(|state| state.is_final > 1 || u16::from(state.tags) & !allowed != 0)
     }
 
     fn a_rule_is_wrong(&self) -> bool {

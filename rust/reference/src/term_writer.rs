@@ -20,11 +20,7 @@ pub fn write_term(
 }
 
 /// The text of a document, unless it is longer than the space.
-pub fn text_within(
-    document: &Document,
-    names: &[Vec<u8>],
-    space: usize,
-) -> Result<Vec<u8>, Refusal> {
+pub fn text_within(document: &Document, names: &[Vec<u8>], space: usize) -> Result<Vec<u8>, Refusal> {
     refuse_if(text_length(document, names) > space, 68)?;
     let mut text = Vec::new();
     write_row(document, names, document.last(), &mut text);

@@ -16,8 +16,7 @@ pub fn witness(set: &[u8], row_cells: usize) -> Result<Option<Document>, Refusal
 }
 
 fn two_states_share_a_tag(automaton: &Automaton) -> bool {
-    (0..automaton.tag_count)
-        .any(|tag| automaton.states.iter().filter(|state| state.has_tag(tag)).count() > 1)
+    (0..automaton.tag_count).any(|tag| automaton.states.iter().filter(|state| state.has_tag(tag)).count() > 1)
 }
 
 /// How a state got its mark: in which round, by which rule.
@@ -60,15 +59,10 @@ fn mark_in_rounds(automaton: &Automaton) -> Vec<Option<Mark>> {
 }
 
 /// The marks that one round adds to those of earlier rounds: for each state the first rule in stored order.
-fn marks_of_round(
-    automaton: &Automaton,
-    marks: &[Option<Mark>],
-    round: usize,
-) -> Vec<(usize, Mark)> {
+fn marks_of_round(automaton: &Automaton, marks: &[Option<Mark>], round: usize) -> Vec<(usize, Mark)> {
     let mut added: Vec<(usize, Mark)> = Vec::new();
     for (number, rule) in automaton.rules.iter().enumerate() {
-        let is_new =
-            marks[rule.target].is_none() && added.iter().all(|(state, _)| *state != rule.target);
+        let is_new = marks[rule.target].is_none() && added.iter().all(|(state, _)| *state != rule.target);
         if is_new && rule.children.iter().all(|&child| marks[child].is_some()) {
             added.push((rule.target, Mark { round, rule: number }));
         }

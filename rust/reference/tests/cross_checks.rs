@@ -160,7 +160,7 @@ fn all_lists(trees: &[Tree], length: usize) -> Vec<Vec<Tree>> {
     let mut lists = Vec::new();
     for list in all_lists(trees, length - 1) {
         for tree in trees {
-            lists.push([&list[..], &[tree.clone()]].concat());
+            lists.push([&list[..], std::slice::from_ref(tree)].concat());
         }
     }
     lists
@@ -180,11 +180,7 @@ fn table_of(tree: &Tree) -> Document {
 
 /// The levels of the lowest tree, of at most three levels, that a set lets in.
 fn lowest_tree_let_in(automaton: &Automaton, trees: &[Tree]) -> Option<usize> {
-    trees
-        .iter()
-        .filter(|tree| says_yes(automaton, &table_of(tree)))
-        .map(Tree::height)
-        .min()
+    trees.iter().filter(|tree| says_yes(automaton, &table_of(tree))).map(Tree::height).min()
 }
 
 #[test]

@@ -7,8 +7,8 @@ use reference::examples::{rule, set_b, set_d, set_e, set_g, state};
 use reference::limits::{ROW_CELLS, UNUSED};
 use reference::run::{check_steps, run_cells};
 use reference::{
-    check_automaton, check_document, judge_program, product, read_term, sample_program, union,
-    witness, write_term, Automaton, Refusal,
+    check_automaton, check_document, judge_program, product, read_term, sample_program, union, witness,
+    write_term, Automaton, Refusal,
 };
 
 /// E and B demanded together.
@@ -138,9 +138,7 @@ fn fifty_eight_bytes_of_e_give_3() {
 fn a_table_of_1024_rows_passes_and_1025_give_11() {
     let set = set_e();
     let cells = |rows: usize| {
-        generate::documents::broad(&mut generate::Random::new(1), &set, rows)
-            .expect("E has leaves")
-            .cells()
+        generate::documents::broad(&mut generate::Random::new(1), &set, rows).expect("E has leaves").cells()
     };
     assert_eq!(cells(1024).len(), 1024 * ROW_CELLS);
     assert!(check_document(&set.encode(), &cells(1024)).is_ok());
@@ -204,12 +202,7 @@ fn the_judging_program_has_room_for_512_annotations() {
     for target in 0..3 {
         rules.push(rule(1, &[], target));
     }
-    let set = Automaton {
-        arities: vec![1, 0],
-        states: vec![state(true, 0); 3],
-        tag_count: 0,
-        rules,
-    };
+    let set = Automaton { arities: vec![1, 0], states: vec![state(true, 0); 3], tag_count: 0, rules };
     let chain = |rows: usize| format!("{}s1{}", "s0(".repeat(rows - 1), ")".repeat(rows - 1));
     let judged = |rows: usize| judge_program(&[&set.encode(), chain(rows).as_bytes()].concat());
     assert_eq!(judged(170), b"yes\n");

@@ -6,12 +6,14 @@ use common::{document, ROW_SPACE};
 use reference::examples::{rule, set_d, set_e, state};
 use reference::limits::ROW_CELLS;
 use reference::{
-    check_automaton, check_names, judge_program, membership, read_term, witness, Automaton,
-    Refusal,
+    check_automaton, check_names, judge_program, membership, read_term, witness, Automaton, Refusal,
 };
 
-/// What a text gives against set E without name lists: the number of rows, or number and place.
-fn read(text: &str, row_space: usize) -> Result<usize, (u8, usize)> {
+/// The number of rows, or a refusal's number and place.
+type Reading = Result<usize, (u8, usize)>;
+
+/// What a text gives against set E without name lists.
+fn read(text: &str, row_space: usize) -> Reading {
     read_term(&set_e().encode(), b"", b"", text.as_bytes(), row_space * ROW_CELLS)
         .map(|document| document.rows.len())
         .map_err(|refusal| (refusal.number, refusal.place.expect("a place")))
@@ -19,7 +21,7 @@ fn read(text: &str, row_space: usize) -> Result<usize, (u8, usize)> {
 
 #[test]
 fn texts_against_e() {
-    let cases: [(&str, usize, Result<usize, (u8, usize)>); 22] = [
+    let cases: [(&str, usize, Reading); 22] = [
         ("", 1024, Err((63, 0))),
         ("s1 ", 1024, Err((63, 2))),
         ("s9(", 1024, Err((65, 0))),
@@ -120,7 +122,10 @@ fn lines_of_a_list() {
 fn lines_past_the_last_symbol_must_be_names_but_are_not_shown() {
     assert_eq!(shown(b"\n\n\nA", b""), Err(61));
     assert_eq!(shown(b"\n\n\ns0", b""), Ok(vec!["s0".into(), "s1".into(), "s2".into()]));
-    assert_eq!(shown(b"thisnamehas16byt", b"x"), Ok(vec!["thisnamehas16byt".into(), "s1".into(), "s2".into()]));
+    assert_eq!(
+        shown(b"thisnamehas16byt", b"x"),
+        Ok(vec!["thisnamehas16byt".into(), "s1".into(), "s2".into()])
+    );
     assert_eq!(shown(b"thisnamehas17byte", b""), Err(61));
     assert_eq!(shown(b"9a", b""), Err(61));
     assert_eq!(shown(b"p", b"q\nq\n"), Ok(vec!["p".into(), "q".into(), "s2".into()]));

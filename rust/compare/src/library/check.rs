@@ -21,7 +21,5 @@ pub fn check_automaton(set: &[u8]) -> Answer {
 /// 0 for a sound table.
 pub fn check_document(set: &[u8], rows: &[u16]) -> Answer {
     // SAFETY: pointers and counts are those of slices that live through the call.
-    Answer::of_library(unsafe {
-        cidhomba_check_document(set.as_ptr(), set.len(), rows.as_ptr(), rows.len())
-    })
+    Answer::of_library(unsafe { cidhomba_check_document(set.as_ptr(), set.len(), rows.as_ptr(), rows.len()) })
 }

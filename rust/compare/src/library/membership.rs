@@ -27,14 +27,7 @@ extern "C" {
 pub fn check_run(set: &[u8], rows: &[u16], run: &[u16]) -> Answer {
     // SAFETY: pointers and counts are those of slices that live through the call.
     Answer::of_library(unsafe {
-        cidhomba_check_run(
-            set.as_ptr(),
-            set.len(),
-            rows.as_ptr(),
-            rows.len(),
-            run.as_ptr(),
-            run.len(),
-        )
+        cidhomba_check_run(set.as_ptr(), set.len(), rows.as_ptr(), rows.len(), run.as_ptr(), run.len())
     })
 }
 

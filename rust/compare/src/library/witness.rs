@@ -9,7 +9,5 @@ extern "C" {
 /// 0 for dead, rows + 65536 * levels for live.
 pub fn witness(set: &[u8], rows: &mut [u16]) -> Answer {
     // SAFETY: pointers and counts are those of slices that live through the call; `rows` is lent mutably.
-    Answer::of_library(unsafe {
-        cidhomba_witness(set.as_ptr(), set.len(), rows.as_mut_ptr(), rows.len())
-    })
+    Answer::of_library(unsafe { cidhomba_witness(set.as_ptr(), set.len(), rows.as_mut_ptr(), rows.len()) })
 }

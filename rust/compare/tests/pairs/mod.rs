@@ -1,36 +1,37 @@
 //! What the comparisons of union and product share.
 
 use compare::answer::Answer;
-use compare::case::{Case, Input};
+use compare::case::{Case, Expected, Input};
 use compare::lent::Lent;
 use compare::tally::{Tally, SET};
 use generate::{pairs, set_bytes, Random};
 use reference::examples::{rule, state};
 use reference::{Automaton, Refusal};
 
+/// An operation of the reference: the two sets and the length of the result space.
+type ByReference = fn(&[u8], &[u8], usize) -> Result<Vec<u8>, Refusal>;
+
 /// One of the two operations, as the library and as the reference have it.
 pub struct Operation {
     pub name: &'static str,
     pub library: fn(&[u8], &[u8], &mut [u8]) -> Answer,
-    pub reference: fn(&[u8], &[u8], usize) -> Result<Vec<u8>, Refusal>,
+    pub reference: ByReference,
 }
 
 impl Operation {
     /// Compares one call with a result space of so many bytes, and answers what both answered.
     pub fn compare(&self, first: &[u8], second: &[u8], space: usize) -> Answer {
-        let inputs = [
-            ("first", Input::Set(first)),
-            ("second", Input::Set(second)),
-            ("out", Input::Space(space)),
-        ];
-        let case = Case { function: self.name, inputs: &inputs };
+        let inputs =
+            [("first", Input::Set(first)), ("second", Input::Set(second)), ("out", Input::Space(space))];
         let mut out = Lent::of_length(space);
         let library = (self.library)(first, second, out.space());
         let result = (self.reference)(first, second, space);
-        let written = result.as_deref().unwrap_or(&[]);
-        case.same_space("out", &out, &out.with_front(written));
+        let written = result.clone().unwrap_or_default();
         let reference = Answer::of_reference(result.map(|bytes| bytes.len()));
-        case.same_answer(library, reference);
+        let expected = Expected::Exactly(reference);
+        let case = Case { function: self.name, inputs: &inputs, library, expected };
+        case.same_answer();
+        case.same_space("out", &out, &out.with_front(&written));
         reference
     }
 
@@ -76,7 +77,9 @@ impl Operation {
     pub fn compare_order_of_places(&self) {
         let sound = of_counts(2, 0, 2).encode();
         let other_symbols = Automaton { arities: vec![0], ..of_counts(2, 0, 0) }.encode();
-        let unsorted = { let mut set = of_counts(2, 0, 2); set.rules.reverse(); set.encode() };
+        let mut unsorted = of_counts(2, 0, 2);
+        unsorted.rules.reverse();
+        let unsorted = unsorted.encode();
         let number = |first: &[u8], second: &[u8]| self.compare(first, second, 9999).number();
         assert_eq!(number(&unsorted, b""), Some(7));
         assert_eq!(number(b"", &unsorted), Some(1));
@@ -90,7 +93,7 @@ impl Operation {
 /// A set over one symbol with four children, with so many states, tags and rules.
 pub fn of_counts(states: usize, tags: usize, rules: usize) -> Automaton {
     let digit = |number: usize, place: u32| number / states.pow(place) % states;
-    let numbered = |number: usize| rule(0, &[digit(number, 3), digit(number, 2), digit(number, 1), digit(number, 0)], 0);
+    let numbered = |number: usize| rule(0, &[3, 2, 1, 0].map(|place| digit(number, place)), 0);
     let tags_of = |number: usize| ((1u16 << tags) - 1) as u8 & number as u8;
     let mut rules: Vec<_> = (0..rules).map(numbered).collect();
     if states == 1 {
