@@ -58,3 +58,19 @@ impl fmt::Display for Answer {
         }
     }
 }
+
+#[cfg(test)]
+mod tests {
+    use super::*;
+
+    #[test]
+    fn words_of_the_c_interface() {
+        assert_eq!(Answer::of_library(0), Answer::Value(0));
+        assert_eq!(Answer::of_library((1 << 63) - 1), Answer::Value((1 << 63) - 1));
+        assert_eq!(Answer::of_library((1 << 63) + 7), Answer::Refused { number: 7, place: 0 });
+        let word = (1 << 63) + 768 * 256 + 64;
+        assert_eq!(Answer::of_library(word), Answer::Refused { number: 64, place: 768 });
+        assert_eq!(Answer::of_library(u64::MAX), Answer::Refused { number: 255, place: LARGEST_PLACE });
+        assert_eq!(Answer::of_reference(Err(Refusal::at(64, 768))), Answer::of_library(word));
+    }
+}

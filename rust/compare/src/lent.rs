@@ -59,3 +59,25 @@ impl<T: Element> Lent<T> {
         (0..GUARD).chain(inner_end..self.elements.len()).all(|at| self.elements[at] == T::junk(at))
     }
 }
+
+#[cfg(test)]
+mod tests {
+    use super::*;
+
+    #[test]
+    fn a_write_inside_shows_and_one_outside_is_caught() {
+        for length in [0, 1, 100] {
+            let mut lent: Lent<u8> = Lent::of_length(length);
+            assert_eq!(lent.space().len(), length);
+            assert_eq!(lent.contents(), lent.with_front(&[]));
+            lent.space().fill(0);
+            assert_eq!(lent.contents(), lent.zeros());
+            assert!(lent.guards_are_untouched());
+            for at in [GUARD - 1, GUARD + length] {
+                let mut lent: Lent<u8> = Lent::of_length(length);
+                lent.elements[at] ^= 1;
+                assert!(!lent.guards_are_untouched());
+            }
+        }
+    }
+}
