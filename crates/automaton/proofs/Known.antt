@@ -15,6 +15,9 @@ use Rattle.model.specs.Sound.{Sound}
 use Rattle.model.specs.Written.{noRule, ruleAt}
 use Rattle.model.proofs.Rows.{in-getD}
 use Rattle.automaton.specs.Stored.{decode}
+use Rattle.automaton.specs.declared.StoredRule.{StoredRule}
+use Rattle.automaton.specs.Answer.{Holds}
+use Rattle.automaton.specs.Encode.{encodePlaces, encodeRule}
 use Rattle.automaton.specs.Check.{checkOf}
 use Rattle.automaton.specs.Window.{FirstFrom}
 use Rattle.automaton.proofs.Parts.{below-or}
@@ -66,3 +69,7 @@ module _ (A : Automaton) (f low high : ℕ) (a : FirstFrom A f low) (b : FirstFr
     ⊎-elim (λ m. let y = a .before i m in absurd (omega arith)) (λ m. m) (below-or i low),
     ⊎-elim (λ m. m) (λ m. let y = b .after i m l in absurd (omega arith)) (below-or i high),
   )
+
+-- a rule that was read, or made with its places, is stored as the rule that it holds
+pub holds-bytes : (x : StoredRule) (r : Rule) → Holds x r → encodePlaces (x .symbol) (x .target .0) (x .places) ≡ encodeRule r
+holds-bytes x r h = rw (h .symbol, h .target, h .places)
