@@ -1,13 +1,12 @@
 -- What stands where in the stored form of a sound automaton. Assumes nothing.
 use mathlib.Core.Path.{_≡_, refl, sym, ap, _∙_}
-use mathlib.Core.Bool.{Bool, true, false, cond}
+use mathlib.Core.Bool.{cond}
 use mathlib.Core.Logic.{⊎-elim}
-use mathlib.Core.List.{List, [], _∷_, _++_, append-assoc, List·Memᴰ as In}
-use Prim.Native.Nat.{ℕ, zero, suc, _+_, _*_, _^_, _/_, _%_, _≤_, _<_}
+use mathlib.Core.List.{List, _∷_, _++_, append-assoc, List·Memᴰ as In}
+use Prim.Native.Nat.{ℕ, zero, suc, _+_, _*_, _/_, _%_, _≤_, _<_}
 use native.Mathlib.Nat.{mod-eq-of-lt, add-assoc, lt-of-lt-of-le}
 use native.Mathlib.Numerals.{add-two}
 use native.Mathlib.Omega.{arith}
-use lib.Dec.{eqb}
 use lib.ListN.{length, getD, length-append, List·getD-append, List·getD-eq-default}
 use lib.Pow.{pow-mono}
 use lib.Seq.{getD-append-add}
@@ -19,9 +18,9 @@ use Rattle.model.specs.Sound.{Sound}
 use Rattle.model.specs.Written.{noRule, ruleAt}
 use Rattle.model.proofs.Rows.{in-getD}
 use Rattle.model.proofs.Tab.{tab-at, length-tab}
-use Rattle.automaton.specs.Form.{headerWidth, stateWidth, ruleWidth, statesOffset, rulesOffset, totalLength}
+use Rattle.automaton.specs.Form.{headerWidth, stateWidth, ruleWidth, statesOffset, rulesOffset}
 use Rattle.automaton.specs.Stored.{word, symbolCount, stateCount, tagCount, ruleCount, symbolsAt, statesAt, rulesAt, statedTotal, symbolByte, stateByte, ruleWord, placeWord}
-use Rattle.automaton.specs.Encode.{encodeByte, encodeWord, encodeHeader, encodeSymbol, encodeState, encodePlaces, encodeRule, encode, encodedLength}
+use Rattle.automaton.specs.Encode.{encodeHeader, encodeSymbol, encodeState, encodePlaces, encodeRule, encode, encodedLength}
 use Rattle.automaton.proofs.Parts.{below-or, length-concat, concat-at}
 use Rattle.automaton.proofs.Words.{length-words, low-at, high-at, word-back}
 
