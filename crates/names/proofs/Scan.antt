@@ -107,7 +107,7 @@ module _ (s : List ℕ) (a i : ℕ) (v : Scanned s a i) where
       }
 
 -- the end of the list stands for every place behind it
-drop-inside : (s : List ℕ) (k : ℕ) → drop (min k (length s)) s ≡ drop k s
+pub drop-inside : (s : List ℕ) (k : ℕ) → drop (min k (length s)) s ≡ drop k s
 drop-inside [] k = let e : min k 0 ≡ 0 = omega arith in ap (λ n. drop n []) e ∙ sym (drop-nil k)
 drop-inside (x ∷ s) zero = let e : min 0 (suc (length s)) ≡ 0 = omega arith in ap (λ n. drop n (x ∷ s)) e
 drop-inside (x ∷ s) (suc k) =
