@@ -1,17 +1,18 @@
 -- Cells of a table: how one is written and read, and what a filled table holds. Assumes nothing.
 use mathlib.Core.Path.{_≡_, refl, sym, ap, subst, _∙_}
 use mathlib.Core.Logic.{_⊎_, inl, inr}
-use mathlib.Core.List.{List, [], _∷_, _++_, append-nil, append-assoc}
+use mathlib.Core.List.{List, [], _∷_, _++_, append-assoc}
 use Prim.Native.Nat.{ℕ, zero, suc, _+_, _-_, _*_, _/_, _%_, _<_, _≤_, min}
 use native.Mathlib.Nat.{eq-or-lt-of-le, le-of-suc-le-suc, le-antisymm, not-suc-le-zero}
 use native.Mathlib.Numerals.{add-one}
 use native.Mathlib.Omega.{arith}
+use borrow.Author.Needs.{needs}
 use borrow.Author.Tests.{lt-ltb, le-ltb, le-leb, lt-leb}
 use lib.ListN.{length, getD, take, drop, set, length-append, length-take, length-drop, length-set, take-append-drop, List·getD-append}
-use lib.Seq.{take-nil, take-suc-set, drop-set-lt, append-snoc, length-take-le, take-append-le, drop-append-le, getD-at, drop-at, take-at, take-take}
+use lib.Seq.{take-suc-set, drop-set-lt, append-snoc, length-take-le, take-append-le, drop-append-le, getD-at, drop-at, take-at}
 use Rattle.model.specs.Limits.{maxSymbols}
 use Rattle.names.specs.Places.{Starts}
-use Rattle.names.specs.Names.{maxName, orElse, nameOf, digits, decimal, numbered, shownName}
+use Rattle.names.specs.Names.{maxName, orElse, nameOf, digits, numbered, shownName}
 use Rattle.names.specs.Table.{putAt, cellBytes, cellOf, nameIn, withNames, tableOf}
 use Rattle.names.proofs.Scan.{drop-inside, starts-first, some-first, none-first}
 
@@ -206,3 +207,5 @@ module _ (site builtIn t : List ℕ) where
   pub holds : (n i : ℕ) → n * cellBytes ≤ length t → i < n → Holds n i
   holds zero i h l = absurd (not-suc-le-zero l)
   holds (suc n) i h l = holds-more n i h (λ k. holds n i (omega arith) k) (eq-or-lt-of-le (le-of-suc-le-suc l))
+
+pub ruleset cells = (clipped, cell-put, cell-too-long, part-put, number-put, filled-none, filled-more, filled-all, needs)

@@ -9,7 +9,7 @@ use native.Mathlib.Numerals.{add-one}
 use native.Mathlib.Omega.{arith}
 use borrow.Author.Needs.{needs}
 use Rattle.model.specs.Lists.{allBelow}
-use Rattle.names.specs.Names.{firstBelow}
+use Rattle.names.specs.Names.{orNext, firstBelow}
 
 -- at the loop's head: none below i passes
 pub record Unfound (p : ℕ → Bool) (n i : ℕ) : Type 0 where
@@ -17,7 +17,8 @@ pub record Unfound (p : ℕ → Bool) (n i : ℕ) : Type 0 where
   pub so-far : firstBelow i p ≡ none
 
 module _ (p : ℕ → Bool) where
-  first-at : (n i : ℕ) → firstBelow i p ≡ none → p i ≡ true → (i < n → firstBelow n p ≡ some i) → (i ≡ n) ⊎ (i < n) → firstBelow (suc n) p ≡ some i
+  first-at : (n i : ℕ) → firstBelow i p ≡ none → p i ≡ true → (i < n → firstBelow n p ≡ some i) → (i ≡ n) ⊎ (i < n)
+      → firstBelow (suc n) p ≡ some i
   unfolding firstBelow
   first-at n i z t below (inl e) = subst (λ k. firstBelow (suc k) p ≡ some i) e (rw (firstBelow, z, t))
   first-at n i z t below (inr l) = rw (firstBelow, below l)
@@ -51,7 +52,7 @@ unfolding firstBelow allBelow
 none-all p zero = refl
 none-all p (suc n) = go (firstBelow n p) (p n) ∙ ap (λ b. b && not (p n)) (none-all p n)
   where
-    go : (o : Option ℕ) (t : Bool) → none? (elim o as (λ o′. Option ℕ) [ none ↦ cond t (some n) none | some k ↦ some k ]) ≡ (none? o && not t)
+    go : (o : Option ℕ) (t : Bool) → none? (orNext o (cond t (some n) none)) ≡ (none? o && not t)
     go none true = refl
     go none false = refl
     go (some k) true = refl
@@ -77,7 +78,8 @@ unfolding firstBelow
 found-passes p zero i h = let z : _≡_ {A = ℕ} 0 1 = cc in absurd (omega arith)
 found-passes p (suc n) i h = go (firstBelow n p) (p n) refl refl (λ e. found-passes p n i e) h
   where
-    go : (o : Option ℕ) (t : Bool) → firstBelow n p ≡ o → p n ≡ t → (firstBelow n p ≡ some i → (i < n) × (p i ≡ true)) → elim o as (λ o′. Option ℕ) [ none ↦ cond t (some n) none | some k ↦ some k ] ≡ some i → (i < suc n) × (p i ≡ true)
+    go : (o : Option ℕ) (t : Bool) → firstBelow n p ≡ o → p n ≡ t → (firstBelow n p ≡ some i → (i < n) × (p i ≡ true))
+        → orNext o (cond t (some n) none) ≡ some i → (i < suc n) × (p i ≡ true)
     go none true eo et ih e = let q : n ≡ i = cc in (omega arith, subst (λ k. p k ≡ true) q et)
     go none false eo et ih e = let z : _≡_ {A = ℕ} 0 1 = cc in absurd (omega arith)
     go (some k) t eo et ih e = let r = ih (eo ∙ e) in (omega (arith, r .0), r .1)
@@ -87,5 +89,7 @@ pub first-same : (p q : ℕ → Bool) (n : ℕ) → ((i : ℕ) → i < n → p i
 unfolding firstBelow
 first-same p q zero h = refl
 first-same p q (suc n) h =
-    ap (λ o. elim o as (λ o′. Option ℕ) [ none ↦ cond (p n) (some n) none | some k ↦ some k ]) (first-same p q n (λ i l. h i (omega arith)))
-    ∙ ap (λ t. elim (firstBelow n q) as (λ o′. Option ℕ) [ none ↦ cond t (some n) none | some k ↦ some k ]) (h n (omega arith))
+    ap (λ o. orNext o (cond (p n) (some n) none)) (first-same p q n (λ i l. h i (omega arith)))
+    ∙ ap (λ t. orNext (firstBelow n q) (cond t (some n) none)) (h n (omega arith))
+
+pub ruleset finding = (unfound-none, unfound-more, found-at, found-none, needs)

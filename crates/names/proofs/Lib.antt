@@ -1,3 +1,4 @@
+pub mod Tests
 pub mod Strings
 pub mod Scan
 pub mod Naming

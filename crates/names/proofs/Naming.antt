@@ -1,15 +1,15 @@
 -- Tests of a name, one law for each way out of the code. Assumes nothing.
-use mathlib.Core.Path.{_≡_, refl, sym, ap, _∙_}
+use mathlib.Core.Path.{_≡_, sym, _∙_}
 use mathlib.Core.Bool.{Bool, true, false}
-use mathlib.Core.List.{List, [], _∷_}
-use Prim.Native.Nat.{ℕ, zero, suc, _<_, _≤_}
+use mathlib.Core.List.{List}
+use Prim.Native.Nat.{ℕ, _<_, _≤_}
 use native.Mathlib.Omega.{arith}
 use borrow.Author.Needs.{needs}
 use borrow.Author.Tests.{lt-ltb, le-ltb, le-leb, lt-leb, eq-eqb, ne-eqb}
 use lib.ListN.{length, getD}
 use Rattle.model.specs.Lists.{allBelow}
 use Rattle.names.specs.Names.{letter?, nameByte?, maxName, name?}
-use Rattle.names.specs.Check.{line?}
+use Rattle.names.specs.Check.{lineFits?}
 
 module _ (s : List ℕ) where
   pub empty-no-name : length s ≡ 0 → false ≡ name? s
@@ -29,10 +29,12 @@ module _ (s : List ℕ) where
     unfolding name?
     name-by b e is-all = let p : 0 < length s = omega arith in is-all ∙ simp (lt-ltb _ _ p, le-leb _ _ few, sym is, e)
 
-  pub empty-line : length s ≡ 0 → true ≡ line? s
-  unfolding line?
+  pub empty-line : length s ≡ 0 → true ≡ lineFits? s
+  unfolding lineFits?
   empty-line e = simp (eq-eqb _ _ e)
 
-  pub line-by : (b : Bool) → (length s ≡ 0 → ⊥) → b ≡ name? s → b ≡ line? s
-  unfolding line?
+  pub line-by : (b : Bool) → (length s ≡ 0 → ⊥) → b ≡ name? s → b ≡ lineFits? s
+  unfolding lineFits?
   line-by b n e = e ∙ simp (ne-eqb _ _ n)
+
+pub ruleset naming = (empty-no-name, long-no-name, no-name-first, name-by, empty-line, line-by, needs)

@@ -5,6 +5,7 @@ use mathlib.Core.List.{List, [], _∷_, _++_, append-nil}
 use Prim.Native.Nat.{ℕ, zero, suc, _+_, _-_, _<_, _≤_, min}
 use native.Mathlib.Nat.{add-zero}
 use native.Mathlib.Omega.{arith}
+use borrow.Author.Needs.{needs}
 use borrow.Author.Tests.{eq-eqb, ne-eqb}
 use lib.Dec.{eqb}
 use lib.ListN.{length, getD, take, drop, length-drop, drop-of-length-le}
@@ -168,3 +169,5 @@ module _ (site builtIn : List ℕ) (i a e : ℕ) (v : Starts site i a) (w : Ende
   unfolding nameOf
   name-second b f h v′ w′ =
       line-is builtIn i b v′ f w′ ∙ none-first (lineAt site i) (lineAt builtIn i) (let z = long in omega arith)
+
+pub ruleset scanning = (scan-none, scan-more, scan-stop, scan-end, starts-first, starts-next, starts-late, name-first, name-second, needs)

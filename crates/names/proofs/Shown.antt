@@ -1,53 +1,43 @@
 -- The names shown for the symbols of a set, where the two lists pass their check: theorems for the reader and the writer of text. Assumes nothing.
-use mathlib.Core.Path.{_≡_, refl, sym, ap, subst, _∙_}
-use mathlib.Core.Logic.{_⊎_, inl, inr, ⊎-elim}
-use mathlib.Core.Bool.{Bool, true, false, _&&_, _||_, not}
+use mathlib.Core.Path.{_≡_, refl, sym, ap, _∙_}
+use mathlib.Core.Logic.{⊎-elim}
+use mathlib.Core.Bool.{Bool, true, false, _&&_, not}
 use mathlib.Core.List.{List, [], _∷_}
-use mathlib.Core.Option.{Option, none, some}
-use Prim.Native.Nat.{ℕ, zero, suc, _+_, _*_, _<_, _≤_, min}
-use native.Mathlib.Nat.{eq-or-lt-of-le, min-eq-left}
+use mathlib.Core.Option.{some}
+use Prim.Native.Nat.{ℕ, _*_, _<_, _≤_}
+use native.Mathlib.Nat.{min-eq-left}
 use native.Mathlib.Omega.{arith}
-use borrow.Author.Tests.{leb-true, ltb-true, ltb-false}
+use borrow.Author.Tests.{leb-true}
 use lib.Dec.{T, leb, ltb, eqb·suc-zero}
-use lib.ListN.{length, getD, take, List·getD-eq-default}
+use lib.ListN.{length, List·getD-eq-default}
 use lib.Seq.{take-all}
 use Rattle.model.specs.Limits.{maxSymbols}
 use Rattle.model.specs.Lists.{allBelow, eqList}
 use Rattle.model.specs.Refusal.{demand}
 use Rattle.model.proofs.Below.{at}
-use Rattle.model.proofs.Members.{T-and, T-true, eqList→eq, eqList-refl}
+use Rattle.model.proofs.Members.{T-true, eqList→eq, eqList-refl}
 use Rattle.names.specs.Lines.{lines, lineAt, lineCount}
-use Rattle.names.specs.Names.{letter?, digit?, nameByte?, maxName, name?, orElse, nameOf, digits, decimal, numbered, shownName, findIn, findName, firstBelow}
-use Rattle.names.specs.Table.{nameIn, cellBytes, withNames, tableOf}
-use Rattle.names.specs.Check.{line?, lines?, new?, distinct?, namesCheckOf}
+use Rattle.names.specs.Names.{letter?, digit?, nameByte?, maxName, name?, orElse, nameOf, digits, numbered, shownName, findIn, findName}
+use Rattle.names.specs.Table.{nameIn, cellBytes, tableOf}
+use Rattle.names.specs.Check.{lineFits?, listFits?, new?, distinct?, namesCheckOf}
+use Rattle.names.proofs.Tests.{and-true, split, all-same}
 use Rattle.names.proofs.First.{first-is, unfound-all, found-passes, first-same}
-use Rattle.names.proofs.Cells.{Holds, holds}
-
-and-true : (a b : Bool) → (a && b) ≡ true → (a ≡ true) × (b ≡ true)
-and-true true b e = (refl, e)
-and-true false b e = (e, absurd (subst (λ x. T (not x)) e tt))
-
-split : (i n : ℕ) → (i < n) ⊎ (n ≤ i)
-split i n = go (ltb i n) refl
-  where
-    go : (t : Bool) → ltb i n ≡ t → (i < n) ⊎ (n ≤ i)
-    go true e = inl (ltb-true i n e)
-    go false e = inr (ltb-false i n e)
+use Rattle.names.proofs.Cells.{holds}
 
 -- each line is empty or a name
-line-fits : (s : List ℕ) (i : ℕ) → lines? s ≡ true → line? (lineAt s i) ≡ true
-unfolding lines? lineAt lineCount line?
+line-fits : (s : List ℕ) (i : ℕ) → listFits? s ≡ true → lineFits? (lineAt s i) ≡ true
+unfolding listFits? lineAt lineCount lineFits?
 line-fits s i h =
-    ⊎-elim (λ l. at (λ k. line? (lineAt s k)) (lineCount s) i (and-true (leb (lineCount s) maxSymbols) _ h .1) l)
-    (λ l. ap line? (List·getD-eq-default (lines s) [] l)) (split i (lineCount s))
+    ⊎-elim (λ l. at (λ k. lineFits? (lineAt s k)) (lineCount s) i (and-true (leb (lineCount s) maxSymbols) _ h .1) l)
+    (λ l. ap lineFits? (List·getD-eq-default (lines s) [] l)) (split i (lineCount s))
 
 -- the first of two is a name where it is not empty, else the second is
-or-line : (l o : List ℕ) → line? l ≡ true → line? o ≡ true → line? (orElse l o) ≡ true
+or-line : (l o : List ℕ) → lineFits? l ≡ true → lineFits? o ≡ true → lineFits? (orElse l o) ≡ true
 or-line [] o h g = g
 or-line (x ∷ xs) o h g = h
 
-or-name : (l o : List ℕ) → line? l ≡ true → name? o ≡ true → name? (orElse l o) ≡ true
-unfolding line?
+or-name : (l o : List ℕ) → lineFits? l ≡ true → name? o ≡ true → name? (orElse l o) ≡ true
+unfolding lineFits?
 or-name [] o h g = g
 or-name (x ∷ xs) o h g = rw (eqb·suc-zero (length xs)) at h
 
@@ -56,7 +46,7 @@ numbered-names : allBelow maxSymbols (λ i. name? (numbered i)) ≡ true
 unfolding allBelow name? numbered digits nameByte? letter? digit?
 numbered-names = refl
 
-module _ (site builtIn : List ℕ) (fit : lines? site ≡ true) (fit′ : lines? builtIn ≡ true) where
+module _ (site builtIn : List ℕ) (fit : listFits? site ≡ true) (fit′ : listFits? builtIn ≡ true) where
   pub shown-fits : (i : ℕ) → i < maxSymbols → name? (shownName site builtIn i) ≡ true
   unfolding shownName nameOf
   shown-fits i l =
@@ -69,17 +59,12 @@ name-short l h =
     leb-true _ _ (and-true (leb (length l) maxName) _ (and-true (ltb 0 (length l)) _ h .1) .0)
 
 -- a table holds the names shown
-module _ (site builtIn t : List ℕ) (fit : lines? site ≡ true) (fit′ : lines? builtIn ≡ true) (room : maxSymbols * cellBytes ≤ length t) where
+module _ (site builtIn t : List ℕ) (fit : listFits? site ≡ true) (fit′ : listFits? builtIn ≡ true) (room : maxSymbols * cellBytes ≤ length t) where
   pub held : (i : ℕ) → i < maxSymbols → nameIn (tableOf site builtIn t) i ≡ shownName site builtIn i
   held i l =
       holds site builtIn t maxSymbols i room l .name ∙ take-all maxName (shownName site builtIn i) (name-short _ (shown-fits site builtIn fit fit′ i l))
 
 -- tests of n names depend on these names alone
-all-same : (p q : ℕ → Bool) (n : ℕ) → ((i : ℕ) → i < n → p i ≡ q i) → allBelow n p ≡ allBelow n q
-unfolding allBelow
-all-same p q zero h = refl
-all-same p q (suc n) h = cc (all-same p q n (λ i l. h i (omega arith)), h n (omega arith))
-
 module _ (f g : ℕ → List ℕ) (n : ℕ) (same : (i : ℕ) → i < n → f i ≡ g i) where
   pub distinct-same : distinct? n f ≡ distinct? n g
   unfolding distinct? new?
@@ -93,15 +78,15 @@ module _ (f g : ℕ → List ℕ) (n : ℕ) (same : (i : ℕ) → i < n → f i 
 
 -- what the number 0 tells
 module _ (n : ℕ) (site builtIn : List ℕ) (passed : namesCheckOf n site builtIn ≡ 0) (few : n ≤ maxSymbols) where
-  pub both-pass : (lines? site ≡ true) × (lines? builtIn ≡ true) × (distinct? n (shownName site builtIn) ≡ true)
+  pub both-pass : (listFits? site ≡ true) × (listFits? builtIn ≡ true) × (distinct? n (shownName site builtIn) ≡ true)
   unfolding namesCheckOf demand
-  both-pass = go (lines? site) (lines? builtIn) (distinct? n (shownName site builtIn)) refl refl refl (rw (min-eq-left few) at passed)
+  both-pass = go (listFits? site) (listFits? builtIn) (distinct? n (shownName site builtIn)) (rw (min-eq-left few) at passed)
     where
-      go : (a b d : Bool) → lines? site ≡ a → lines? builtIn ≡ b → distinct? n (shownName site builtIn) ≡ d → demand (a && b) 61 (demand d 62 0) ≡ 0 → (a ≡ true) × (b ≡ true) × (d ≡ true)
-      go true true true ea eb ed e = (refl, refl, refl)
-      go true true false ea eb ed e = absurd (omega arith)
-      go true false d ea eb ed e = absurd (omega arith)
-      go false b d ea eb ed e = absurd (omega arith)
+      go : (a b d : Bool) → demand (a && b) 61 (demand d 62 0) ≡ 0 → (a ≡ true) × (b ≡ true) × (d ≡ true)
+      go true true true e = (refl, refl, refl)
+      go true true false e = absurd (omega arith)
+      go true false d e = absurd (omega arith)
+      go false b d e = absurd (omega arith)
 
   -- each name shown is a name, of at most 16 bytes
   pub shown-name : (i : ℕ) → i < n → T (name? (shownName site builtIn i))

@@ -2,7 +2,7 @@
 use mathlib.Core.Path.{_≡_, refl, sym, ap, _∙_}
 use mathlib.Core.Bool.{Bool, true, false, _&&_}
 use mathlib.Core.List.{List, [], _∷_, _++_}
-use Prim.Native.Nat.{ℕ, zero, suc, _+_, _<_, _≤_}
+use Prim.Native.Nat.{ℕ, suc, _+_, _<_, _≤_}
 use native.Mathlib.Nat.{le-antisymm}
 use native.Mathlib.Numerals.{add-one}
 use native.Mathlib.Omega.{arith}
@@ -84,5 +84,7 @@ module _ (d : List ℕ) (at : ℕ) (s : List ℕ) where
   pub not-copied : length d < at + length s → d ≡ putAt d at s
   unfolding putAt
   not-copied h = simp (lt-leb _ _ h)
+
+pub ruleset comparing = (lengths-differ, agree-none, agree-more, agree-not, agree-all, needs)
 
 pub ruleset copying = (copied-none, copied-more, copied-all, not-copied, needs)

@@ -1,6 +1,6 @@
 -- What is asked of two name lists, by number (document 01, section "Turned away, by place", names). Assumes nothing.
-use mathlib.Core.List.{List, [], _∷_}
-use mathlib.Core.Bool.{Bool, true, false, _&&_, _||_, not}
+use mathlib.Core.List.{List}
+use mathlib.Core.Bool.{Bool, _&&_, _||_, not}
 use mathlib.Core.Option.{Option, none, some}
 use Prim.Native.Nat.{ℕ, min}
 use lib.Dec.{eqb, leb}
@@ -16,12 +16,12 @@ use Rattle.names.specs.declared.table.Found.{Found}
 use Rattle.names.specs.declared.table.Found.the-variants.{Symbol, Unknown}
 
 -- a line is empty or a name
-unfoldable pub line? : List ℕ → Bool
-line? l = eqb (length l) 0 || name? l
+unfoldable pub lineFits? : List ℕ → Bool
+lineFits? l = eqb (length l) 0 || name? l
 
 -- 61: at most 64 lines, each empty or a name
-unfoldable pub lines? : List ℕ → Bool
-lines? s = leb (lineCount s) maxSymbols && allBelow (lineCount s) (λ i. line? (lineAt s i))
+unfoldable pub listFits? : List ℕ → Bool
+listFits? s = leb (lineCount s) maxSymbols && allBelow (lineCount s) (λ i. lineFits? (lineAt s i))
 
 -- no symbol before i has i's name
 unfoldable pub new? : (ℕ → List ℕ) → ℕ → Bool
@@ -31,15 +31,19 @@ new? names i = allBelow i (λ j. not (eqList (names j) (names i)))
 unfoldable pub distinct? : ℕ → (ℕ → List ℕ) → Bool
 distinct? n names = allBelow n (new? names)
 
--- the first number that turns the lists away, else 0; a set has at most 64 symbols
+-- 62, of a set's symbols, of which there are at most 64
+abbrev pub shownApart? : ℕ → List ℕ → List ℕ → Bool
+shownApart? symbols site builtIn = distinct? (min symbols maxSymbols) (shownName site builtIn)
+
+-- the first number that turns the lists away, else 0
 unfoldable pub namesCheckOf : ℕ → List ℕ → List ℕ → ℕ
 namesCheckOf symbols site builtIn =
-    demand (lines? site && lines? builtIn) 61 (demand (distinct? (min symbols maxSymbols) (shownName site builtIn)) 62 0)
+    demand (listFits? site && listFits? builtIn) 61 (demand (shownApart? symbols site builtIn) 62 0)
 
 -- the number that an answer stands for
-abbrev pub numberOf : NamesChecked → ℕ
-numberOf Distinct = 0
-numberOf (Refused n) = n
+abbrev pub namesNumber : NamesChecked → ℕ
+namesNumber Distinct = 0
+namesNumber (Refused n) = n
 
 -- the symbol that an answer stands for
 abbrev pub foundOf : Found → Option ℕ

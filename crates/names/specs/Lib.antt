@@ -1,5 +1,5 @@
 pub mod Lines
-pub mod Places
 pub mod Names
+pub mod Places
 pub mod Table
 pub mod Check

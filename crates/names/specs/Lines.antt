@@ -23,5 +23,6 @@ lines (x ∷ xs) = elim (eqb x newline) [ true ↦ [] ∷ lines xs | false ↦ l
 unfoldable pub lineAt : List ℕ → ℕ → List ℕ
 lineAt s i = getD (lines s) i []
 
+-- how many lines there are
 unfoldable pub lineCount : List ℕ → ℕ
 lineCount s = length (lines s)

@@ -55,10 +55,15 @@ numbered i = 115 ∷ decimal i
 unfoldable pub shownName : List ℕ → List ℕ → ℕ → List ℕ
 shownName site builtIn i = orElse (nameOf site builtIn i) (numbered i)
 
+-- the first of two answers, unless it is none
+abbrev pub orNext : Option ℕ → Option ℕ → Option ℕ
+orNext none o = o
+orNext (some k) o = some k
+
 -- the first index below n that passes the test
 unfoldable pub firstBelow : ℕ → (ℕ → Bool) → Option ℕ
 firstBelow zero p = none
-firstBelow (suc n) p = elim (firstBelow n p) [ none ↦ cond (p n) (some n) none | some k ↦ some k ]
+firstBelow (suc n) p = orNext (firstBelow n p) (cond (p n) (some n) none)
 
 -- the first of n symbols that has these bytes for a name
 unfoldable pub findIn : ℕ → (ℕ → List ℕ) → List ℕ → Option ℕ

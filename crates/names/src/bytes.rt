@@ -1,6 +1,5 @@
 ghost use mathlib.Core.Path.{_≡_};
-ghost use Prim.Native.Nat.{ℕ, _+_, _≤_};
-ghost use lib.ListN.{length};
+ghost use Prim.Native.Nat.{_+_};
 ghost use Rattle.model.specs.Lists.{eqList};
 ghost use Rattle.names.specs.Names.{letter?, digit?};
 ghost use Rattle.names.specs.Table.{putAt};

@@ -3,7 +3,7 @@ pub mod bytes; // bytes.rt: byte classes, comparing and putting
 pub mod lines; // lines.rt: the lines of a list, and the lookup
 pub mod table; // table.rt: the names shown, in cells of one width
 
-use lines::lines_fit;
+use lines::list_fits;
 use table::Found;
 use table::TABLE;
 use table::fill;
@@ -14,9 +14,8 @@ ghost use Prim.Native.Nat.{_≤_, min};
 ghost use mathlib.Core.Bool.{true};
 ghost use lib.ListN.{length};
 ghost use Rattle.model.specs.Limits.{maxSymbols};
-ghost use Rattle.names.specs.Names.{shownName};
 ghost use Rattle.names.specs.Table.{nameIn};
-ghost use Rattle.names.specs.Check.{lines?, new?, distinct?, namesCheckOf, numberOf};
+ghost use Rattle.names.specs.Check.{listFits?, new?, distinct?, shownApart?, namesCheckOf, namesNumber};
 
 // The most symbols of a set.
 const MAX_SYMBOLS: u16 = 64;
@@ -65,8 +64,9 @@ fn symbols_of(symbols: u16) -> u16
 
 // Of lists whose lines are names: whether no two of a set's symbols are shown alike.
 fn are_distinct<'a>(t: &mut [u8], symbols: u16, site: &'a [u8], built_in: &'a [u8]) -> bool
-    requires { ⌜ 1088 ≤ length (now t) ⌝ }
-    ensures { λ r. ⌜ (lines? (now (site .entry)) ≡ true → lines? (now («built_in» .entry)) ≡ true → r ≡ distinct? (min symbols maxSymbols) (shownName (now (site .entry)) (now («built_in» .entry)))) ⌝ }
+    requires space { ⌜ 1088 ≤ length (now t) ⌝ }
+    requires fit { ⌜ (listFits? (now site) ≡ true) × (listFits? (now «built_in») ≡ true) ⌝ }
+    ensures { λ r. ⌜ r ≡ shownApart? symbols (now (site .entry)) (now («built_in» .entry)) ⌝ }
 {
     fill(t, site, built_in);
     all_new(t, symbols_of(symbols))
@@ -74,10 +74,10 @@ fn are_distinct<'a>(t: &mut [u8], symbols: u16, site: &'a [u8], built_in: &'a [u
 
 // Whether two name lists may be used with a set of so many symbols: 61 or 62 where not.
 pub fn check<'a>(symbols: u16, site: &'a [u8], built_in: &'a [u8]) -> NamesChecked
-    ensures { λ r. ⌜ numberOf r ≡ namesCheckOf symbols (now (site .entry)) (now («built_in» .entry)) ⌝ }
+    ensures { λ r. ⌜ namesNumber r ≡ namesCheckOf symbols (now (site .entry)) (now («built_in» .entry)) ⌝ }
 {
-    if lines_fit(site) {
-        if lines_fit(built_in) {
+    if list_fits(site) {
+        if list_fits(built_in) {
             let mut t = [0u8; TABLE];
             if are_distinct(&mut t, symbols, site, built_in) {
                 return NamesChecked::Distinct;

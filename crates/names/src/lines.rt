@@ -4,9 +4,9 @@ ghost use mathlib.Core.Path.{_≡_};
 ghost use Prim.Native.Nat.{ℕ, _+_, _≤_, min};
 ghost use lib.ListN.{length, getD};
 ghost use Rattle.model.specs.Lists.{allBelow};
-ghost use Rattle.names.specs.Places.{Ended, Starts};
+ghost use Rattle.names.specs.Places.{Ended, Starts, NamedFrom};
 ghost use Rattle.names.specs.Names.{nameByte?, name?, nameOf};
-ghost use Rattle.names.specs.Check.{line?, lines?};
+ghost use Rattle.names.specs.Check.{lineFits?, listFits?};
 
 // The most lines of a list: as many as a set has symbols.
 pub const MAX_LINES: usize = 64;
@@ -103,7 +103,7 @@ pub fn is_name(s: &[u8]) -> bool
 
 // Whether a line is empty or a name.
 fn line_fits(s: &[u8]) -> bool
-    ensures { λ r. ⌜ r ≡ line? (now (s .entry)) ⌝ }
+    ensures { λ r. ⌜ r ≡ lineFits? (now (s .entry)) ⌝ }
 {
     if s.len() == 0 {
         return true;
@@ -112,8 +112,8 @@ fn line_fits(s: &[u8]) -> bool
 }
 
 // Whether a list has at most 64 lines, each empty or a name.
-pub fn lines_fit(s: &[u8]) -> bool
-    ensures { λ r. ⌜ r ≡ lines? (now (s .entry)) ⌝ }
+pub fn list_fits(s: &[u8]) -> bool
+    ensures { λ r. ⌜ r ≡ listFits? (now (s .entry)) ⌝ }
 {
     let mut a = 0;
     let mut k = 0;
@@ -135,7 +135,7 @@ pub fn lines_fit(s: &[u8]) -> bool
 // The line at place `a` of the site's list, else the one at place `b` of the built-in list.
 pub(crate) fn name_from<'a>(site: &'a [u8], built_in: &'a [u8], a: usize, b: usize) -> &'a [u8]
     requires { ⌜ (a ≤ length (now site)) × (b ≤ length (now «built_in»)) ⌝ }
-    ensures { λ r. ⌜ ((i : ℕ) → Starts (now (site .entry)) i a → Starts (now («built_in» .entry)) i b → now r ≡ nameOf (now (site .entry)) (now («built_in» .entry)) i) ⌝ }
+    ensures { λ r. ⌜ NamedFrom (now (site .entry)) (now («built_in» .entry)) a b (now r) ⌝ }
 {
     let e = line_end(site, a);
     if a < e {

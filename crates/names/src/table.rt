@@ -5,7 +5,7 @@ use crate::lines::MAX_NAME;
 use crate::lines::name_from;
 use crate::lines::next_line;
 ghost use mathlib.Core.Path.{_≡_};
-ghost use Prim.Native.Nat.{ℕ, _+_, _*_, _<_, _≤_, min};
+ghost use Prim.Native.Nat.{_+_, _*_, _<_, min};
 ghost use lib.ListN.{length, getD};
 ghost use Rattle.names.specs.Names.{orElse, numbered, findIn};
 ghost use Rattle.names.specs.Table.{putAt, cellBytes, cellOf, nameIn, tableOf};

@@ -1,7 +1,6 @@
 -- Nothing is found where every earlier name differs. Assumes nothing.
-use mathlib.Core.Path.{_≡_, sym, ap, _∙_}
+use mathlib.Core.Path.{sym, ap, _∙_}
 use borrow.Author.Needs.{needs}
-use Rattle.model.specs.Lists.{eqList}
 use Rattle.names.specs.Names.{findIn}
 use Rattle.names.specs.Table.{nameIn}
 use Rattle.names.specs.Check.{new?, foundOf}
@@ -12,14 +11,16 @@ use Rattle.names.proofs.is_new.Tie as tie
 returns : tie.Need-returns
 unfolding new? findIn
 returns c =
-    one-found _ _ _
-    (ap foundOf (sym (c .enum-told .given .1)) ∙ c .before .before .find .ensures ∙ ap (findIn (c .before .before .before .before .before .args .i) (nameIn (c .before .before .before .before .before .args .t .now))) (c .before .before .before .shown .ensures))
+    let a = c .before .before .before .before .before .args in
+    let told = ap foundOf (sym (c .enum-told .given .1)) in
+    one-found _ _ _ (told ∙ c .before .before .find .ensures ∙ ap (findIn (a .i) (nameIn (a .t .now))) (c .before .before .before .shown .ensures))
 
 returns-2 : tie.Need-returns-2
 unfolding new? findIn
 returns-2 c =
-    all-unfound _ _
-    (ap foundOf (sym (c .enum-told2 .given .1)) ∙ c .before .before .find .ensures ∙ ap (findIn (c .before .before .before .before .before .args .i) (nameIn (c .before .before .before .before .before .args .t .now))) (c .before .before .before .shown .ensures))
+    let a = c .before .before .before .before .before .args in
+    let told = ap foundOf (sym (c .enum-told2 .given .1)) in
+    all-unfound _ _ (told ∙ c .before .before .find .ensures ∙ ap (findIn (a .i) (nameIn (a .t .now))) (c .before .before .before .shown .ensures))
 
 pub is-new-spec : {M : Type 1} → statement M
 is-new-spec =

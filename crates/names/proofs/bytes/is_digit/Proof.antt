@@ -1,4 +1,4 @@
--- The two comparisons are the definition's. Assumes nothing.
+-- The definition's two comparisons. Assumes nothing.
 use mathlib.Core.Path.{refl}
 use Rattle.names.specs.Names.{digit?}
 use Rattle.names.proofs.bytes.is_digit.Statement.{statement}
@@ -9,4 +9,7 @@ unfolding digit?
 returns c = refl
 
 pub is-digit-spec : {M : Type 1} → statement M
-is-digit-spec = tie.close (tie.spec returns)
+is-digit-spec =
+    tie.close
+    (tie.spec
+    returns)

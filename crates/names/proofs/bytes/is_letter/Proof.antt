@@ -1,4 +1,4 @@
--- The two comparisons are the definition's. Assumes nothing.
+-- The definition's two comparisons. Assumes nothing.
 use mathlib.Core.Path.{refl}
 use Rattle.names.specs.Names.{letter?}
 use Rattle.names.proofs.bytes.is_letter.Statement.{statement}
@@ -9,4 +9,7 @@ unfolding letter?
 returns c = refl
 
 pub is-letter-spec : {M : Type 1} → statement M
-is-letter-spec = tie.close (tie.spec returns)
+is-letter-spec =
+    tie.close
+    (tie.spec
+    returns)

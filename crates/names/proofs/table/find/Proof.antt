@@ -1,13 +1,12 @@
 -- At the loop's head no symbol below i has the name. Assumes nothing.
 use Prim.Native.Nat.{_-_}
-use mathlib.Core.Path.{_≡_, sym, ap, _∙_}
-use mathlib.Core.Bool.{Bool, true, false}
-use native.Mathlib.Omega.{arith}
+use mathlib.Core.Path.{_≡_}
+use mathlib.Core.Bool.{true, false}
 use borrow.Author.Needs.{needs}
 use Rattle.model.specs.Lists.{eqList}
 use Rattle.names.specs.Names.{findIn}
 use Rattle.names.specs.Table.{nameIn}
-use Rattle.names.proofs.First.{Unfound, unfound-none, unfound-more, found-at, found-none}
+use Rattle.names.proofs.First.{Unfound, found-at, unfound-more, finding}
 use Rattle.names.proofs.table.find.Statement.{statement}
 use Rattle.names.proofs.table.find.Tie as tie
 
@@ -17,18 +16,24 @@ Inv-loop t symbols bytes i₀ i = Unfound (λ k. eqList (nameIn t k) bytes) symb
 abbrev μ-loop : tie.MeasureT-loop
 μ-loop t symbols bytes i₀ i = symbols - i
 
-add-i : tie.Need-add-i Inv-loop μ-loop
-add-i c = search needs
+again : tie.Need-loop-again Inv-loop μ-loop
+again c =
+    let a = c .before .before .before .before .before .before .before .args in
+    let i = c .before .before .before .before .loop .i in
+    let other : eqList (nameIn (a .t .now) i) (a .bytes .now) ≡ false = cc in
+    unfound-more _ _ _ (c .before .before .before .before .loop .inv) (c .before .before .before .loop-test .taken) other
 
 returns : tie.Need-returns Inv-loop μ-loop
 unfolding findIn
 returns c =
-    found-at _ _ _ (c .before .before .before .before .loop .inv) (c .before .before .before .loop-test .taken)
-    (sym (ap (λ l. eqList l (c .before .before .before .before .before .before .before .args .bytes .now)) (c .before .before .shown .ensures)) ∙ sym (c .before .same .ensures) ∙ c .if1 .taken)
+    let a = c .before .before .before .before .before .before .before .args in
+    let i = c .before .before .before .before .loop .i in
+    let its : eqList (nameIn (a .t .now) i) (a .bytes .now) ≡ true = cc in
+    found-at _ _ _ (c .before .before .before .before .loop .inv) (c .before .before .before .loop-test .taken) its
 
 returns-2 : tie.Need-returns-2 Inv-loop μ-loop
 unfolding findIn
-returns-2 c = found-none _ _ _ (c .before .loop .inv) (c .loop-test .left)
+returns-2 c = search finding
 
 pub find-spec : {M : Type 1} → statement M
 find-spec =
@@ -36,11 +41,11 @@ find-spec =
     (tie.spec
     Inv-loop
     μ-loop
-    (λ c. unfound-none _ _)
+    (λ c. search finding)
     (λ c κs. search needs)
     (λ c κs. search needs)
     returns
-    add-i
     (λ c. search needs)
-    (λ c. unfound-more _ _ _ (c .before .before .before .before .loop .inv) (c .before .before .before .loop-test .taken) (sym (ap (λ l. eqList l (c .before .before .before .before .before .before .before .args .bytes .now)) (c .before .before .shown .ensures)) ∙ sym (c .before .same .ensures) ∙ c .if1 .left))
+    (λ c. search needs)
+    again
     returns-2)

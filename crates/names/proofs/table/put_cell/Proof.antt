@@ -2,9 +2,9 @@
 use mathlib.Core.Path.{sym, _∙_}
 use native.Mathlib.Omega.{arith}
 use borrow.Author.Needs.{needs}
-use lib.ListN.{length-set, length-take}
+use lib.ListN.{length-set}
 use lib.Seq.{length-take-le}
-use Rattle.names.proofs.Cells.{cell-put, cell-too-long}
+use Rattle.names.proofs.Cells.{cells}
 use Rattle.names.proofs.table.put_cell.Statement.{statement}
 use Rattle.names.proofs.table.put_cell.Tie as tie
 
@@ -18,8 +18,8 @@ put-cell-spec =
     (λ c. search needs)
     (λ c. search needs)
     (λ c. search needs)
-    (λ c. sym (length-take-le (c .before .before .before .smaller .result) (c .before .before .before .before .before .before .args .name .now) (omega (arith, c .before .before .before .smaller .ensures))))
+    (λ c. sym (length-take-le _ (c .before .before .before .before .before .before .args .name .now) (omega (arith, c .before .before .before .smaller .ensures))))
     (λ c κs. search needs)
     (λ c. c .before .before .put .kept .0 ∙ simp length-set)
-    (λ c. cell-put (c .before .before .before .before .before .before .before .before .before .args .t .now) _ _ (c .before .before .before .before .before .before .before .before .before .args .name .now) (c .before .before .before .before .before .before .smaller .ensures) _ (c .before .before .before .before .before .if1 .taken) (c .before .before .put .ensures))
-    (λ c. cell-too-long (c .before .before .before .before .args .t .now) _ _ (c .before .before .before .before .args .name .now) (c .before .smaller .ensures) (c .if1 .left)))
+    (λ c. search cells)
+    (λ c. search cells))

@@ -1,7 +1,5 @@
 -- The name in the cell, put. Assumes nothing.
-use mathlib.Core.Path.{ap, _∙_}
 use borrow.Author.Needs.{needs}
-use Rattle.names.specs.Table.{putAt}
 use Rattle.names.proofs.table.put_name.Statement.{statement}
 use Rattle.names.proofs.table.put_name.Tie as tie
 
@@ -12,4 +10,4 @@ put-name-spec =
     (λ c κs. search needs)
     (λ c κs. search needs)
     (λ c. search needs)
-    (λ c. c .before .before .put .ensures ∙ ap (putAt (c .before .before .before .before .before .before .before .args .out .now) (c .before .before .before .before .before .before .before .args .at)) (c .before .before .before .shown .ensures)))
+    (λ c. cc))

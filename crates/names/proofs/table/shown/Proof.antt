@@ -2,7 +2,6 @@
 use mathlib.Core.Path.{ap, _∙_}
 use Prim.Native.Nat.{_+_, _*_}
 use lib.ListN.{take, drop}
-use native.Mathlib.Omega.{arith}
 use borrow.Author.Needs.{needs}
 use Rattle.names.specs.Table.{nameIn, cellBytes}
 use Rattle.names.proofs.Cells.{clipped}
@@ -12,8 +11,9 @@ use Rattle.names.proofs.table.shown.Tie as tie
 returns : tie.Need-returns
 unfolding nameIn
 returns c =
-    clipped _ _ (c .before .before .before .before .before .args .t .now) _ _ (c .before .before .smaller .ensures) (c .before .smaller2 .ensures)
-    ∙ ap (λ n. take n (drop (c .before .before .before .before .before .args .i * cellBytes + 1) (c .before .before .before .before .before .args .t .now))) (c .before .before .before .byte-at .ensures .0)
+    let a = c .before .before .before .before .before .args in
+    clipped _ _ (a .t .now) _ _ (c .before .before .smaller .ensures) (c .before .smaller2 .ensures)
+    ∙ ap (λ n. take n (drop (a .i * cellBytes + 1) (a .t .now))) (c .before .before .before .byte-at .ensures .0)
 
 pub shown-spec : {M : Type 1} → statement M
 shown-spec =
