@@ -11,7 +11,7 @@ returns-2 : tie.Need-returns-2
 returns-2 c =
     let a = c .before .before .before .before .before .before .before .before .before .before .args in
     let d = c .before .before .before .before .before .digit in
-    number-put (a .t .now) _ (a .part .now) _ (a .i) (115 ∷ d .result ∷ []) (c .before .before .before .before .before .before .before .if1 .left)
+    number-put (a .t .now) _ (a .part .now) _ (a .i) (115 ∷ d .result ∷ []) (omega arith)
     (one-digit _ (c .before .before .before .before .before .before .if2 .taken) ∙ ap (λ n. 115 ∷ n ∷ []) (sym (d .ensures))) (c .before .before .put-cell2 .ensures)
 
 returns-3 : tie.Need-returns-3
@@ -20,7 +20,7 @@ returns-3 c =
     let a = at-entry .args in
     let tens = c .before .before .before .before .before .before .digit2 in
     let ones = c .before .before .before .before .before .digit3 in
-    number-put (a .t .now) _ (a .part .now) _ (a .i) (115 ∷ tens .result ∷ ones .result ∷ []) (c .before .before .before .before .before .before .before .before .if1 .left)
+    number-put (a .t .now) _ (a .part .now) _ (a .i) (115 ∷ tens .result ∷ ones .result ∷ []) (omega arith)
     (two-digits _ (c .before .before .before .before .before .before .before .if2 .left) (omega (arith, at-entry .pre)) ∙ cc) (c .before .before .put-cell3 .ensures)
 
 pub put-shown-spec : {M : Type 1} → statement M
