@@ -1,1 +1,2 @@
 // Documents: row tables, their scalars, and the index that finds an equal row while a table is built.
+mod rows;
