@@ -69,12 +69,12 @@ unfoldable pub anyBelow : ℕ → (ℕ → Bool) → Bool
 anyBelow zero p = false
 anyBelow (suc n) p = anyBelow n p || p n
 
--- row j is later than row i and has it as a child
-unfoldable pub uses? : List Row → ℕ → ℕ → Bool
-uses? rows i j = ltb i j && any (eqb i) ((rowAt rows j) .children)
+-- row j, whose children are cs, is later than row i and has it as a child
+unfoldable pub uses? : ℕ → List ℕ → ℕ → Bool
+uses? j cs i = ltb i j && any (eqb i) cs
 
 unfoldable pub used? : List Row → ℕ → Bool
-used? rows i = anyBelow (length rows) (uses? rows i)
+used? rows i = anyBelow (length rows) (λ j. uses? j ((rowAt rows j) .children) i)
 
 -- 16: every row but the last is used by a later one
 unfoldable pub usedCheckOf : List Row → ℕ

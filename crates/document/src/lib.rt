@@ -1,2 +1,3 @@
 // Documents: row tables, their scalars, and the index that finds an equal row while a table is built.
-mod rows;
+mod check;
+pub mod rows;

@@ -1,0 +1,127 @@
+// The four tests of a table of lent rows: its form (11 to 14), equal rows (15), unused rows (16), its height (17).
+use crate::rows::MAX_CHILDREN;
+use crate::rows::Row;
+use crate::rows::UNUSED;
+use crate::rows::place;
+use crate::rows::size;
+ghost use mathlib.Core.Path.{_≡_};
+ghost use mathlib.Core.Bool.{false};
+ghost use Prim.Native.Nat.{ℕ, _-_, _<_, _≤_};
+ghost use lib.ListN.{length, getD};
+ghost use Rattle.model.specs.Lists.{allBelow, larger};
+ghost use Rattle.model.specs.Tree.{levels};
+ghost use Rattle.model.specs.Table.{treeOf, Lower};
+ghost use Rattle.document.specs.Rows.{rowIn, decodeRows};
+ghost use Rattle.document.specs.Check.{used?};
+ghost use Rattle.document.specs.Marks.{Counted, Marked, highestOf};
+
+const MAX_ROWS: usize = 1024;
+
+// Marks each child of row j that is lower than it.
+fn mark(rows: &[u16], j: u16, used: &mut [bool])
+    requires { ⌜ j ≤ length (now used) ⌝ }
+    ensures { λ r. ⌜ Marked j ((rowIn (now (rows .entry)) j) .children) (now (used .entry)) (now (used .exit)) ⌝ }
+{
+    let n = MAX_CHILDREN;
+    let mut k = 0;
+    while k < n {
+        let c = place(rows, Row(j), k);
+        k += 1;
+        if c.0 == UNUSED {
+            return;
+        }
+        if c.0 < j {
+            used[size(c.0)] = true;
+        }
+    }
+}
+
+fn is_marked(used: &[bool], i: u16) -> bool
+    ensures { λ r. ⌜ r ≡ getD (now (used .entry)) i false ⌝ }
+{
+    let at = size(i);
+    if at < used.len() {
+        return used[at];
+    }
+    false
+}
+
+fn all_marked(used: &[bool], n: u16) -> bool
+    ensures { λ r. ⌜ r ≡ allBelow n (λ i. getD (now (used .entry)) i false) ⌝ }
+{
+    let mut i = 0;
+    while i < n {
+        if is_marked(used, i) {
+            i += 1;
+        } else {
+            return false;
+        }
+    }
+    true
+}
+
+// 16: one pass marks the children of every row, then every row but the last must be marked.
+fn all_used(rows: &[u16], n: u16) -> bool
+    requires { ⌜ Counted (now rows) n ⌝ }
+    ensures { λ r. ⌜ r ≡ allBelow (length (decodeRows (now (rows .entry))) - 1) (used? (decodeRows (now (rows .entry)))) ⌝ }
+{
+    let mut used = [false; MAX_ROWS];
+    let mut j = 0;
+    while j < n {
+        mark(rows, j, &mut used);
+        j += 1;
+    }
+    all_marked(&used, n - 1)
+}
+
+fn larger_of(a: u16, b: u16) -> u16
+    ensures { λ r. ⌜ r ≡ larger a b ⌝ }
+{
+    if a <= b {
+        return b;
+    }
+    a
+}
+
+fn height_at(heights: &[u16], c: u16) -> u16
+    ensures { λ r. ⌜ r ≡ getD (now (heights .entry)) c 0 ⌝ }
+{
+    let at = size(c);
+    if at < heights.len() {
+        return heights[at];
+    }
+    0
+}
+
+// The height of row i's highest child, 0 where it has none.
+fn highest_child(rows: &[u16], heights: &[u16], i: u16) -> u16
+    ensures { λ r. ⌜ r ≡ highestOf (now (heights .entry)) ((rowIn (now (rows .entry)) i) .children) ⌝ }
+{
+    let n = MAX_CHILDREN;
+    let mut k = 0;
+    let mut h = 0;
+    while k < n {
+        let c = place(rows, Row(i), k);
+        k += 1;
+        if c.0 == UNUSED {
+            return h;
+        }
+        h = larger_of(h, height_at(heights, c.0));
+    }
+    h
+}
+
+// The levels of the last row's tree: each row's height from those of its children, which are lower.
+fn levels_of(rows: &[u16], n: u16) -> u16
+    requires { ⌜ Counted (now rows) n × Lower (decodeRows (now rows)) ⌝ }
+    ensures { λ r. ⌜ r ≡ levels (treeOf (decodeRows (now (rows .entry)))) ⌝ }
+{
+    let mut heights = [0u16; MAX_ROWS];
+    let mut i = 0;
+    while i < n {
+        let h = highest_child(rows, &heights, i) + 1;
+        heights[size(i)] = h;
+        i += 1;
+    }
+    height_at(&heights, n - 1)
+}
