@@ -1,1 +1,4 @@
 // Documents: row tables, their scalars, and the index that finds an equal row while a table is built.
+pub mod scalar; // scalar.rt: the five kinds of scalars
+
+pub use scalar::Scalar;

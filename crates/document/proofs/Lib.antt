@@ -1,0 +1,3 @@
+pub mod Rates
+pub mod Variants
+pub mod Scalars
