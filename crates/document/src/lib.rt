@@ -1,4 +1,5 @@
 // Documents: row tables, their scalars, and the index that finds an equal row while a table is built.
+pub mod rows; // rows.rt: lent rows, cell by cell
 pub mod scalar; // scalar.rt: the five kinds of scalars
 pub mod hash; // hash.rt: the hash of a row
 
