@@ -1,3 +1,8 @@
+pub mod Rates
+pub mod Variants
+pub mod Scalars
+pub mod Hashing
 pub mod Places
 pub mod Marking
 pub mod Heights
+pub mod Decoding

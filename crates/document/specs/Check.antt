@@ -34,19 +34,25 @@ abbrev pub place? : Bool → ℕ → ℕ → Bool
 place? true i x = ltb x i
 place? false i x = eqb x unused
 
--- 13, at place k of row i: the places below the symbol's number of children are in use
-unfoldable pub child? : Automaton → List ℕ → ℕ → ℕ → Bool
-child? A cells i k = place? (ltb k (arityOf A ((rowIn cells i) .symbol))) i (placeIn cells i k)
+-- at place k of row i, whose symbol has n children: the first n places are in use
+unfoldable pub child? : List ℕ → ℕ → ℕ → ℕ → Bool
+child? cells i n k = place? (ltb k n) i (placeIn cells i k)
 
+-- the number of children that the symbol of row i has
+abbrev pub arityIn : Automaton → List ℕ → ℕ → ℕ
+arityIn A cells i = arityOf A ((rowIn cells i) .symbol)
+
+-- 13, at one row: a lower row in each place in use, 65535 in any other
 unfoldable pub children? : Automaton → List ℕ → ℕ → Bool
-children? A cells i = allBelow maxChildren (child? A cells i)
+children? A cells i = allBelow maxChildren (child? cells i (arityIn A cells i))
 
--- 14, at one row: a scalar where the symbol has no children, else kind 0 and payload 0
+-- on a symbol with n children: a scalar where there are none, else kind 0 and payload 0
+abbrev pub fits? : ℕ → ℕ → ℕ → Bool
+fits? n kind payload = cond (eqb n 0) (scalar? kind payload) (eqb kind 0 && eqb payload 0)
+
+-- 14, at one row: the kind and the payload fit the symbol
 unfoldable pub scalarFits? : Automaton → List ℕ → ℕ → Bool
-scalarFits? A cells i =
-    cond (eqb (arityOf A ((rowIn cells i) .symbol)) 0)
-    (scalar? ((rowIn cells i) .kind) ((rowIn cells i) .payload))
-    (eqb ((rowIn cells i) .kind) 0 && eqb ((rowIn cells i) .payload) 0)
+scalarFits? A cells i = fits? (arityIn A cells i) ((rowIn cells i) .kind) ((rowIn cells i) .payload)
 
 -- 11 to 14: the form of the rows, each by itself
 unfoldable pub formCheckOf : Automaton → List ℕ → ℕ

@@ -4,18 +4,78 @@ use crate::rows::Row;
 use crate::rows::UNUSED;
 use crate::rows::place;
 use crate::rows::size;
+use crate::rows::symbol;
+use crate::scalar::Decoded;
+use crate::scalar::decode;
 ghost use mathlib.Core.Path.{_≡_};
 ghost use mathlib.Core.Bool.{false};
 ghost use Prim.Native.Nat.{ℕ, _-_, _<_, _≤_};
+ghost use lib.Dec.{ltb};
 ghost use lib.ListN.{length, getD};
+ghost use Rattle.model.specs.Limits.{maxChildren};
 ghost use Rattle.model.specs.Lists.{allBelow, larger};
 ghost use Rattle.model.specs.Tree.{levels};
-ghost use Rattle.model.specs.Table.{treeOf, Lower};
+ghost use Rattle.model.specs.Table.{treeOf, scalar?, Lower};
 ghost use Rattle.document.specs.Rows.{rowIn, decodeRows};
-ghost use Rattle.document.specs.Check.{used?};
+ghost use Rattle.document.specs.Check.{place?, child?, fits?, used?};
 ghost use Rattle.document.specs.Marks.{Counted, Marked, highestOf};
 
 const MAX_ROWS: usize = 1024;
+
+// 12 at row i, of a set with so many symbols.
+fn is_known(rows: &[u16], i: u16, symbols: u16) -> bool
+    ensures { λ r. ⌜ r ≡ ltb ((rowIn (now (rows .entry)) i) .symbol) symbols ⌝ }
+{
+    symbol(rows, Row(i)) < symbols
+}
+
+fn place_fits(in_use: bool, i: u16, x: u16) -> bool
+    ensures { λ r. ⌜ r ≡ place? «in_use» i x ⌝ }
+{
+    if in_use { x < i } else { x == UNUSED }
+}
+
+fn child_fits(rows: &[u16], i: u16, arity: u16, k: u16) -> bool
+    ensures { λ r. ⌜ r ≡ child? (now (rows .entry)) i arity k ⌝ }
+{
+    let x = place(rows, Row(i), k);
+    place_fits(k < arity, i, x.0)
+}
+
+// 13 at row i, whose symbol has so many children.
+fn children_fit(rows: &[u16], i: u16, arity: u16) -> bool
+    ensures { λ r. ⌜ r ≡ allBelow maxChildren (child? (now (rows .entry)) i arity) ⌝ }
+{
+    let n = MAX_CHILDREN;
+    let mut k = 0;
+    while k < n {
+        if child_fits(rows, i, arity, k) {
+            k += 1;
+        } else {
+            return false;
+        }
+    }
+    true
+}
+
+fn is_scalar(kind: u16, payload: u64) -> bool
+    ensures { λ r. ⌜ r ≡ scalar? kind payload ⌝ }
+{
+    match decode(kind, payload) {
+        Decoded::Is(_) => true,
+        Decoded::Not => false,
+    }
+}
+
+// 14 of a kind and a payload, on a symbol with so many children.
+fn scalar_fits(arity: u16, kind: u16, payload: u64) -> bool
+    ensures { λ r. ⌜ r ≡ fits? arity kind payload ⌝ }
+{
+    if arity == 0 {
+        return is_scalar(kind, payload);
+    }
+    (kind == 0) & (payload == 0)
+}
 
 // Marks each child of row j that is lower than it.
 fn mark(rows: &[u16], j: u16, used: &mut [bool])
