@@ -6,3 +6,7 @@ pub mod Places
 pub mod Marking
 pub mod Heights
 pub mod Decoding
+pub mod Refusals
+pub mod Form
+pub mod Whole
+pub mod Sound
