@@ -9,4 +9,5 @@ pub mod Decoding
 pub mod Refusals
 pub mod Form
 pub mod Whole
+pub mod Encoding
 pub mod Sound
