@@ -11,3 +11,4 @@ pub mod Form
 pub mod Whole
 pub mod Encoding
 pub mod Sound
+pub mod Putting

@@ -4,6 +4,7 @@ ghost use Prim.Native.Nat.{_+_, _/_, _<_};
 ghost use lib.ListN.{length};
 ghost use Rattle.document.specs.Rows.{rowCells, cellIn, rowIn};
 ghost use Rattle.document.specs.Check.{placeIn};
+ghost use Rattle.document.specs.Put.{putCells};
 
 // A row's number.
 pub struct Row(pub u16);
@@ -73,4 +74,19 @@ pub fn payload(rows: &[u16], i: Row) -> u64
         + 65536
             * (wide(cell(rows, i, 7))
                 + 65536 * (wide(cell(rows, i, 8)) + 65536 * wide(cell(rows, i, 9))))
+}
+
+// Makes the cells row i of the space; where they do not fit whole, nothing is written.
+pub fn put_cells(out: &mut [u16], i: Row, cells: [u16; 10])
+    ensures { λ r. ⌜ now (out .exit) ≡ putCells (now (out .entry)) (i .0) cells ⌝ }
+{
+    let at = size(i.0) * ROW_CELLS;
+    if out.len() < at + ROW_CELLS {
+        return;
+    }
+    let mut k = 0;
+    while k < ROW_CELLS {
+        out[at + k] = cells[k];
+        k += 1;
+    }
 }
