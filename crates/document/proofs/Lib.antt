@@ -3,3 +3,5 @@ pub mod Variants
 pub mod Scalars
 pub mod Hashing
 pub mod Places
+pub mod Children
+pub mod Equality
