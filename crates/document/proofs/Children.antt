@@ -37,7 +37,7 @@ used-next (x ∷ ps) zero h = go (eqb x unused) refl
 used-next (x ∷ ps) (suc k) h = go (eqb x unused) (used-next ps k (omega arith))
   where
     go : (b : Bool) → getD (used ps) (suc k) unused ≡ placeAfter (getD (used ps) k unused) (getD ps (suc k) 0)
-      → getD (cond b [] (x ∷ used ps)) (suc (suc k)) unused ≡ placeAfter (getD (cond b [] (x ∷ used ps)) (suc k) unused) (getD ps (suc k) 0)
+        → getD (cond b [] (x ∷ used ps)) (suc (suc k)) unused ≡ placeAfter (getD (cond b [] (x ∷ used ps)) (suc k) unused) (getD ps (suc k) 0)
     go true i = refl
     go false i = i
 

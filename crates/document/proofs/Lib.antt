@@ -5,3 +5,4 @@ pub mod Hashing
 pub mod Places
 pub mod Children
 pub mod Equality
+pub mod Encoding

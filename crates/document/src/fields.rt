@@ -1,5 +1,10 @@
 // A row by value: its symbol, child places and scalar; its ten cells; and its equality with a lent row.
-use crate::rows::{Row, UNUSED, kind, payload, place, symbol};
+use crate::rows::Row;
+use crate::rows::UNUSED;
+use crate::rows::kind;
+use crate::rows::payload;
+use crate::rows::place;
+use crate::rows::symbol;
 use crate::scalar;
 use crate::scalar::Scalar;
 ghost use mathlib.Core.Path.{_≡_};

@@ -38,8 +38,7 @@ loop-again : tie.Need-loop-again Inv-loop μ-loop
 unfolding placeIn
 loop-again c =
     let l = c .before .before .before .before .before .loop in
-    let a = c .before .before .before .before .before .before .before .args in
-    (
+    let a = c .before .before .before .before .before .before .before .args in (
       l .inv .0,
       alike-more (a .t3) (placesIn (a .rows .now) (a .i)) (l .k) _ _ (l .inv .1) (search needs) refl (c .before .before .before .place .ensures) (c .before .if1 .left) (c .if2 .left),
     )

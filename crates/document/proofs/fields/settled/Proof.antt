@@ -21,8 +21,7 @@ loop-holds c = (search needs, settled-first (c .args .places) (search needs))
 
 loop-again : tie.Need-loop-again Inv-loop μ-loop
 loop-again c =
-    let l = c .before .before .loop in
-    (
+    let l = c .before .before .loop in (
       l .inv .0,
       settled-next (c .before .before .before .args .places) (l .p) (l .k) (c .place-after .result) (l .inv .1) (search needs) (c .place-after .ensures),
     )
