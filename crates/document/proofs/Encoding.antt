@@ -1,102 +1,128 @@
--- Rows in their ten cells: what is written is read back, wherever it stands. Assumes nothing.
+-- Rows to cells and back: what encodes a row decodes to it. Assumes nothing.
 use mathlib.Core.Path.{_≡_, refl, sym, ap, _∙_}
-use mathlib.Core.List.{List, [], _∷_, _++_, List·Memᴰ as In, append-assoc}
-use Prim.Native.Nat.{ℕ, zero, suc, _+_, _*_, _/_, _%_, _^_, _<_, _≤_}
-use native.Mathlib.Nat.{div-add-mod, div-lt-iff-lt-mul, pow-suc, mul-div-cancel}
-use native.Mathlib.Numerals.{one-add}
+use mathlib.Core.Bool.{Bool, true, false, cond}
+use mathlib.Core.List.{List, [], _∷_, _++_, List·Memᴰ as In, List·Memᴰ·head as here, List·Memᴰ·tail as there, nil≢cons}
+use Prim.Native.Nat.{ℕ, zero, suc, _+_, _*_, _/_, _%_, _^_, _<_, _≤_, zero-le}
+use native.Mathlib.Nat.{zero-add, pow-suc, mod-add-div}
 use native.Mathlib.Omega.{arith}
-use lib.ListN.{length, getD, take, drop, length-append, List·getD-append, List·getD-eq-default, take-append-drop}
-use lib.Seq.{getD-append-add, length-take-le, drop-cons}
+use lib.Dec.{eqb, eqb→eq}
+use lib.ListN.{length, getD, length-append, List·getD-append}
+use lib.Seq.{ext-getD, getD-append-add}
+use borrow.Author.Tests.{ne-eqb}
 use Rattle.model.specs.Limits.{maxChildren, unused}
-use Rattle.model.specs.Lists.{concatMap, tab}
+use Rattle.model.specs.Lists.{tab}
 use Rattle.model.specs.Table.{Row, noRow, rowAt}
-use Rattle.model.proofs.Tab.{tab-at}
+use Rattle.model.proofs.Tab.{tab-at, length-tab}
 use Rattle.model.proofs.Rows.{in-getD}
-use Rattle.document.specs.Rows.{rowCells, cellIn, used, joinCells, splitCells, rowIn, decodeRows, placesOf, encodeRow, encodeRows, Fits}
-use Rattle.document.specs.Check.{placeIn}
-use Rattle.document.proofs.Form.{tab-same, used-tab}
+use Rattle.document.specs.Rows.{rowCells, cellIn, used, placesIn, joinCells, payloadIn, rowIn, rowsBelow, decodeRows, placesOf, splitCells, encodeRow, encodeRows, Fits}
 
-join-split : (n x : ℕ) → x < 65536 ^ n → joinCells (splitCells n x) ≡ x
+pub tab-same : {A : Type 0} (n : ℕ) (f g : ℕ → A) → ((k : ℕ) → k < n → f k ≡ g k) → tab n f ≡ tab n g
+tab-same zero f g h = refl
+tab-same {A} (suc n) f g h = λ i. h 0 (omega arith) i ∷ tab-same n (λ k. f (suc k)) (λ k. g (suc k)) (λ k l. h (suc k) (omega arith)) i
+
+-- ---- child places
+
+pub used-used : (ps : List ℕ) → used (used ps) ≡ used ps
+used-used [] = refl
+used-used (x ∷ ps) = go (eqb x unused) refl (used-used ps)
+  where
+    go : (b : Bool) → eqb x unused ≡ b → used (used ps) ≡ used ps → used (cond b [] (x ∷ used ps)) ≡ cond b [] (x ∷ used ps)
+    go true e i = refl
+    go false e i = rw e (ap {B = List ℕ} (λ l. x ∷ l) i)
+
+pub length-used : (ps : List ℕ) → length (used ps) ≤ length ps
+length-used [] = zero-le
+length-used (x ∷ ps) = go (eqb x unused) (length-used ps)
+  where
+    go : (b : Bool) → length (used ps) ≤ length ps → length (cond b [] (x ∷ used ps)) ≤ suc (length ps)
+    go true l = zero-le
+    go false l = omega arith
+
+-- no child is numbered as an unused place
+pub all-used : (cs : List ℕ) → ((j : ℕ) → In j cs → j < unused) → used cs ≡ cs
+all-used [] h = refl
+all-used (x ∷ cs) h = let l = h x (here refl) in rw (ne-eqb x unused (λ e. omega arith)) (ap {B = List ℕ} (λ l. x ∷ l) (all-used cs (λ j m. h j (there m))))
+
+-- n places hold as many children
+pub used-places : (n : ℕ) (cs : List ℕ) → length cs ≤ n → used cs ≡ cs → used (tab n (λ k. getD cs k unused)) ≡ cs
+used-places zero [] l e = refl
+used-places zero (x ∷ cs) l e = let z : ⊥ = omega arith in absurd z
+used-places (suc n) [] l e = refl
+used-places (suc n) (x ∷ cs) l e = go (eqb x unused) e (used-places n cs (omega arith))
+  where
+    go : (b : Bool) → cond b [] (x ∷ used cs) ≡ x ∷ cs → (used cs ≡ cs → used (tab n (λ k. getD cs k unused)) ≡ cs) → cond b [] (x ∷ used (tab n (λ k. getD cs k unused))) ≡ x ∷ cs
+    go true q i = absurd (nil≢cons q)
+    go false q i = let t : used cs ≡ cs = cc in ap {B = List ℕ} (λ r. x ∷ r) (i t)
+
+-- ---- payloads
+
+pub join-split : (n x : ℕ) → x < 65536 ^ n → joinCells (splitCells n x) ≡ x
 join-split zero x h = omega arith
 join-split (suc n) x h =
-    rw (join-split n (x / 65536) (div-lt-iff-lt-mul (omega arith) .1 (rw pow-suc at h))) (omega (arith, div-add-mod x 65536))
+    let l : x < 65536 ^ n * 65536 = rw pow-suc at h in
+    ap (λ y. x % 65536 + 65536 * y) (join-split n (x / 65536) (omega arith)) ∙ mod-add-div x 65536
 
--- a list is the table of its elements
-pub tab-getD : {A : Type 0} (d : A) (l : List A) → tab (length l) (λ k. getD l k d) ≡ l
-tab-getD d [] = refl
-tab-getD d (x ∷ l) = ap (λ xs. x ∷ xs) (tab-getD d l)
+-- ---- a row, then rows
 
-used-places : (cs : List ℕ) → length cs ≤ maxChildren → ((j : ℕ) → In j cs → j < unused) → used (placesOf cs) ≡ cs
-used-places cs few low =
-    used-tab maxChildren (length cs) (λ k. getD cs k unused) few
-    (λ k l e. let w = low (getD cs k unused) (in-getD unused cs k l) in omega arith)
-    (λ k l m. List·getD-eq-default cs unused l)
-    ∙ tab-getD unused cs
+-- What a row needs for its cells to hold it.
+pub record Kept (r : Row) : Type 0 where
+  pub few : length (r .children) ≤ maxChildren
+  pub used-all : used (r .children) ≡ r .children
+  pub payload : r .payload < 2 ^ 64
 
-module _ (xs ys : List ℕ) (r : Row) (i : ℕ) (at : length xs ≡ i * rowCells) where
-  cell-written : (k : ℕ) → k < rowCells → cellIn (xs ++ (encodeRow r ++ ys)) i k ≡ getD (encodeRow r) k 0
-  unfolding cellIn
-  cell-written k l =
-      ap (λ n. getD (xs ++ (encodeRow r ++ ys)) (n + k) 0) (sym at)
-      ∙ getD-append-add xs (encodeRow r ++ ys) k 0
-      ∙ List·getD-append (encodeRow r) ys 0 k l
+pub kept : {r : Row} → Fits r → Kept r
+kept {r} f = record { few = f .few; used-all = all-used (r .children) (f .places); payload = f .payload }
 
-  -- place k of a row that was written is its child, or unused
-  pub place-written : (k : ℕ) → k < maxChildren → placeIn (xs ++ (encodeRow r ++ ys)) i k ≡ getD (r .children) k unused
-  unfolding placeIn
-  place-written k l =
-      tab-at unused maxChildren (λ m. cellIn (xs ++ (encodeRow r ++ ys)) i (1 + m)) k l
-      ∙ cell-written (1 + k) (omega arith)
-      ∙ ap (λ m. getD (encodeRow r) m 0) (one-add k)
-      ∙ List·getD-append (placesOf (r .children)) (r .kind ∷ splitCells 4 (r .payload)) 0 k l
-      ∙ tab-at 0 maxChildren (λ m. getD (r .children) m unused) k l
+module _ (r : Row) where
+  pub place-cell : (k : ℕ) → k < maxChildren → getD (encodeRow r) (suc k) 0 ≡ getD (r .children) k unused
+  place-cell k h =
+      List·getD-append (placesOf (r .children)) (r .kind ∷ splitCells 4 (r .payload)) 0 k h
+      ∙ tab-at 0 maxChildren (λ j. getD (r .children) j unused) k h
 
-  -- a row that was written is read back
-  pub row-written : Fits r → rowIn (xs ++ (encodeRow r ++ ys)) i ≡ r
-  row-written f =
-      λ x. record {
-        symbol = cell-written 0 (omega arith) x;
-        kind = cell-written 5 (omega arith) x;
-        payload = (ap joinCells (tab-same 4 (λ k. cellIn (xs ++ (encodeRow r ++ ys)) i (6 + k)) (λ k. getD (encodeRow r) (6 + k) 0) (λ k l. cell-written (6 + k) (omega arith))) ∙ join-split 4 (r .payload) (f .payload)) x;
-        children = (ap used (tab-same maxChildren (λ k. cellIn (xs ++ (encodeRow r ++ ys)) i (1 + k)) (λ k. getD (encodeRow r) (1 + k) 0) (λ k l. cell-written (1 + k) (omega arith))) ∙ used-places (r .children) (f .few) (f .places)) x;
-      }
+  -- Cells that are those of a row decode to it.
+  pub decoded : (cells : List ℕ) (i : ℕ) → Kept r → ((k : ℕ) → k < rowCells → cellIn cells i k ≡ getD (encodeRow r) k 0) → rowIn cells i ≡ r
+  decoded cells i f h =
+      λ x. record { symbol = h 0 (omega arith) x; kind = h 5 (omega arith) x; payload = value x; children = places x }
+    where
+      one-more : (k : ℕ) → 1 + k ≡ suc k
+      one-more k = omega arith
 
-pub encoded-length : (rows : List Row) → length (encodeRows rows) ≡ length rows * rowCells
-encoded-length [] = refl
-encoded-length (r ∷ rows) = length-append (encodeRow r) (encodeRows rows) ∙ omega (arith, encoded-length rows)
+      value : payloadIn cells i ≡ r .payload
+      value =
+          ap joinCells (tab-same 4 (λ k. cellIn cells i (6 + k)) (λ k. getD (encodeRow r) (6 + k) 0) (λ k l. h (6 + k) (omega arith)))
+          ∙ join-split 4 (r .payload) (f .payload)
 
--- the cells of row i, between those before it and those after it
-record Within (rows : List Row) (i : ℕ) : Type 0 where
-  before : List ℕ
-  after : List ℕ
-  cells : encodeRows rows ≡ before ++ (encodeRow (rowAt rows i) ++ after)
-  at : length before ≡ i * rowCells
+      places : used (placesIn cells i) ≡ r .children
+      places =
+          ap used (tab-same maxChildren (λ k. cellIn cells i (1 + k)) (λ k. getD (r .children) k unused)
+          (λ k l. h (1 + k) (omega arith) ∙ ap (λ j. getD (encodeRow r) j 0) (one-more k) ∙ place-cell k l))
+          ∙ used-places maxChildren (r .children) (f .few) (f .used-all)
 
-within : (rows : List Row) (i : ℕ) → i < length rows → Within rows i
-within [] i l = let z : ⊥ = omega arith in absurd z
-within (r ∷ rows) zero l = record { before = []; after = encodeRows rows; cells = refl; at = refl }
-within (r ∷ rows) (suc i) l =
-    let w = within rows i (omega arith) in
-    record {
-      before = encodeRow r ++ w .before;
-      after = w .after;
-      cells = ap (λ (cs : List ℕ). encodeRow r ++ cs) (w .cells) ∙ sym (append-assoc (encodeRow r) (w .before) (encodeRow (rowAt rows i) ++ w .after));
-      at = length-append (encodeRow r) (w .before) ∙ omega (arith, w .at);
-    }
+pub length-encode : (rows : List Row) → length (encodeRows rows) ≡ length rows * rowCells
+length-encode [] = refl
+length-encode (r ∷ rows) = let e = length-encode rows in length-append (encodeRow r) (encodeRows rows) ∙ omega arith
 
-module _ (rows : List Row) where
-  pub encoded-count : length (encodeRows rows) / rowCells ≡ length rows
-  encoded-count = ap (λ n. n / rowCells) (encoded-length rows) ∙ mul-div-cancel (length rows) (omega arith)
+-- the cells of row i among those of all rows
+pub encode-cell : (rows : List Row) (i k : ℕ) → i < length rows → k < rowCells → cellIn (encodeRows rows) i k ≡ getD (encodeRow (rowAt rows i)) k 0
+unfolding cellIn
+encode-cell [] i k h l = let z : ⊥ = omega arith in absurd z
+encode-cell (r ∷ rows) zero k h l = rw zero-add (List·getD-append (encodeRow r) (encodeRows rows) 0 k l)
+encode-cell (r ∷ rows) (suc i) k h l =
+    let e : suc i * rowCells + k ≡ 10 + (i * rowCells + k) = omega arith in
+    ap (λ j. getD (encodeRows (r ∷ rows)) j 0) e
+    ∙ getD-append-add (encodeRow r) (encodeRows rows) (i * rowCells + k) 0
+    ∙ encode-cell rows i k (omega arith) l
 
-  pub encoded-row : (i : ℕ) → i < length rows → Fits (rowAt rows i) → rowIn (encodeRows rows) i ≡ rowAt rows i
-  encoded-row i l f = let w = within rows i l in rw (w .cells) (row-written (w .before) (w .after) (rowAt rows i) i (w .at) f)
+-- Rows that fit their cells come back unchanged.
+pub decode-encode : (rows : List Row) → ((i : ℕ) → i < length rows → Fits (rowAt rows i)) → decodeRows (encodeRows rows) ≡ rows
+decode-encode rows h = ap (rowsBelow (encodeRows rows)) count ∙ each
+  where
+    count : length (encodeRows rows) / rowCells ≡ length rows
+    count = let e = length-encode rows in omega arith
 
-  pub encoded-place : (i : ℕ) → i < length rows → (k : ℕ) → k < maxChildren → placeIn (encodeRows rows) i k ≡ getD ((rowAt rows i) .children) k unused
-  encoded-place i l k m = let w = within rows i l in rw (w .cells) (place-written (w .before) (w .after) (rowAt rows i) i (w .at) k m)
-
-  -- Rows that fit their cells go there and back unchanged.
-  pub decode-encode : ((i : ℕ) → i < length rows → Fits (rowAt rows i)) → decodeRows (encodeRows rows) ≡ rows
-  decode-encode f =
-      ap (λ n. tab n (rowIn (encodeRows rows))) encoded-count
-      ∙ tab-same (length rows) (rowIn (encodeRows rows)) (rowAt rows) (λ i l. encoded-row i l (f i l))
-      ∙ tab-getD noRow rows
+    each : tab (length rows) (rowIn (encodeRows rows)) ≡ rows
+    each =
+        ext-getD noRow (tab (length rows) (rowIn (encodeRows rows))) rows (length-tab (length rows) (rowIn (encodeRows rows)))
+        (λ i l. let m : i < length rows = rw length-tab at l in
+        tab-at noRow (length rows) (rowIn (encodeRows rows)) i m
+        ∙ decoded (rowAt rows i) (encodeRows rows) i (kept (h i m)) (λ k. encode-cell rows i k m))

@@ -18,14 +18,11 @@ use Rattle.document.specs.Rows.{rowCells, cellIn, used, placesIn, rowIn,
 use Rattle.document.specs.Check.{rowCount, counted?, known?, placeIn, place?, child?, arityIn, children?, fits?, scalarFits?, formCheckOf}
 use Rattle.document.specs.Marks.{Counted}
 use Rattle.document.proofs.Places.{row-at, rows-length, place-cell}
+use Rattle.document.proofs.Encoding.{tab-same}
 use Rattle.document.proofs.Refusals.{passed, pass, true-and, all-pass}
 
-pub tab-same : {A : Type 0} (n : ℕ) (f g : ℕ → A) → ((k : ℕ) → k < n → f k ≡ g k) → tab n f ≡ tab n g
-tab-same zero f g h = refl
-tab-same (suc n) f g h = cc (h 0 (omega arith), tab-same n (λ k. f (suc k)) (λ k. g (suc k)) (λ k l. h (suc k) (omega arith)))
-
 -- the places up to the first unused one, where the first a are in use and the others not
-pub used-tab : (n a : ℕ) (f : ℕ → ℕ) → a ≤ n → ((k : ℕ) → k < a → f k ≡ unused → ⊥) → ((k : ℕ) → a ≤ k → k < n → f k ≡ unused) → used (tab n f) ≡ tab a f
+used-tab : (n a : ℕ) (f : ℕ → ℕ) → a ≤ n → ((k : ℕ) → k < a → f k ≡ unused → ⊥) → ((k : ℕ) → a ≤ k → k < n → f k ≡ unused) → used (tab n f) ≡ tab a f
 used-tab zero zero f l h g = refl
 used-tab zero (suc a) f l h g = let z : ⊥ = omega arith in absurd z
 used-tab (suc n) zero f l h g = simp (eq-eqb (f 0) unused (g 0 (omega arith) (omega arith)))

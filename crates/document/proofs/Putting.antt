@@ -9,14 +9,13 @@ use borrow.Author.Needs.{needs}
 use borrow.Author.Tests.{le-leb, lt-leb}
 use lib.Dec.{leb}
 use lib.ListN.{length, getD, take, drop, set, length-set, List·getD-append}
-use lib.Seq.{paste, paste-zero, paste-suc, take-all, getD-take, length-take-le}
+use lib.Seq.{paste, paste-zero, paste-suc, take-all, getD-take, getD-append-add, length-take-le}
 use Rattle.model.specs.Limits.{maxChildren}
 use Rattle.model.specs.Lists.{tab}
 use Rattle.model.specs.Table.{Row}
 use Rattle.document.specs.Rows.{rowCells, cellIn, used, joinCells, rowIn, rowsBelow, encodeRow, Fits}
 use Rattle.document.specs.Put.{putCells}
-use Rattle.document.proofs.Form.{tab-same}
-use Rattle.document.proofs.Encoding.{row-written}
+use Rattle.document.proofs.Encoding.{tab-same, kept, decoded}
 
 module _ (before cells : List ℕ) (i : ℕ) where
   pub put-fits : i * rowCells + rowCells ≤ length before → putCells before i cells ≡ take (i * rowCells) before ++ cells ++ drop (i * rowCells + rowCells) before
@@ -63,13 +62,26 @@ tab-more zero f = refl
 tab-more (suc n) f = ap (λ xs. f 0 ∷ xs) (tab-more n (λ k. f (suc k)))
 
 module _ (out : List ℕ) (i : ℕ) (r : Row) (h : i * rowCells + rowCells ≤ length out) where
+  put-here : putCells out i (encodeRow r) ≡ take (i * rowCells) out ++ (encodeRow r ++ drop (i * rowCells + rowCells) out)
+  put-here = put-fits out (encodeRow r) i h ∙ append-assoc (take (i * rowCells) out) (encodeRow r) (drop (i * rowCells + rowCells) out)
+
+  front : length (take (i * rowCells) out) ≡ i * rowCells
+  front = length-take-le (i * rowCells) out (omega arith)
+
   cell-kept : (j k : ℕ) → j < i → k < rowCells → cellIn (putCells out i (encodeRow r)) j k ≡ cellIn out j k
   unfolding cellIn
   cell-kept j k l m =
-      ap (λ xs. getD xs (j * rowCells + k) 0) (put-fits out (encodeRow r) i h ∙ append-assoc (take (i * rowCells) out) (encodeRow r) (drop (i * rowCells + rowCells) out))
-      ∙ List·getD-append (take (i * rowCells) out) (encodeRow r ++ drop (i * rowCells + rowCells) out) 0 (j * rowCells + k)
-      (rw (length-take-le (i * rowCells) out (omega arith)) (omega arith))
+      ap (λ xs. getD xs (j * rowCells + k) 0) put-here
+      ∙ List·getD-append (take (i * rowCells) out) (encodeRow r ++ drop (i * rowCells + rowCells) out) 0 (j * rowCells + k) (rw front (omega arith))
       ∙ getD-take (i * rowCells) out (j * rowCells + k) 0 (omega arith)
+
+  cell-put : (k : ℕ) → k < rowCells → cellIn (putCells out i (encodeRow r)) i k ≡ getD (encodeRow r) k 0
+  unfolding cellIn
+  cell-put k m =
+      ap (λ xs. getD xs (i * rowCells + k) 0) put-here
+      ∙ ap (λ n. getD (take (i * rowCells) out ++ (encodeRow r ++ drop (i * rowCells + rowCells) out)) (n + k) 0) (sym front)
+      ∙ getD-append-add (take (i * rowCells) out) (encodeRow r ++ drop (i * rowCells + rowCells) out) k 0
+      ∙ List·getD-append (encodeRow r) (drop (i * rowCells + rowCells) out) 0 k m
 
   row-kept : (j : ℕ) → j < i → rowIn (putCells out i (encodeRow r)) j ≡ rowIn out j
   row-kept j l =
@@ -85,8 +97,6 @@ module _ (out : List ℕ) (i : ℕ) (r : Row) (h : i * rowCells + rowCells ≤ l
   rows-put f =
       tab-more i (rowIn (putCells out i (encodeRow r)))
       ∙ ap (λ rows. rows ++ rowIn (putCells out i (encodeRow r)) i ∷ []) (tab-same i (rowIn (putCells out i (encodeRow r))) (rowIn out) row-kept)
-      ∙ ap (λ x. rowsBelow out i ++ x ∷ [])
-      (ap (λ xs. rowIn xs i) (put-fits out (encodeRow r) i h ∙ append-assoc (take (i * rowCells) out) (encodeRow r) (drop (i * rowCells + rowCells) out))
-      ∙ row-written (take (i * rowCells) out) (drop (i * rowCells + rowCells) out) r i (length-take-le (i * rowCells) out (omega arith)) f)
+      ∙ ap (λ x. rowsBelow out i ++ x ∷ []) (decoded r (putCells out i (encodeRow r)) i (kept f) cell-put)
 
 pub ruleset putting = (copied-none, copied-more, copied-all, put-nothing, needs)

@@ -21,7 +21,8 @@ use Rattle.document.proofs.Scalars.{either}
 use Rattle.document.proofs.Refusals.{both-passed, both-pass, all-pass}
 use Rattle.document.proofs.Form.{Formed, formed, form-passes, rows-sound, rows-lower}
 use Rattle.document.proofs.Whole.{distinct, distinct-passes, all-used, used-passes, low, low-passes}
-use Rattle.document.proofs.Encoding.{encoded-length, encoded-count, encoded-row, encoded-place, decode-encode}
+use Rattle.document.proofs.Encoding.{length-encode, decode-encode}
+use Rattle.document.proofs.Encoded.{encoded-count, encoded-row, encoded-place}
 
 -- A table that the check does not turn away is sound: its rows are few, each fits its symbol, children are lower, no two rows are equal, all but the last are used, and the levels are at most 256.
 pub sound-table : (A : Automaton) (cells : List ℕ) → ((s : ℕ) → arityOf A s ≤ maxChildren) → tableCheckOf A cells ≡ 0 → SoundTable A (decodeRows cells)
@@ -108,7 +109,7 @@ module _ (A : Automaton) (rows : List Row) (sound : Sound A) (table : SoundTable
   formed-rows =
       record {
         counted = record { rows = refl; some = rw (encoded-count rows) (table .some-row); few = rw (encoded-count rows) (table .few-rows) };
-        whole = ap (λ n. n % rowCells) (encoded-length rows) ∙ mul-mod-left (length rows) rowCells;
+        whole = ap (λ n. n % rowCells) (length-encode rows) ∙ mul-mod-left (length rows) rowCells;
         known = λ i l. let m = inside i l in subst (λ r. r .symbol < length (A .arities)) (sym (row-back i m)) (table .each i m .known);
         places = λ i l. let m = inside i l in all-pass maxChildren (child? (encodeRows rows) i (arityIn A (encodeRows rows) i)) (place-ok i m);
         scalars = λ i l. scalar-ok i (inside i l);

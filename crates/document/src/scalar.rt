@@ -1,6 +1,8 @@
 // Scalars: the five kinds, their kind and payload in a row, and their equality.
 ghost use mathlib.Core.Path.{_≡_};
 ghost use lib.Ieee.{binary64, toBits};
+ghost use lib.Dec.{T};
+ghost use Rattle.model.specs.Table.{scalar?};
 ghost use Rattle.document.specs.Scalars.{rateOf, kindOf, payloadOf, decodeScalar, hasKindPayload, sameScalar};
 
 // A bit pattern without its sign is a NaN where it is above that of infinity.
@@ -52,8 +54,10 @@ pub fn kind(s: Scalar) -> u16
     }
 }
 
+// The second promise: no value of the type has a kind and a payload that are not a scalar's.
 pub fn payload(s: Scalar) -> u64
     ensures { λ r. ⌜ r ≡ payloadOf s ⌝ }
+    ensures scalar { λ r. ⌜ T (scalar? (kindOf s) (payloadOf s)) ⌝ }
 {
     match s {
         Scalar::Bare => 0,
@@ -130,5 +134,18 @@ pub fn same(a: Scalar, b: Scalar) -> bool
             Scalar::Name(x) => x == y,
             _ => false,
         },
+    }
+}
+
+// Whether a scalar is what a row's kind and payload hold.
+pub fn held(s: Scalar, kind: u16, bits: u64) -> bool
+    ensures { λ r. ⌜ r ≡ hasKindPayload s kind bits ⌝ }
+{
+    if payload(s) != bits {
+        return false;
+    }
+    match decode(kind, bits) {
+        Decoded::Is(t) => same(s, t),
+        Decoded::Not => false,
     }
 }
