@@ -5,6 +5,8 @@ use mathlib.Core.Bool.{Bool, true, false, _&&_, cond}
 use Prim.Native.Nat.{ℕ, zero, suc, _+_, _/_, _%_, _<_, _≤_}
 use native.Mathlib.Omega.{arith}
 use borrow.Author.Tests.{ltb-true, ltb-false, leb-true, eqb-true, lt-ltb, le-ltb, le-leb, eq-eqb, ne-eqb}
+use mir.Syntax.{w16}
+use mir.Val.{Fits}
 use lib.Dec.{T, eqb, leb, ltb}
 use lib.ListN.{length, getD}
 use Rattle.model.specs.Limits.{maxChildren, maxRows, unused}
@@ -14,12 +16,13 @@ use Rattle.model.specs.Automaton.{Automaton, arityOf}
 use Rattle.model.specs.Table.{Row, rowAt, scalar?, Lower, SoundRow}
 use Rattle.model.proofs.Tab.{tab-at, length-tab, in-tab}
 use Rattle.model.proofs.Below.{at}
+use Rattle.automaton.proofs.Parts.{all-of}
 use Rattle.document.specs.Rows.{rowCells, cellIn, used, placesIn, rowIn, decodeRows}
 use Rattle.document.specs.Check.{rowCount, counted?, known?, placeIn, place?, child?, arityIn, children?, fits?, scalarFits?, formCheckOf}
 use Rattle.document.specs.Marks.{Counted}
 use Rattle.document.proofs.Places.{row-at, rows-length, place-cell}
 use Rattle.document.proofs.Encoding.{tab-same}
-use Rattle.document.proofs.Refusals.{passed, pass, true-and, all-pass}
+use Rattle.document.proofs.Refusals.{passed, pass, true-and}
 
 -- the places up to the first unused one, where the first a are in use and the others not
 used-tab : (n a : ℕ) (f : ℕ → ℕ) → a ≤ n → ((k : ℕ) → k < a → f k ≡ unused → ⊥) → ((k : ℕ) → a ≤ k → k < n → f k ≡ unused) → used (tab n f) ≡ tab a f
@@ -96,9 +99,9 @@ module _ (A : Automaton) (cells : List ℕ) where
   form-passes f =
       pass (counted? cells) 11 _
       (rw (le-leb 1 (rowCount cells) (f .counted .some), le-leb (rowCount cells) maxRows (f .counted .few)) (eq-eqb (length cells % rowCells) 0 (f .whole)))
-      (pass (allBelow (rowCount cells) (known? A cells)) 12 _ (all-pass (rowCount cells) (known? A cells) (λ i l. lt-ltb ((rowIn cells i) .symbol) (length (A .arities)) (f .known i l)))
-      (pass (allBelow (rowCount cells) (children? A cells)) 13 _ (all-pass (rowCount cells) (children? A cells) (f .places))
-      (pass (allBelow (rowCount cells) (scalarFits? A cells)) 14 0 (all-pass (rowCount cells) (scalarFits? A cells) (f .scalars)) refl)))
+      (pass (allBelow (rowCount cells) (known? A cells)) 12 _ (all-of (rowCount cells) (known? A cells) (λ i l. lt-ltb ((rowIn cells i) .symbol) (length (A .arities)) (f .known i l)))
+      (pass (allBelow (rowCount cells) (children? A cells)) 13 _ (all-of (rowCount cells) (children? A cells) (f .places))
+      (pass (allBelow (rowCount cells) (scalarFits? A cells)) 14 0 (all-of (rowCount cells) (scalarFits? A cells) (f .scalars)) refl)))
 
   module _ (few : (s : ℕ) → arityOf A s ≤ maxChildren) (f : Formed A cells) where
     module _ (i : ℕ) (l : i < rowCount cells) where
@@ -131,3 +134,11 @@ module _ (A : Automaton) (cells : List ℕ) where
 
     pub rows-lower : Lower (decodeRows cells)
     rows-lower i l j m = child-lower i (inside i l) j (subst (λ r. In j (r .children)) (row-at cells i (inside i l)) m)
+
+-- the number of rows that 11 lets pass fits 16 bits
+pub count-fits : (cells : List ℕ) (f : Bool) (n : ℕ) → f ≡ counted? cells → f ≡ true → n ≡ rowCount cells → Fits w16 n
+unfolding counted?
+count-fits cells f n e t q =
+    let (some, c) = true-and (leb 1 (rowCount cells)) (leb (rowCount cells) maxRows && eqb (length cells % rowCells) 0) (sym e ∙ t) in
+    let few = leb-true (rowCount cells) maxRows (true-and (leb (rowCount cells) maxRows) (eqb (length cells % rowCells) 0) c .0) in
+    record { fits = omega arith }

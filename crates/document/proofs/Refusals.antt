@@ -1,9 +1,10 @@
 -- Refusals by number: no refusal exactly where each test passes. Assumes nothing.
 use mathlib.Core.Path.{_≡_, refl, sym, ap, _∙_}
 use mathlib.Core.Bool.{Bool, true, false, _&&_}
-use Prim.Native.Nat.{ℕ, zero, suc, _<_}
+use Prim.Native.Nat.{ℕ, zero, suc, _≤_, _<_}
 use native.Mathlib.Omega.{arith}
-use Rattle.model.specs.Lists.{allBelow}
+use borrow.Author.Tests.{le-leb, lt-leb}
+use lib.Dec.{leb}
 use Rattle.model.specs.Refusal.{demand, andAfter}
 
 pub passed : (b : Bool) (n rest : ℕ) → 0 < n → demand b n rest ≡ 0 → (b ≡ true) × (rest ≡ 0)
@@ -28,7 +29,12 @@ pub true-and : (a b : Bool) → (a && b) ≡ true → (a ≡ true) × (b ≡ tru
 true-and true b h = (refl, h)
 true-and false b h = let z : _≡_ {A = ℕ} 0 1 = cc in let y : ⊥ = omega arith in absurd y
 
-pub all-pass : (n : ℕ) (p : ℕ → Bool) → ((i : ℕ) → i < n → p i ≡ true) → allBelow n p ≡ true
-unfolding allBelow
-all-pass zero p h = refl
-all-pass (suc n) p h = rw (all-pass n p (λ i l. h i (omega arith))) (h n (omega arith))
+-- a number r that equals l tells what the demand that l keeps a limit says
+module _ (l r limit n : ℕ) (e : r ≡ l) where
+  pub kept : r ≤ limit → 0 ≡ demand (leb l limit) n 0
+  unfolding demand
+  kept h = rw (le-leb l limit (omega arith))
+
+  pub over : limit < r → n ≡ demand (leb l limit) n 0
+  unfolding demand
+  over h = rw (lt-leb l limit (omega arith))

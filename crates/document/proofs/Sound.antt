@@ -14,11 +14,12 @@ use Rattle.model.specs.Sound.{Sound}
 use Rattle.model.specs.Table.{Row, rowAt, scalar?, SoundTable}
 use Rattle.model.proofs.Members.{T-and, T-true}
 use Rattle.model.proofs.Rows.{in-getD}
+use Rattle.automaton.proofs.Parts.{all-of}
 use Rattle.document.specs.Rows.{rowCells, rowIn, decodeRows, encodeRows, Fits}
 use Rattle.document.specs.Check.{rowCount, placeIn, place?, child?, arityIn, fits?, formCheckOf, distinctCheckOf, usedCheckOf, levelsCheckOf, tableCheckOf}
 use Rattle.document.proofs.Places.{rows-length}
 use Rattle.document.proofs.Scalars.{either}
-use Rattle.document.proofs.Refusals.{both-passed, both-pass, all-pass}
+use Rattle.document.proofs.Refusals.{both-passed, both-pass}
 use Rattle.document.proofs.Form.{Formed, formed, form-passes, rows-sound, rows-lower}
 use Rattle.document.proofs.Whole.{distinct, distinct-passes, all-used, used-passes, low, low-passes}
 use Rattle.document.proofs.Encoding.{length-encode, decode-encode}
@@ -111,7 +112,7 @@ module _ (A : Automaton) (rows : List Row) (sound : Sound A) (table : SoundTable
         counted = record { rows = refl; some = rw (encoded-count rows) (table .some-row); few = rw (encoded-count rows) (table .few-rows) };
         whole = ap (λ n. n % rowCells) (length-encode rows) ∙ mul-mod-left (length rows) rowCells;
         known = λ i l. let m = inside i l in subst (λ r. r .symbol < length (A .arities)) (sym (row-back i m)) (table .each i m .known);
-        places = λ i l. let m = inside i l in all-pass maxChildren (child? (encodeRows rows) i (arityIn A (encodeRows rows) i)) (place-ok i m);
+        places = λ i l. let m = inside i l in all-of maxChildren (child? (encodeRows rows) i (arityIn A (encodeRows rows) i)) (place-ok i m);
         scalars = λ i l. scalar-ok i (inside i l);
       }
     where

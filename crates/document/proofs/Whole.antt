@@ -17,8 +17,9 @@ use Rattle.model.specs.Build.{eqRow}
 use Rattle.model.proofs.Members.{T-true, in-any, any-in}
 use Rattle.model.proofs.Below.{at}
 use Rattle.model.proofs.Build.{eqRow→eq, eqRow-refl}
+use Rattle.automaton.proofs.Parts.{all-of}
 use Rattle.document.specs.Check.{fresh?, anyBelow, uses?, used?, distinctCheckOf, usedCheckOf, levelsCheckOf}
-use Rattle.document.proofs.Refusals.{passed, pass, true-and, all-pass}
+use Rattle.document.proofs.Refusals.{passed, pass, true-and}
 
 -- the order of two numbers
 order : (i j : ℕ) → (i < j) ⊎ ((i ≡ j) ⊎ (j < i))
@@ -49,7 +50,7 @@ module _ (rows : List Row) where
   unfolding distinctCheckOf fresh?
   distinct-passes d =
       pass (allBelow (length rows) (fresh? rows)) 15 0
-      (all-pass (length rows) (fresh? rows) (λ j m. all-pass j (λ i. not (eqRow (rowAt rows j) (rowAt rows i))) (λ i l. other i j l m (eqRow (rowAt rows j) (rowAt rows i)) refl)))
+      (all-of (length rows) (fresh? rows) (λ j m. all-of j (λ i. not (eqRow (rowAt rows j) (rowAt rows i))) (λ i l. other i j l m (eqRow (rowAt rows j) (rowAt rows i)) refl)))
       refl
     where
       other : (i j : ℕ) → i < j → j < length rows → (b : Bool) → eqRow (rowAt rows j) (rowAt rows i) ≡ b → not b ≡ true
@@ -93,7 +94,7 @@ module _ (rows : List Row) where
   unfolding usedCheckOf used? uses?
   used-passes h =
       pass (allBelow (length rows - 1) (used? rows)) 16 0
-      (all-pass (length rows - 1) (used? rows)
+      (all-of (length rows - 1) (used? rows)
       (λ i l.
       let (j, low, m, k) = h i (omega arith) in
       at-any (length rows) (λ j. uses? j ((rowAt rows j) .children) i) j m

@@ -11,6 +11,8 @@ use Rattle.model.specs.Tree.{levels}
 use Rattle.model.specs.Automaton.{Automaton, arityOf}
 use Rattle.model.specs.Table.{Row, rowAt, treeOf, scalar?}
 use Rattle.model.specs.Build.{eqRow}
+use Rattle.automaton.specs.Stored.{decode}
+use Rattle.automaton.specs.Check.{checkOf}
 use Rattle.document.specs.Rows.{rowCells, placesIn, rowIn, decodeRows}
 
 -- as many rows as fit whole
@@ -97,3 +99,7 @@ tableCheckOf A cells =
     (andAfter (distinctCheckOf (decodeRows cells))
     (andAfter (usedCheckOf (decodeRows cells))
     (levelsCheckOf (decodeRows cells))))
+
+-- the set is tried before the table
+abbrev pub documentCheckOf : List ℕ → List ℕ → ℕ
+documentCheckOf set cells = andAfter (checkOf set) (tableCheckOf (decode set) cells)

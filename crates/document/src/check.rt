@@ -1,32 +1,64 @@
 // The four tests of a table of lent rows: its form (11 to 14), equal rows (15), unused rows (16), its height (17).
 use crate::rows::MAX_CHILDREN;
+use crate::rows::ROW_CELLS;
 use crate::rows::Row;
 use crate::rows::UNUSED;
+use crate::rows::count;
+use crate::rows::kind;
+use crate::rows::payload;
 use crate::rows::place;
 use crate::rows::size;
 use crate::rows::symbol;
 use crate::scalar::Decoded;
 use crate::scalar::decode;
+use automaton::arity;
+use automaton::header;
 ghost use mathlib.Core.Path.{_≡_};
 ghost use mathlib.Core.Bool.{false};
 ghost use Prim.Native.Nat.{ℕ, _-_, _<_, _≤_};
-ghost use lib.Dec.{ltb};
 ghost use lib.ListN.{length, getD};
 ghost use Rattle.model.specs.Limits.{maxChildren};
 ghost use Rattle.model.specs.Lists.{allBelow, larger};
 ghost use Rattle.model.specs.Tree.{levels};
 ghost use Rattle.model.specs.Table.{treeOf, scalar?, Lower};
+ghost use Rattle.automaton.specs.Stored.{decode};
 ghost use Rattle.document.specs.Rows.{rowIn, decodeRows};
-ghost use Rattle.document.specs.Check.{place?, child?, fits?, used?};
+ghost use Rattle.document.specs.Check.{rowCount, counted?, known?, place?, child?, children?, fits?, scalarFits?, formCheckOf, used?, usedCheckOf, levelsCheckOf};
 ghost use Rattle.document.specs.Marks.{Counted, Marked, highestOf};
 
 const MAX_ROWS: usize = 1024;
 
-// 12 at row i, of a set with so many symbols.
-fn is_known(rows: &[u16], i: u16, symbols: u16) -> bool
-    ensures { λ r. ⌜ r ≡ ltb ((rowIn (now (rows .entry)) i) .symbol) symbols ⌝ }
+const MAX_LEVELS: u16 = 256;
+
+// 11: 1 to 1,024 rows, none cut short.
+fn counted(rows: &[u16]) -> bool
+    ensures { λ r. ⌜ r ≡ counted? (now (rows .entry)) ⌝ }
 {
-    symbol(rows, Row(i)) < symbols
+    let n = count(rows);
+    (1 <= n) & ((n <= MAX_ROWS) & (rows.len() % ROW_CELLS == 0))
+}
+
+// 12 at row i.
+fn symbol_known(set: &[u8], rows: &[u16], i: u16) -> bool
+    ensures { λ r. ⌜ r ≡ known? (decode (now (set .entry))) (now (rows .entry)) i ⌝ }
+{
+    let h = header(set);
+    symbol(rows, Row(i)) < h.symbols
+}
+
+fn symbols_known(set: &[u8], rows: &[u16], n: u16) -> bool
+    requires { ⌜ n ≡ rowCount (now rows) ⌝ }
+    ensures { λ r. ⌜ r ≡ allBelow (rowCount (now (rows .entry))) (known? (decode (now (set .entry))) (now (rows .entry))) ⌝ }
+{
+    let mut i = 0;
+    while i < n {
+        if symbol_known(set, rows, i) {
+            i += 1;
+        } else {
+            return false;
+        }
+    }
+    true
 }
 
 fn place_fits(in_use: bool, i: u16, x: u16) -> bool
@@ -42,8 +74,7 @@ fn child_fits(rows: &[u16], i: u16, arity: u16, k: u16) -> bool
     place_fits(k < arity, i, x.0)
 }
 
-// 13 at row i, whose symbol has so many children.
-fn children_fit(rows: &[u16], i: u16, arity: u16) -> bool
+fn places_fit(rows: &[u16], i: u16, arity: u16) -> bool
     ensures { λ r. ⌜ r ≡ allBelow maxChildren (child? (now (rows .entry)) i arity) ⌝ }
 {
     let n = MAX_CHILDREN;
@@ -51,6 +82,29 @@ fn children_fit(rows: &[u16], i: u16, arity: u16) -> bool
     while k < n {
         if child_fits(rows, i, arity, k) {
             k += 1;
+        } else {
+            return false;
+        }
+    }
+    true
+}
+
+// 13 at row i.
+fn children_fit(set: &[u8], rows: &[u16], i: u16) -> bool
+    ensures { λ r. ⌜ r ≡ children? (decode (now (set .entry))) (now (rows .entry)) i ⌝ }
+{
+    let a = arity(set, symbol(rows, Row(i)));
+    places_fit(rows, i, a)
+}
+
+fn all_children_fit(set: &[u8], rows: &[u16], n: u16) -> bool
+    requires { ⌜ n ≡ rowCount (now rows) ⌝ }
+    ensures { λ r. ⌜ r ≡ allBelow (rowCount (now (rows .entry))) (children? (decode (now (set .entry))) (now (rows .entry))) ⌝ }
+{
+    let mut i = 0;
+    while i < n {
+        if children_fit(set, rows, i) {
+            i += 1;
         } else {
             return false;
         }
@@ -67,14 +121,56 @@ fn is_scalar(kind: u16, payload: u64) -> bool
     }
 }
 
-// 14 of a kind and a payload, on a symbol with so many children.
-fn scalar_fits(arity: u16, kind: u16, payload: u64) -> bool
+fn fits_arity(arity: u16, kind: u16, payload: u64) -> bool
     ensures { λ r. ⌜ r ≡ fits? arity kind payload ⌝ }
 {
     if arity == 0 {
         return is_scalar(kind, payload);
     }
     (kind == 0) & (payload == 0)
+}
+
+// 14 at row i.
+fn scalar_fits(set: &[u8], rows: &[u16], i: u16) -> bool
+    ensures { λ r. ⌜ r ≡ scalarFits? (decode (now (set .entry))) (now (rows .entry)) i ⌝ }
+{
+    let a = arity(set, symbol(rows, Row(i)));
+    fits_arity(a, kind(rows, Row(i)), payload(rows, Row(i)))
+}
+
+fn all_scalars_fit(set: &[u8], rows: &[u16], n: u16) -> bool
+    requires { ⌜ n ≡ rowCount (now rows) ⌝ }
+    ensures { λ r. ⌜ r ≡ allBelow (rowCount (now (rows .entry))) (scalarFits? (decode (now (set .entry))) (now (rows .entry))) ⌝ }
+{
+    let mut i = 0;
+    while i < n {
+        if scalar_fits(set, rows, i) {
+            i += 1;
+        } else {
+            return false;
+        }
+    }
+    true
+}
+
+// 11 to 14, or 0: the form of the rows, each by itself.
+pub fn form(set: &[u8], rows: &[u16]) -> u16
+    ensures { λ r. ⌜ r ≡ formCheckOf (decode (now (set .entry))) (now (rows .entry)) ⌝ }
+{
+    if !counted(rows) {
+        return 11;
+    }
+    let n = count(rows) as u16;
+    if !symbols_known(set, rows, n) {
+        return 12;
+    }
+    if !all_children_fit(set, rows, n) {
+        return 13;
+    }
+    if !all_scalars_fit(set, rows, n) {
+        return 14;
+    }
+    0
 }
 
 // Marks each child of row j that is lower than it.
@@ -184,4 +280,24 @@ fn levels_of(rows: &[u16], n: u16) -> u16
         i += 1;
     }
     height_at(&heights, n - 1)
+}
+
+// 16, or 0.
+pub fn used(rows: &[u16], n: u16) -> u16
+    requires { ⌜ Counted (now rows) n ⌝ }
+    ensures { λ r. ⌜ r ≡ usedCheckOf (decodeRows (now (rows .entry))) ⌝ }
+{
+    if all_used(rows, n) { 0 } else { 16 }
+}
+
+// 17, or 0: heights need lower children only.
+pub fn low(rows: &[u16], n: u16) -> u16
+    requires { ⌜ Counted (now rows) n × Lower (decodeRows (now rows)) ⌝ }
+    ensures { λ r. ⌜ r ≡ levelsCheckOf (decodeRows (now (rows .entry))) ⌝ }
+{
+    if levels_of(rows, n) <= MAX_LEVELS {
+        0
+    } else {
+        17
+    }
 }

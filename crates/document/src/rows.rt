@@ -1,6 +1,9 @@
 // Lent rows, cell by cell: every function answers for every slice, a cell past the end counting as 0.
-use crate::fields::{RowFields, cells_of};
-use crate::scalar::{Decoded, Scalar, decode};
+use crate::fields::RowFields;
+use crate::fields::cells_of;
+use crate::scalar::Decoded;
+use crate::scalar::Scalar;
+use crate::scalar::decode;
 ghost use mathlib.Core.Path.{_≡_};
 ghost use Prim.Native.Nat.{_+_, _/_, _<_};
 ghost use lib.ListN.{length};
@@ -93,7 +96,12 @@ fn scalar_of(kind: u16, payload: u64) -> Scalar
 fn places_of(rows: &[u16], i: Row) -> [u16; 4]
     ensures { λ r. ⌜ r ≡ placesIn (now (rows .entry)) (i .0) ⌝ }
 {
-    [cell(rows, i, 1), cell(rows, i, 2), cell(rows, i, 3), cell(rows, i, 4)]
+    [
+        cell(rows, i, 1),
+        cell(rows, i, 2),
+        cell(rows, i, 3),
+        cell(rows, i, 4),
+    ]
 }
 
 // Row i by value; its scalar is bare where kind and payload are none.

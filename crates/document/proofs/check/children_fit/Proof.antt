@@ -1,27 +1,9 @@
 -- `document::check::children_fit` meets its contract. Assumes nothing.
-use Prim.Native.Nat.{_-_}
-use Rattle.model.specs.Limits.{maxChildren}
-use Rattle.model.proofs.Below.{Passed, loops}
-use Rattle.document.specs.Check.{child?}
+use borrow.Author.Needs.{needs}
+use Rattle.document.specs.Check.{children?}
 use Rattle.document.proofs.check.children_fit.Statement.{statement}
 use Rattle.document.proofs.check.children_fit.Tie as tie
 
-abbrev Inv-loop : tie.InvT-loop
-Inv-loop rows i arity n k₀ k = Passed (child? rows i arity) maxChildren n k
-
-abbrev μ-loop : tie.MeasureT-loop
-μ-loop rows i arity n k₀ k = n - k
-
 pub children-fit-spec : {M : Type 1} → statement M
-children-fit-spec =
-    tie.close
-    (tie.spec
-    Inv-loop
-    μ-loop
-    (λ c. search loops)
-    (λ c κs. search loops)
-    (λ c. search loops)
-    (λ c. search loops)
-    (λ c. search loops)
-    (λ c. search loops)
-    (λ c. search loops))
+unfolding children?
+children-fit-spec = tie.close (tie.spec (λ c κs. search needs) (λ c κs. search needs) (λ c κs. search needs) (λ c. cc))
