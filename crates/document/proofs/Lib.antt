@@ -6,3 +6,4 @@ pub mod Places
 pub mod Children
 pub mod Equality
 pub mod Encoding
+pub mod Probing
