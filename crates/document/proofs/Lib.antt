@@ -18,3 +18,4 @@ pub mod Whole
 pub mod Entering
 pub mod Verdicts
 pub mod Sound
+pub mod Lent
