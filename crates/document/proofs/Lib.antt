@@ -7,3 +7,5 @@ pub mod Children
 pub mod Equality
 pub mod Encoding
 pub mod Probing
+pub mod Copying
+pub mod Placement

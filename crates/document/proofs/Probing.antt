@@ -270,3 +270,12 @@ module _ (slots : List ℕ) (same? : ℕ → Bool) (s : ℕ) where
 
       pub searched-more : r ≡ false → Searched slots same? s (d + 1)
       searched-more f = record { within = omega arith; rest = rw add-one (rw (sym er ∙ f) at (turn-row (v - 1) before)) }
+
+-- a free slot is one of the slots
+free-inside : {slots : List ℕ} {same? : ℕ → Bool} {s : ℕ} {q : Probed} → Walk slots same? s 0 q → (t : ℕ) → q ≡ Free t → t < slotCount
+free-inside (met e i h g) t f = let z : _≡_ {A = ℕ} 0 1 = cc in omega arith
+free-inside {s = s} (opened e a m z h) t f = let q : slotAfter s e ≡ t = cc in let l = mod-lt (s + e) {m = slotCount} (omega arith) in omega arith
+free-inside (crowded h) t f = let z : _≡_ {A = ℕ} 0 1 = cc in omega arith
+
+pub slot-inside : (slots : List ℕ) (same? : ℕ → Bool) (s t : ℕ) → probe slots same? s ≡ Free t → t < slotCount
+slot-inside slots same? s t = free-inside (walk slots same? s 0 slotCount refl) t
