@@ -1,0 +1,105 @@
+-- A set that no test turns away stands for a sound automaton. Assumes nothing.
+use mathlib.Core.Path.{_≡_, refl, sym, ap, _∙_, subst}
+use mathlib.Core.Bool.{Bool, true, false, _&&_, cond}
+use mathlib.Core.Logic.{_⊎_, inl, inr, ⊎-elim}
+use mathlib.Core.List.{List, [], _∷_, _++_, List·Memᴰ as In}
+use Prim.Native.Nat.{ℕ, zero, suc, _+_, _^_, _≤_, _<_}
+use native.Mathlib.Omega.{arith}
+use native.Mathlib.Numerals.{add-one}
+use lib.Dec.{T, eqb, ltb}
+use lib.ListN.{length, getD}
+use lib.Pow.{pow-pos}
+use borrow.Author.Tests.{lt-ltb, le-ltb, ltb-true, eqb-true}
+use Rattle.model.specs.Limits.{maxChildren, unused}
+use Rattle.model.specs.Lists.{tab}
+use Rattle.model.specs.Automaton.{Rule, State, Automaton, Wellformed, arityOf, stateAt}
+use Rattle.model.specs.Order.{place, key, lower?, before?, Ascending}
+use Rattle.model.specs.Sound.{Sound}
+use Rattle.model.proofs.Members.{T-true}
+use Rattle.model.proofs.Tab.{tab-at, tab-past, length-tab, in-tab}
+use Rattle.automaton.specs.Stored.{symbolCount, stateCount, tagCount, ruleCount, symbolByte, stateByte, ruleWord, placeWord, aritiesOf, stateOf, ruleOf, decode}
+use Rattle.automaton.specs.Check.{placeOk, keyWord, ascendsAt, checkOf}
+use Rattle.automaton.proofs.Parts.{below-or, tab-same}
+use Rattle.automaton.proofs.Decode.{symbols-are, states-are, tags-are, rules-are, arity-known, arity-unknown, state-known, state-unknown, rule-known}
+use Rattle.automaton.proofs.Passes.{Passes, passes}
+
+pub ascending-tab : (n : ℕ) (f : ℕ → Rule) → ((i : ℕ) → suc i < n → T (before? (f i) (f (suc i)))) → Ascending (tab n f)
+ascending-tab zero f h = tt
+ascending-tab (suc zero) f h = tt
+ascending-tab (suc (suc n)) f h = (h 0 (omega arith), ascending-tab (suc n) (λ k. f (suc k)) (λ i l. h (suc i) (omega arith)))
+
+module _ (s : List ℕ) (p : Passes s) where
+  pub arity-few : (f : ℕ) → arityOf (decode s) f ≤ maxChildren
+  arity-few f =
+      ⊎-elim (λ l. rw (arity-known s f l) (p .symbols f l)) (λ l. rw (arity-unknown s f l) (omega arith)) (below-or f (symbolCount s))
+
+  module _ (i : ℕ) (l : i < ruleCount s) where
+    pub rule-arity : arityOf (decode s) (ruleWord s i 0) ≡ symbolByte s (ruleWord s i 0)
+    rule-arity = arity-known s (ruleWord s i 0) (p .rules i l .0)
+
+    -- a place in use holds a state, any other 65535
+    pub place-state : (k : ℕ) → k < symbolByte s (ruleWord s i 0) → placeWord s i k < stateCount s
+    unfolding placeOk
+    place-state k lk =
+        let few : symbolByte s (ruleWord s i 0) ≤ maxChildren = p .symbols (ruleWord s i 0) (p .rules i l .0) in
+        ltb-true _ _ (rw (lt-ltb k (symbolByte s (ruleWord s i 0)) lk) at (p .places i l k (omega arith)))
+
+    pub place-rest : (k : ℕ) → symbolByte s (ruleWord s i 0) ≤ k → k < maxChildren → placeWord s i k ≡ unused
+    unfolding placeOk
+    place-rest k lk m = eqb-true _ _ (rw (le-ltb k (symbolByte s (ruleWord s i 0)) lk) at (p .places i l k m))
+
+    pub place-is : (k : ℕ) → k < maxChildren → place (ruleOf s i) k ≡ placeWord s i k
+    unfolding decode
+    place-is k m =
+        ⊎-elim
+        (λ lk. tab-at unused (arityOf (decode s) (ruleWord s i 0)) (placeWord s i) k (rw rule-arity lk))
+        (λ lk. tab-past unused (arityOf (decode s) (ruleWord s i 0)) (placeWord s i) k (rw rule-arity lk) ∙ sym (place-rest k lk m))
+        (below-or k (symbolByte s (ruleWord s i 0)))
+
+    pub key-is : key (ruleOf s i) ≡ tab (maxChildren + 2) (keyWord s i)
+    unfolding keyWord
+    key-is = ap (λ (ps : List ℕ). ruleWord s i 0 ∷ ps ++ ruleWord s i 1 ∷ []) (tab-same maxChildren (place (ruleOf s i)) (placeWord s i) place-is)
+
+  before-next : (i : ℕ) → suc i < ruleCount s → T (before? (ruleOf s i) (ruleOf s (suc i)))
+  unfolding ascendsAt
+  before-next i l =
+      let e : ascendsAt s i ≡ true = p .ascends i (omega arith) in
+      let e′ : lower? (tab (maxChildren + 2) (keyWord s i)) (tab (maxChildren + 2) (keyWord s (suc i))) ≡ true = rw add-one at e in
+      T-true (before? (ruleOf s i) (ruleOf s (suc i))) .1
+      (ap (λ (a : List ℕ). lower? a (key (ruleOf s (suc i)))) (key-is i (omega arith))
+      ∙ ap (λ (b : List ℕ). lower? (tab (maxChildren + 2) (keyWord s i)) b) (key-is (suc i) l)
+      ∙ e′)
+
+  well : Wellformed (decode s)
+  unfolding decode
+  well = record {
+    targets = λ r m. let (i, l, e) = in-tab (ruleCount s) (ruleOf s) m in rw (e, states-are s) (p .rules i l .1);
+    children = λ r m q n.
+        let (i, l, e) = in-tab (ruleCount s) (ruleOf s) m in
+        let (k, lk, eq) = in-tab (arityOf (decode s) (ruleWord s i 0)) (placeWord s i) (subst (λ (z : Rule). In q (z .children)) e n) in
+        rw (eq, states-are s) (place-state i l k (omega (arith, rule-arity i l, lk)));
+    symbols = λ r m. let (i, l, e) = in-tab (ruleCount s) (ruleOf s) m in rw (e, symbols-are s) (p .rules i l .0);
+    as-many = λ r m. let (i, l, e) = in-tab (ruleCount s) (ruleOf s) m in rw e (length-tab (arityOf (decode s) (ruleWord s i 0)) (placeWord s i));
+    masks = λ q. ⊎-elim (λ l. rw (state-known s q l) (p .states q l .1)) (λ l. rw (state-unknown s q l) (pow-pos (tagCount s))) (below-or q (stateCount s));
+  }
+
+-- Bytes that the check passes stand for an automaton with every range and order of document 01.
+pub sound-decode : (s : List ℕ) → checkOf s ≡ 0 → Sound (decode s)
+unfolding decode
+sound-decode s h =
+    let p = passes s h in
+    let c = p .counts in
+    let S = symbols-are s in
+    let Q = states-are s in
+    let R = rules-are s in
+    record {
+      some-symbol = let z = c .some-symbol in omega arith;
+      few-symbols = let z = c .few-symbols in omega arith;
+      some-state = let z = c .some-state in omega arith;
+      few-states = let z = c .few-states in omega arith;
+      few-tags = c .few-tags;
+      few-rules = let z = c .few-rules in omega arith;
+      few-children = arity-few s p;
+      wellformed = well s p;
+      ascending = ascending-tab (ruleCount s) (ruleOf s) (before-next s p);
+    }

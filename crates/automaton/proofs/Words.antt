@@ -1,0 +1,57 @@
+-- Numbers as bytes: what stands where in a list of encoded words, and a word read back. Assumes nothing.
+use mathlib.Core.Path.{_≡_, refl, sym, ap, _∙_}
+use mathlib.Core.List.{List, [], _∷_, _++_}
+use Prim.Native.Nat.{ℕ, zero, suc, _+_, _*_, _/_, _%_, _<_, _≤_}
+use native.Mathlib.Nat.{zero-add, mod-eq-of-lt, div-eq-of-lt, add-mul-mod-self-left, add-mul-div-left}
+use native.Mathlib.Omega.{arith}
+use native.Mathlib.Numerals.{add-one}
+use lib.ListN.{length, getD, length-append}
+use Rattle.model.specs.Lists.{concatMap, tab}
+use Rattle.automaton.proofs.Parts.{tab-of}
+use Rattle.automaton.specs.Form.{headerWidth, statesOffset, rulesOffset, totalLength}
+use Rattle.automaton.specs.Encode.{encodeWord, encodeHeader, encodePlaces}
+
+pub length-words : (ws : List ℕ) → length (concatMap encodeWord ws) ≡ 2 * length ws
+length-words [] = refl
+length-words (w ∷ ws) = let e = length-words ws in omega arith
+
+pub low-at : (ws : List ℕ) (i : ℕ) → i < length ws → getD (concatMap encodeWord ws) (2 * i) 0 ≡ getD ws i 0 % 256
+low-at [] i l = absurd (omega arith)
+low-at (w ∷ ws) zero l = refl
+low-at (w ∷ ws) (suc i) l = let e : 2 * suc i ≡ suc (suc (2 * i)) = omega arith in rw e (low-at ws i (omega arith))
+
+pub high-at : (ws : List ℕ) (i : ℕ) → i < length ws → getD (concatMap encodeWord ws) (2 * i + 1) 0 ≡ getD ws i 0 / 256 % 256
+high-at [] i l = absurd (omega arith)
+high-at (w ∷ ws) zero l = refl
+high-at (w ∷ ws) (suc i) l = let e : 2 * suc i + 1 ≡ suc (suc (2 * i + 1)) = omega arith in rw e (high-at ws i (omega arith))
+
+-- what is cut to 16 bits is the same word
+low-cut : (x : ℕ) → x % 65536 % 256 ≡ x % 256
+low-cut x = omega arith
+
+high-cut : (x : ℕ) → x % 65536 / 256 % 256 ≡ x / 256 % 256
+high-cut x = omega arith
+
+pub word-cut : (x y : ℕ) → x ≡ y % 65536 → encodeWord x ≡ encodeWord y
+word-cut x y e = cc (e, low-cut y, high-cut y)
+
+-- the words of a header, the offsets a, b and the total c cut to 16 bits; those of a rule with m places
+pub header-words : (S Q T R a b c x y z : ℕ) → x ≡ statesOffset S → y ≡ rulesOffset S Q → z ≡ totalLength S Q R → a ≡ x % 65536 → b ≡ y % 65536 → c ≡ z % 65536 → concatMap encodeWord (S ∷ Q ∷ T ∷ R ∷ headerWidth ∷ a ∷ b ∷ c ∷ []) ≡ encodeHeader S Q T R
+unfolding encodeHeader
+header-words S Q T R a b c x y z ex ey ez ea eb ec =
+    ap (λ (w : List ℕ). concatMap encodeWord (S ∷ Q ∷ T ∷ R ∷ headerWidth ∷ []) ++ w)
+    (cc (ex, ey, ez, word-cut a x ea, word-cut b y eb, word-cut c z ec))
+
+pub rule-words : (m f t : ℕ) (ps : List ℕ) → length ps ≡ m → concatMap encodeWord (f ∷ t ∷ tab m (λ k. getD ps k 0)) ≡ encodePlaces f t ps
+unfolding encodePlaces
+rule-words m f t ps e = ap (λ (l : List ℕ). concatMap encodeWord (f ∷ t ∷ l)) (ap (λ (n : ℕ). tab n (λ k. getD ps k 0)) (sym e) ∙ tab-of 0 ps)
+
+-- a number below 2^16 is read back from its two bytes, and two bytes from their number
+pub word-back : (x : ℕ) → x < 65536 → x % 256 + 256 * (x / 256 % 256) ≡ x
+word-back x l = omega arith
+
+pub bytes-back : (a b : ℕ) → a < 256 → b < 256 → encodeWord (a + 256 * b) ≡ a ∷ b ∷ []
+bytes-back a b la lb =
+    let low : (a + 256 * b) % 256 ≡ a = add-mul-mod-self-left a 256 b ∙ mod-eq-of-lt la in
+    let high : (a + 256 * b) / 256 % 256 ≡ b = rw (add-mul-div-left a b {y = 256} (omega arith), div-eq-of-lt la, zero-add) (mod-eq-of-lt lb) in
+    cc

@@ -1,0 +1,22 @@
+-- `automaton::raw::place_word` meets its contract: the offset is the header's. Assumes nothing.
+use Rattle.automaton.specs.Stored.{ruleWord}
+use borrow.Author.Needs.{needs}
+use Rattle.automaton.proofs.raw.place_word.Statement.{statement}
+use Rattle.automaton.proofs.raw.place_word.Tie as tie
+
+pub place-word-spec : {M : Type 1} → statement M
+unfolding ruleWord
+place-word-spec =
+    tie.close
+    (tie.spec
+    (λ c κs. search needs)
+    (λ c κs. search needs)
+    (λ c κs. search needs)
+    (λ c. search needs)
+    (λ c. search needs)
+    (λ c κs. search needs)
+    (λ c. search needs)
+    (λ c. search needs)
+    (λ c. search needs)
+    (λ c κs. search needs)
+    (λ c. cc))

@@ -1,0 +1,68 @@
+-- The stored form of an automaton, and bytes put into a lent space (document 01, section "Sets"). Assumes nothing.
+use mathlib.Core.Path.{_≡_}
+use mathlib.Core.List.{List, [], _∷_, _++_}
+use mathlib.Core.Bool.{Bool, true, false, cond}
+use Prim.Native.Nat.{ℕ, _+_, _/_, _%_}
+use lib.Dec.{leb}
+use lib.ListN.{length, take, drop}
+use Rattle.model.specs.Limits.{maxChildren}
+use Rattle.model.specs.Lists.{concatMap, tab}
+use Rattle.model.specs.Automaton.{Rule, State, Automaton}
+use Rattle.model.specs.Order.{place}
+use Rattle.automaton.specs.Form.{headerWidth, statesOffset, rulesOffset, totalLength}
+
+-- a number's lowest byte, alone
+abbrev pub encodeByte : ℕ → List ℕ
+encodeByte x = x % 256 ∷ []
+
+-- a number's lowest 16 bits, low byte first
+abbrev pub encodeWord : ℕ → List ℕ
+encodeWord x = x % 256 ∷ x / 256 % 256 ∷ []
+
+-- the header of S symbols, Q states, T tags and R rules
+unfoldable pub encodeHeader : ℕ → ℕ → ℕ → ℕ → List ℕ
+encodeHeader S Q T R =
+    concatMap encodeWord (S ∷ Q ∷ T ∷ R ∷ headerWidth ∷ statesOffset S ∷ rulesOffset S Q ∷ totalLength S Q R ∷ [])
+
+-- a symbol: its number of children
+unfoldable pub encodeSymbol : ℕ → List ℕ
+encodeSymbol arity = encodeByte arity
+
+-- a state: 1 where it is final, then its tags
+unfoldable pub encodeState : Bool → ℕ → List ℕ
+encodeState final mask = cond final 1 0 ∷ encodeByte mask
+
+-- a rule: its symbol, its target, its child places
+unfoldable pub encodePlaces : ℕ → ℕ → List ℕ → List ℕ
+encodePlaces symbol target places = concatMap encodeWord (symbol ∷ target ∷ places)
+
+abbrev pub encodeRule : Rule → List ℕ
+encodeRule r = encodePlaces (r .symbol) (r .target) (tab maxChildren (place r))
+
+-- The stored form.
+unfoldable pub encode : Automaton → List ℕ
+encode A =
+    encodeHeader (length (A .arities)) (length (A .states)) (A .tags) (length (A .rules))
+    ++ concatMap encodeSymbol (A .arities)
+    ++ concatMap (λ q. encodeState (q .final) (q .mask)) (A .states)
+    ++ concatMap encodeRule (A .rules)
+
+abbrev pub encodedLength : Automaton → ℕ
+encodedLength A = totalLength (length (A .arities)) (length (A .states)) (length (A .rules))
+
+-- the bytes fit whole at this place of the space
+abbrev pub fits? : List ℕ → ℕ → List ℕ → Bool
+fits? out at bytes = leb (at + length bytes) (length out)
+
+-- the space with the bytes put at this place, where they fit whole; else as it was
+unfoldable pub putAt : List ℕ → ℕ → List ℕ → List ℕ
+putAt out at bytes = cond (fits? out at bytes) (take at out ++ bytes ++ drop (at + length bytes) out) out
+
+-- the place after the bytes, where they fit whole; else the place itself
+unfoldable pub placeAfter : List ℕ → ℕ → List ℕ → ℕ
+placeAfter out at bytes = cond (fits? out at bytes) (at + length bytes) at
+
+-- the bytes put at this place of the space: what it holds then, and the place that is answered
+pub record Put (out : List ℕ) (at : ℕ) (bytes out′ : List ℕ) (r : ℕ) : Type 0 where
+  pub space : out′ ≡ putAt out at bytes
+  pub place : r ≡ placeAfter out at bytes

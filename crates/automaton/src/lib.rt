@@ -1,0 +1,235 @@
+// The stored form of an automaton: its check, what it says by index, and its writing (`write`).
+ghost use mathlib.Core.Path.{_≡_};
+ghost use Prim.Native.Nat.{_≤_};
+ghost use lib.ListN.{length};
+ghost use Rattle.model.specs.Automaton.{stateAt, arityOf, final?};
+ghost use Rattle.model.specs.Limits.{maxChildren};
+ghost use Rattle.model.specs.Lists.{tab};
+ghost use Rattle.model.specs.Order.{place};
+ghost use Rattle.model.specs.Written.{ruleAt};
+ghost use Rattle.automaton.specs.Stored.{placeOf, decode};
+ghost use Rattle.automaton.specs.Check.{checkOf};
+ghost use Rattle.automaton.specs.Window.{FirstFrom};
+ghost use Rattle.automaton.specs.Answer.{refusalOf, checkedOf, Counts, Holds};
+
+mod raw;
+mod tests;
+pub mod write;
+
+use raw::header_word;
+use raw::place_word;
+use raw::rule_word;
+use raw::state_byte;
+use raw::symbol_byte;
+
+// The limits and widths of the form.
+pub const MAX_SYMBOLS: u16 = 64;
+
+pub const MAX_CHILDREN: u16 = 4;
+
+pub const MAX_STATES: u16 = 256;
+
+pub const MAX_TAGS: u16 = 8;
+
+pub const MAX_RULES: u16 = 1024;
+
+pub const UNUSED: u16 = 65535;
+
+const HEADER_WIDTH: usize = 16;
+
+const STATE_WIDTH: usize = 2;
+
+const RULE_WIDTH: usize = 12;
+
+// A state's number.
+pub struct State(pub u16);
+
+// What the header says.
+pub struct StoredHeader {
+    pub symbols: u16,
+    pub states: u16,
+    pub tags: u16,
+    pub rules: u16,
+    pub total: u16,
+}
+
+// A rule with its child places; an unused place holds UNUSED.
+pub struct StoredRule {
+    pub symbol: u16,
+    pub target: State,
+    pub places: [u16; 4],
+}
+
+// The check's answer: refused with a number of document 01, or none.
+pub enum Checked {
+    Sound,
+    Refused(u16),
+}
+
+pub fn check(set: &[u8]) -> Checked
+    ensures { λ r. ⌜ (refusalOf r ≡ checkOf (now (set .entry))) × (r ≡ checkedOf (checkOf (now (set .entry)))) ⌝ }
+{
+    if set.len() < HEADER_WIDTH {
+        return Checked::Refused(1);
+    }
+    if !tests::counts(set) {
+        return Checked::Refused(2);
+    }
+    if !tests::offsets(set) {
+        return Checked::Refused(3);
+    }
+    if !tests::symbols(set) {
+        return Checked::Refused(4);
+    }
+    if !tests::states(set) {
+        return Checked::Refused(5);
+    }
+    if !tests::rules(set) {
+        return Checked::Refused(6);
+    }
+    if !tests::ascending(set) {
+        return Checked::Refused(7);
+    }
+    Checked::Sound
+}
+
+pub fn header(set: &[u8]) -> StoredHeader
+    ensures { λ r. ⌜ Counts r (now (set .entry)) ⌝ }
+{
+    StoredHeader {
+        symbols: header_word(set, 0),
+        states: header_word(set, 2),
+        tags: header_word(set, 4),
+        rules: header_word(set, 6),
+        total: header_word(set, 14),
+    }
+}
+
+// The number of rules.
+fn rules(set: &[u8]) -> u16
+    ensures { λ r. ⌜ r ≡ length ((decode (now (set .entry))) .rules) ⌝ }
+{
+    header_word(set, 6)
+}
+
+pub fn arity(set: &[u8], symbol: u16) -> u16
+    ensures { λ r. ⌜ r ≡ arityOf (decode (now (set .entry))) symbol ⌝ }
+{
+    if symbol < header_word(set, 0) {
+        symbol_byte(set, symbol)
+    } else {
+        0
+    }
+}
+
+pub fn is_final(set: &[u8], q: State) -> bool
+    ensures { λ r. ⌜ r ≡ final? (decode (now (set .entry))) (q .0) ⌝ }
+{
+    if q.0 < header_word(set, 2) {
+        state_byte(set, q.0, 0) == 1
+    } else {
+        false
+    }
+}
+
+// The tags of a state, bit k for tag k.
+pub fn tags_of(set: &[u8], q: State) -> u16
+    ensures { λ r. ⌜ r ≡ stateAt (decode (now (set .entry))) (q .0) .mask ⌝ }
+{
+    if q.0 < header_word(set, 2) {
+        state_byte(set, q.0, 1)
+    } else {
+        0
+    }
+}
+
+pub fn rule_symbol(set: &[u8], i: u16) -> u16
+    ensures { λ r. ⌜ r ≡ ruleAt (decode (now (set .entry))) i .symbol ⌝ }
+{
+    if i < rules(set) {
+        rule_word(set, i, 0)
+    } else {
+        0
+    }
+}
+
+pub fn rule_target(set: &[u8], i: u16) -> State
+    ensures { λ r. ⌜ r .0 ≡ ruleAt (decode (now (set .entry))) i .target ⌝ }
+{
+    if i < rules(set) {
+        State(rule_word(set, i, 1))
+    } else {
+        State(0)
+    }
+}
+
+// What stands in child place k of rule i, whose symbol has n children.
+fn place_of(set: &[u8], i: u16, n: u16, k: u16) -> u16
+    ensures { λ r. ⌜ r ≡ placeOf (now (set .entry)) i n k ⌝ }
+{
+    if k < n { place_word(set, i, k) } else { UNUSED }
+}
+
+// What stands in child place k of rule i.
+pub fn rule_child(set: &[u8], i: u16, k: u16) -> u16
+    ensures { λ r. ⌜ r ≡ place (ruleAt (decode (now (set .entry))) i) k ⌝ }
+{
+    if i < rules(set) {
+        let n = arity(set, rule_word(set, i, 0));
+        place_of(set, i, n, k)
+    } else {
+        UNUSED
+    }
+}
+
+// The child places of rule i, whose symbol has n children.
+fn places_of(set: &[u8], i: u16, n: u16) -> [u16; 4]
+    ensures { λ r. ⌜ r ≡ tab maxChildren (placeOf (now (set .entry)) i n) ⌝ }
+{
+    let mut places = [UNUSED; 4];
+    let mut k = 0;
+    while k < MAX_CHILDREN {
+        let at = k as usize;
+        places[at] = place_of(set, i, n, k);
+        k += 1;
+    }
+    places
+}
+
+pub fn rule(set: &[u8], i: u16) -> StoredRule
+    ensures { λ r. ⌜ Holds r (ruleAt (decode (now (set .entry))) i) ⌝ }
+{
+    if i < rules(set) {
+        let symbol = rule_word(set, i, 0);
+        let places = places_of(set, i, arity(set, symbol));
+        StoredRule {
+            symbol: symbol,
+            target: State(rule_word(set, i, 1)),
+            places: places,
+        }
+    } else {
+        StoredRule {
+            symbol: 0,
+            target: State(0),
+            places: [UNUSED; 4],
+        }
+    }
+}
+
+// The first rule whose symbol is the given one or higher, or the number of rules.
+pub fn rules_from(set: &[u8], symbol: u16) -> u16
+    ensures within { λ r. ⌜ r ≤ length ((decode (now (set .entry))) .rules) ⌝ }
+    ensures first { λ r. ⌜ (checkOf (now (set .entry)) ≡ 0 → FirstFrom (decode (now (set .entry))) symbol r) ⌝ }
+{
+    let mut low = 0;
+    let mut high = rules(set);
+    while low < high {
+        let middle = low + (high - low) / 2;
+        if rule_word(set, middle, 0) < symbol {
+            low = middle + 1;
+        } else {
+            high = middle;
+        }
+    }
+    low
+}

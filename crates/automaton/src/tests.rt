@@ -1,0 +1,218 @@
+// The check's tests 2 to 7, each over the whole input.
+ghost use mathlib.Core.Path.{_≡_};
+ghost use Prim.Native.Nat.{_+_, _-_, _^_, _<_, _≤_};
+ghost use lib.Dec.{eqb};
+ghost use Rattle.model.specs.Limits.{maxChildren};
+ghost use Rattle.model.specs.Lists.{allBelow};
+ghost use Rattle.automaton.specs.Form.{statesOffset, rulesOffset, totalLength};
+ghost use Rattle.automaton.specs.Stored.{word, symbolCount, stateCount, tagCount, ruleCount};
+ghost use Rattle.automaton.specs.Check.{countsOk, offsetsOk, symbolOk, stateOk, placeOk, ruleOk, keyWord, ascendsAt};
+use super::HEADER_WIDTH;
+use super::MAX_CHILDREN;
+use super::MAX_RULES;
+use super::MAX_STATES;
+use super::MAX_SYMBOLS;
+use super::MAX_TAGS;
+use super::UNUSED;
+use super::raw::header_word;
+use super::raw::place_word;
+use super::raw::rule_word;
+use super::raw::size;
+use super::raw::state_byte;
+use super::raw::symbol_byte;
+use super::write::rules_offset;
+use super::write::states_offset;
+use super::write::total_length;
+
+pub(crate) fn counts(set: &[u8]) -> bool
+    ensures { λ r. ⌜ r ≡ countsOk (now (set .entry)) ⌝ }
+{
+    let s = header_word(set, 0);
+    let q = header_word(set, 2);
+    (1 <= s)
+        & (s <= MAX_SYMBOLS)
+        & (1 <= q)
+        & (q <= MAX_STATES)
+        & (header_word(set, 4) <= MAX_TAGS)
+        & (header_word(set, 6) <= MAX_RULES)
+}
+
+// Whether the header's number at byte `at` is x.
+fn holds(set: &[u8], at: usize, x: usize) -> bool
+    ensures { λ r. ⌜ r ≡ eqb (word (now (set .entry)) at) x ⌝ }
+{
+    size(header_word(set, at)) == x
+}
+
+pub(crate) fn offsets(set: &[u8]) -> bool
+    ensures { λ r. ⌜ r ≡ offsetsOk (now (set .entry)) ⌝ }
+{
+    let s = header_word(set, 0);
+    let q = header_word(set, 2);
+    let end = total_length(s, q, header_word(set, 6));
+    holds(set, 8, HEADER_WIDTH)
+        & holds(set, 10, states_offset(s))
+        & holds(set, 12, rules_offset(s, q))
+        & holds(set, 14, end)
+        & (set.len() == end)
+}
+
+fn symbol(set: &[u8], i: u16) -> bool
+    ensures { λ r. ⌜ r ≡ symbolOk (now (set .entry)) i ⌝ }
+{
+    symbol_byte(set, i) <= MAX_CHILDREN
+}
+
+pub(crate) fn symbols(set: &[u8]) -> bool
+    ensures { λ r. ⌜ r ≡ allBelow (symbolCount (now (set .entry))) (symbolOk (now (set .entry))) ⌝ }
+{
+    let n = header_word(set, 0);
+    let mut i = 0;
+    while i < n {
+        if symbol(set, i) {
+            i += 1;
+        } else {
+            return false;
+        }
+    }
+    true
+}
+
+fn power(t: u16) -> u16
+    requires { ⌜ t < 16 ⌝ }
+    ensures { λ r. ⌜ r ≡ 2 ^ t ⌝ }
+{
+    1 << t
+}
+
+// State q, where a mask is below `bound`.
+fn state(set: &[u8], q: u16, bound: u16) -> bool
+    requires { ⌜ bound ≡ 2 ^ tagCount (now set) ⌝ }
+    ensures { λ r. ⌜ r ≡ stateOk (now (set .entry)) q ⌝ }
+{
+    (state_byte(set, q, 0) <= 1) & (state_byte(set, q, 1) < bound)
+}
+
+pub(crate) fn states(set: &[u8]) -> bool
+    requires { ⌜ tagCount (now set) < 16 ⌝ }
+    ensures { λ r. ⌜ r ≡ allBelow (stateCount (now (set .entry))) (stateOk (now (set .entry))) ⌝ }
+{
+    let n = header_word(set, 2);
+    let bound = power(header_word(set, 4));
+    let mut i = 0;
+    while i < n {
+        if state(set, i, bound) {
+            i += 1;
+        } else {
+            return false;
+        }
+    }
+    true
+}
+
+// Child place k of rule i.
+fn place(set: &[u8], i: u16, k: u16) -> bool
+    ensures { λ r. ⌜ r ≡ placeOk (now (set .entry)) i k ⌝ }
+{
+    let x = place_word(set, i, k);
+    if k < symbol_byte(set, rule_word(set, i, 0)) {
+        x < header_word(set, 2)
+    } else {
+        x == UNUSED
+    }
+}
+
+fn places(set: &[u8], i: u16) -> bool
+    ensures { λ r. ⌜ r ≡ allBelow maxChildren (placeOk (now (set .entry)) i) ⌝ }
+{
+    let n = MAX_CHILDREN;
+    let mut k = 0;
+    while k < n {
+        if place(set, i, k) {
+            k += 1;
+        } else {
+            return false;
+        }
+    }
+    true
+}
+
+fn rule(set: &[u8], i: u16) -> bool
+    ensures { λ r. ⌜ r ≡ ruleOk (now (set .entry)) i ⌝ }
+{
+    let symbol = rule_word(set, i, 0);
+    let target = rule_word(set, i, 1);
+    (symbol < header_word(set, 0)) & (target < header_word(set, 2)) & places(set, i)
+}
+
+pub(crate) fn rules(set: &[u8]) -> bool
+    ensures { λ r. ⌜ r ≡ allBelow (ruleCount (now (set .entry))) (ruleOk (now (set .entry))) ⌝ }
+{
+    let n = header_word(set, 6);
+    let mut i = 0;
+    while i < n {
+        if rule(set, i) {
+            i += 1;
+        } else {
+            return false;
+        }
+    }
+    true
+}
+
+// Number k of what rules are sorted by.
+fn key(set: &[u8], i: u16, k: u16) -> u16
+    ensures { λ r. ⌜ r ≡ keyWord (now (set .entry)) i k ⌝ }
+{
+    if k == 0 {
+        return rule_word(set, i, 0);
+    }
+    if k <= MAX_CHILDREN {
+        return place_word(set, i, k - 1);
+    }
+    rule_word(set, i, 1)
+}
+
+// Whether rule i stands before the next.
+fn ascends(set: &[u8], i: u16) -> bool
+    requires { ⌜ i < 65535 ⌝ }
+    ensures { λ r. ⌜ r ≡ ascendsAt (now (set .entry)) i ⌝ }
+{
+    let n = MAX_CHILDREN + 2;
+    let mut k = 0;
+    while k < n {
+        let x = key(set, i, k);
+        let y = key(set, i + 1, k);
+        if x < y {
+            return true;
+        }
+        if y < x {
+            return false;
+        }
+        k += 1;
+    }
+    false
+}
+
+// How many rules have a next one.
+fn steps(set: &[u8]) -> u16
+    ensures { λ r. ⌜ r ≡ ruleCount (now (set .entry)) - 1 ⌝ }
+{
+    let n = header_word(set, 6);
+    if n == 0 { 0 } else { n - 1 }
+}
+
+pub(crate) fn ascending(set: &[u8]) -> bool
+    ensures { λ r. ⌜ r ≡ allBelow (ruleCount (now (set .entry)) - 1) (ascendsAt (now (set .entry))) ⌝ }
+{
+    let n = steps(set);
+    let mut i = 0;
+    while i < n {
+        if ascends(set, i) {
+            i += 1;
+        } else {
+            return false;
+        }
+    }
+    true
+}
