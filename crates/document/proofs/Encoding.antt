@@ -80,7 +80,7 @@ kept-fields f x e h l =
     }
 
 module _ (r : Row) where
-  place-cell : (k : ℕ) → k < maxChildren → getD (encodeRow r) (suc k) 0 ≡ getD (r .children) k unused
+  pub place-cell : (k : ℕ) → k < maxChildren → getD (encodeRow r) (suc k) 0 ≡ getD (r .children) k unused
   place-cell k h =
       List·getD-append (placesOf (r .children)) (r .kind ∷ splitCells 4 (r .payload)) 0 k h
       ∙ tab-at 0 maxChildren (λ j. getD (r .children) j unused) k h
@@ -108,7 +108,8 @@ pub length-encode : (rows : List Row) → length (encodeRows rows) ≡ length ro
 length-encode [] = refl
 length-encode (r ∷ rows) = let e = length-encode rows in length-append (encodeRow r) (encodeRows rows) ∙ omega arith
 
-encode-cell : (rows : List Row) (i k : ℕ) → i < length rows → k < rowCells → cellIn (encodeRows rows) i k ≡ getD (encodeRow (rowAt rows i)) k 0
+-- the cells of row i among those of all rows
+pub encode-cell : (rows : List Row) (i k : ℕ) → i < length rows → k < rowCells → cellIn (encodeRows rows) i k ≡ getD (encodeRow (rowAt rows i)) k 0
 unfolding cellIn
 encode-cell [] i k h l = let z : ⊥ = omega arith in absurd z
 encode-cell (r ∷ rows) zero k h l = rw zero-add (List·getD-append (encodeRow r) (encodeRows rows) 0 k l)

@@ -7,5 +7,14 @@ pub mod Children
 pub mod Equality
 pub mod Encoding
 pub mod Probing
-pub mod Copying
 pub mod Placement
+pub mod Encoded
+pub mod Putting
+pub mod Marking
+pub mod Heights
+pub mod Decoding
+pub mod Refusals
+pub mod Form
+pub mod Whole
+pub mod Sound
+pub mod Building

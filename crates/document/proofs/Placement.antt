@@ -5,7 +5,6 @@ use mathlib.Core.Bool.{Bool, true, false, _&&_}
 use Prim.Native.Nat.{ℕ, _+_, _*_, _%_, _<_, _≤_}
 use lib.Dec.{T, ltb, leb, ltb→lt, leb→le}
 use lib.ListN.{length, set}
-use lib.Seq.{paste}
 use Rattle.model.specs.Limits.{maxRows}
 use Rattle.model.specs.Table.{Row}
 use Rattle.model.specs.Build.{eqRow}
@@ -17,6 +16,7 @@ use Rattle.document.specs.declared.builder.Placed.{Placed}
 use Rattle.document.specs.declared.builder.Placed.the-variants.{Known, Added, Full}
 use Rattle.document.specs.Rows.{rowCells, rowIn, encodeRow}
 use Rattle.document.specs.Hash.{rowHash}
+use Rattle.document.specs.Put.{putCells}
 use Rattle.document.specs.Index.{slotCount, startSlot, numbered, probe}
 use Rattle.document.specs.Builder.{roomFor?, Placing, placeAt, findOrAdd, Did}
 use Rattle.document.proofs.Probing.{slot-inside}
@@ -60,5 +60,5 @@ module _ (cells slots : List ℕ) (n limit : ℕ) (r : Row) (cs : List ℕ) (st 
     pub did-full : b ≡ false → Did (findOrAdd cells slots n limit r) Full cells slots
     did-full f = rw (looked (Free t) e, sym eb ∙ f) (record { answer = refl; cells = refl; slots = refl })
 
-    pub did-add : b ≡ true → (w : List ℕ) → w ≡ paste cells (n * rowCells) cs rowCells → Did (findOrAdd cells slots n limit r) (Added (numbered n)) w (set slots t (n + 1))
-    did-add g w ew = rw (looked (Free t) e, sym eb ∙ g) (record { answer = refl; cells = ew ∙ ap (λ l. paste cells (n * rowCells) l rowCells) ec; slots = refl })
+    pub did-add : b ≡ true → (w : List ℕ) → w ≡ putCells cells n cs → Did (findOrAdd cells slots n limit r) (Added (numbered n)) w (set slots t (n + 1))
+    did-add g w ew = rw (looked (Free t) e, sym eb ∙ g) (record { answer = refl; cells = ew ∙ ap (putCells cells n) ec; slots = refl })

@@ -15,7 +15,7 @@ use Rattle.document.specs.declared.scalar.Decoded.the-variants.{Is, Not}
 use Rattle.document.specs.Scalars.{kindOf, payloadOf, scalarAt, hasKindPayload, sameScalar, decodeScalar}
 use Rattle.document.proofs.Rates.{kind-rate, payload-rate}
 
-either : {C : Type 0} (a b : Bool) → (T a → C) → (T b → C) → T (a || b) → C
+pub either : {C : Type 0} (a b : Bool) → (T a → C) → (T b → C) → T (a || b) → C
 either true b f g h = f tt
 either false b f g h = g h
 

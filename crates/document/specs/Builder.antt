@@ -6,7 +6,6 @@ use mathlib.Core.Bool.{Bool, true, false, _&&_, cond}
 use Prim.Native.Nat.{ℕ, suc, _+_, _*_, _<_, _≤_}
 use lib.Dec.{ltb, leb}
 use lib.ListN.{length, set, take}
-use lib.Seq.{paste}
 use Rattle.model.specs.Limits.{maxRows}
 use Rattle.model.specs.Table.{Row}
 use Rattle.model.specs.Build.{eqRow, findRow, addRow}
@@ -15,6 +14,7 @@ use Rattle.document.specs.declared.index.Probed.the-variants.{Found, Fre
 use Rattle.document.specs.declared.builder.Placed.{Placed}
 use Rattle.document.specs.declared.builder.Placed.the-variants.{Known, Added, Full}
 use Rattle.document.specs.Rows.{rowCells, rowIn, rowsBelow, encodeRow}
+use Rattle.document.specs.Put.{putCells}
 use Rattle.document.specs.Index.{slotCount, startSlot, numbered, probe, Indexed}
 
 -- The state of a builder: n rows in the cells, no two equal, and slots that index them.
@@ -38,7 +38,7 @@ abbrev pub placeAt : List ℕ → List ℕ → ℕ → ℕ → Row → Probed �
 placeAt cells slots n limit r (Found i) = record { answer = Known i; cells = cells; slots = slots }
 placeAt cells slots n limit r (Free t) =
     cond (roomFor? cells n limit)
-    (record { answer = Added (numbered n); cells = paste cells (n * rowCells) (encodeRow r) rowCells; slots = set slots t (n + 1) })
+    (record { answer = Added (numbered n); cells = putCells cells n (encodeRow r); slots = set slots t (n + 1) })
     (record { answer = Full; cells = cells; slots = slots })
 placeAt cells slots n limit r Crowded = record { answer = Full; cells = cells; slots = slots }
 

@@ -11,6 +11,8 @@ use Rattle.model.specs.Tree.{levels}
 use Rattle.model.specs.Automaton.{Automaton, arityOf}
 use Rattle.model.specs.Table.{Row, rowAt, treeOf, scalar?}
 use Rattle.model.specs.Build.{eqRow}
+use Rattle.automaton.specs.Stored.{decode}
+use Rattle.automaton.specs.Check.{checkOf}
 use Rattle.document.specs.Rows.{rowCells, placesIn, rowIn, decodeRows}
 
 -- as many rows as fit whole
@@ -34,19 +36,25 @@ abbrev pub place? : Bool → ℕ → ℕ → Bool
 place? true i x = ltb x i
 place? false i x = eqb x unused
 
--- 13, at place k of row i: the places below the symbol's number of children are in use
-unfoldable pub child? : Automaton → List ℕ → ℕ → ℕ → Bool
-child? A cells i k = place? (ltb k (arityOf A ((rowIn cells i) .symbol))) i (placeIn cells i k)
+-- at place k of row i, whose symbol has n children: the first n places are in use
+unfoldable pub child? : List ℕ → ℕ → ℕ → ℕ → Bool
+child? cells i n k = place? (ltb k n) i (placeIn cells i k)
 
+-- the number of children that the symbol of row i has
+abbrev pub arityIn : Automaton → List ℕ → ℕ → ℕ
+arityIn A cells i = arityOf A ((rowIn cells i) .symbol)
+
+-- 13, at one row: a lower row in each place in use, 65535 in any other
 unfoldable pub children? : Automaton → List ℕ → ℕ → Bool
-children? A cells i = allBelow maxChildren (child? A cells i)
+children? A cells i = allBelow maxChildren (child? cells i (arityIn A cells i))
 
--- 14, at one row: a scalar where the symbol has no children, else kind 0 and payload 0
+-- on a symbol with n children: a scalar where there are none, else kind 0 and payload 0
+abbrev pub fits? : ℕ → ℕ → ℕ → Bool
+fits? n kind payload = cond (eqb n 0) (scalar? kind payload) (eqb kind 0 && eqb payload 0)
+
+-- 14, at one row: the kind and the payload fit the symbol
 unfoldable pub scalarFits? : Automaton → List ℕ → ℕ → Bool
-scalarFits? A cells i =
-    cond (eqb (arityOf A ((rowIn cells i) .symbol)) 0)
-    (scalar? ((rowIn cells i) .kind) ((rowIn cells i) .payload))
-    (eqb ((rowIn cells i) .kind) 0 && eqb ((rowIn cells i) .payload) 0)
+scalarFits? A cells i = fits? (arityIn A cells i) ((rowIn cells i) .kind) ((rowIn cells i) .payload)
 
 -- 11 to 14: the form of the rows, each by itself
 unfoldable pub formCheckOf : Automaton → List ℕ → ℕ
@@ -69,12 +77,12 @@ unfoldable pub anyBelow : ℕ → (ℕ → Bool) → Bool
 anyBelow zero p = false
 anyBelow (suc n) p = anyBelow n p || p n
 
--- row j is later than row i and has it as a child
-unfoldable pub uses? : List Row → ℕ → ℕ → Bool
-uses? rows i j = ltb i j && any (eqb i) ((rowAt rows j) .children)
+-- row j, whose children are cs, is later than row i and has it as a child
+unfoldable pub uses? : ℕ → List ℕ → ℕ → Bool
+uses? j cs i = ltb i j && any (eqb i) cs
 
 unfoldable pub used? : List Row → ℕ → Bool
-used? rows i = anyBelow (length rows) (uses? rows i)
+used? rows i = anyBelow (length rows) (λ j. uses? j ((rowAt rows j) .children) i)
 
 -- 16: every row but the last is used by a later one
 unfoldable pub usedCheckOf : List Row → ℕ
@@ -91,3 +99,7 @@ tableCheckOf A cells =
     (andAfter (distinctCheckOf (decodeRows cells))
     (andAfter (usedCheckOf (decodeRows cells))
     (levelsCheckOf (decodeRows cells))))
+
+-- the set is tried before the table
+abbrev pub documentCheckOf : List ℕ → List ℕ → ℕ
+documentCheckOf set cells = andAfter (checkOf set) (tableCheckOf (decode set) cells)

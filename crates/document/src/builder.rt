@@ -6,12 +6,10 @@ use crate::index::probe;
 use crate::index::start_slot;
 use crate::rows::ROW_CELLS;
 use crate::rows::Row;
+use crate::rows::put_cells;
 use crate::rows::size;
 ghost use mathlib.Core.Path.{_≡_};
-ghost use Prim.Native.Nat.{_+_, _*_, _≤_};
-ghost use lib.ListN.{length};
-ghost use lib.Seq.{paste};
-ghost use Rattle.document.specs.Rows.{rowCells, Kept};
+ghost use Rattle.document.specs.Rows.{Kept};
 ghost use Rattle.document.specs.Fields.{fieldsRow};
 ghost use Rattle.document.specs.Builder.{roomFor?, findOrAdd, Did};
 
@@ -28,18 +26,6 @@ fn has_room(rows: &[u16], n: u16, limit: u16) -> bool
     ensures { λ r. ⌜ r ≡ roomFor? (now (rows .entry)) n limit ⌝ }
 {
     (n < limit) & (n < MAX_ROWS) & (size(n) * ROW_CELLS + ROW_CELLS <= rows.len())
-}
-
-fn write_row(rows: &mut [u16], n: u16, cells: [u16; 10])
-    requires { ⌜ n * rowCells + rowCells ≤ length (now rows) ⌝ }
-    ensures { λ r. ⌜ now (rows .exit) ≡ paste (now (rows .entry)) (n * rowCells) cells rowCells ⌝ }
-{
-    let at = size(n) * ROW_CELLS;
-    let mut k = 0;
-    while k < ROW_CELLS {
-        rows[at + k] = cells[k];
-        k += 1;
-    }
 }
 
 // The row of these fields among the first n, which the slots index; added as row n where there is none and there is room.
@@ -61,7 +47,7 @@ pub fn find_or_add(
             if !has_room(&*rows, n, limit) {
                 return Placed::Full;
             }
-            write_row(&mut *rows, n, cells);
+            put_cells(&mut *rows, Row(n), cells);
             slots[t] = n + 1;
             Placed::Added(Row(n))
         },

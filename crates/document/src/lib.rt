@@ -5,5 +5,6 @@ pub mod hash; // hash.rt: the hash of a row
 pub mod fields; // fields.rt: a row by value
 pub mod index; // index.rt: the index of a table's rows
 pub mod builder; // builder.rt: the table builder
+mod check; // check.rt: the four tests of a table
 
 pub use scalar::Scalar;

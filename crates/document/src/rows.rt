@@ -1,9 +1,17 @@
 // Lent rows, cell by cell: every function answers for every slice, a cell past the end counting as 0.
+use crate::fields::RowFields;
+use crate::fields::cells_of;
+use crate::scalar::Decoded;
+use crate::scalar::Scalar;
+use crate::scalar::decode;
 ghost use mathlib.Core.Path.{_≡_};
 ghost use Prim.Native.Nat.{_+_, _/_, _<_};
 ghost use lib.ListN.{length};
-ghost use Rattle.document.specs.Rows.{rowCells, cellIn, rowIn};
+ghost use Rattle.document.specs.Rows.{rowCells, cellIn, placesIn, rowIn, encodeRow};
+ghost use Rattle.document.specs.Scalars.{decodeScalar};
+ghost use Rattle.document.specs.Fields.{fieldsRow};
 ghost use Rattle.document.specs.Check.{placeIn};
+ghost use Rattle.document.specs.Put.{orBare, fieldsIn, putCells};
 
 // A row's number.
 pub struct Row(pub u16);
@@ -73,4 +81,60 @@ pub fn payload(rows: &[u16], i: Row) -> u64
         + 65536
             * (wide(cell(rows, i, 7))
                 + 65536 * (wide(cell(rows, i, 8)) + 65536 * wide(cell(rows, i, 9))))
+}
+
+fn scalar_of(kind: u16, payload: u64) -> Scalar
+    ensures { λ r. ⌜ r ≡ orBare (decodeScalar kind payload) ⌝ }
+{
+    match decode(kind, payload) {
+        Decoded::Is(s) => s,
+        Decoded::Not => Scalar::Bare,
+    }
+}
+
+// The four places of row i.
+fn places_of(rows: &[u16], i: Row) -> [u16; 4]
+    ensures { λ r. ⌜ r ≡ placesIn (now (rows .entry)) (i .0) ⌝ }
+{
+    [
+        cell(rows, i, 1),
+        cell(rows, i, 2),
+        cell(rows, i, 3),
+        cell(rows, i, 4),
+    ]
+}
+
+// Row i by value; its scalar is bare where kind and payload are none.
+pub fn fields_at(rows: &[u16], i: Row) -> RowFields
+    ensures { λ r. ⌜ r ≡ fieldsIn (now (rows .entry)) (i .0) ⌝ }
+{
+    let places = places_of(rows, i);
+    let scalar = scalar_of(kind(rows, i), payload(rows, i));
+    RowFields {
+        symbol: symbol(rows, i),
+        places,
+        scalar,
+    }
+}
+
+// Makes the cells row i of the space; where they do not fit whole, nothing is written.
+pub fn put_cells(out: &mut [u16], i: Row, cells: [u16; 10])
+    ensures { λ r. ⌜ now (out .exit) ≡ putCells (now (out .entry)) (i .0) cells ⌝ }
+{
+    let at = size(i.0) * ROW_CELLS;
+    if out.len() < at + ROW_CELLS {
+        return;
+    }
+    let mut k = 0;
+    while k < ROW_CELLS {
+        out[at + k] = cells[k];
+        k += 1;
+    }
+}
+
+// The same with a row by value.
+pub fn put_row(out: &mut [u16], i: Row, f: RowFields)
+    ensures { λ r. ⌜ now (out .exit) ≡ putCells (now (out .entry)) (i .0) (encodeRow (fieldsRow f)) ⌝ }
+{
+    put_cells(out, i, cells_of(f));
 }

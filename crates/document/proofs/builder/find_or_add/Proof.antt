@@ -18,12 +18,6 @@ full c =
       s .before .cells-of .ensures .1,
     )
 
-write-row-requires : tie.Need-write-row-requires
-write-row-requires c κs =
-    let a = c .before .before .before .before .before .before .before .before .before .before .before .before .before .args in
-    let m = c .before .before .has-room in
-    room (a .rows .now) (a .n) (a .limit) (m .result) (m .ensures) (not-false (m .result) (c .before .if1 .left)) .fits
-
 add-slots : tie.Need-add-slots
 add-slots c =
     let h = c .before .before .before .before in
@@ -67,7 +61,7 @@ added c =
     let s = p .before .before .before in
     let a = s .before .before .before .args in
     let m = h .before .has-room in (
-      did-add (a .rows .now) (a .slots .now) (a .n) (a .limit) (fieldsRow (a .f)) (s .before .cells-of .result) (s .start-slot .result) (p .probe .result) (s .before .cells-of .ensures .0) (s .start-slot .ensures) (p .probe .ensures) (h .before .before .before .before .t .given .0 .0) (h .before .before .before .before .t .given .1) (m .result) (m .ensures) (not-false (m .result) (h .if1 .left)) (c .before .before .write-row .last .0) (c .before .before .write-row .ensures),
+      did-add (a .rows .now) (a .slots .now) (a .n) (a .limit) (fieldsRow (a .f)) (s .before .cells-of .result) (s .start-slot .result) (p .probe .result) (s .before .cells-of .ensures .0) (s .start-slot .ensures) (p .probe .ensures) (h .before .before .before .before .t .given .0 .0) (h .before .before .before .before .t .given .1) (m .result) (m .ensures) (not-false (m .result) (h .if1 .left)) (c .before .before .put-cells .last .0) (c .before .before .put-cells .ensures),
       s .before .cells-of .ensures .1,
     )
 
@@ -92,7 +86,7 @@ find-or-add-spec =
     (λ c κs. search needs)
     (λ c. search needs)
     full
-    write-row-requires
+    (λ c κs. search needs)
     add-slots
     mul-slots
     element-write-slots
