@@ -2,12 +2,13 @@
 use mathlib.Core.Path.{_≡_, refl, sym, ap, _∙_}
 use mathlib.Core.Bool.{Bool, true, false, cond}
 use mathlib.Core.Logic.{⊎-elim}
-use mathlib.Core.List.{List, [], _∷_, _++_}
+use mathlib.Core.List.{List, [], _∷_, _++_, List·Memᴰ as In}
 use Prim.Native.Nat.{ℕ, zero, suc, _+_, _*_, _^_, _/_, _%_, _≤_, _<_}
-use native.Mathlib.Nat.{mod-eq-of-lt, le-trans, lt-of-lt-of-le}
+use native.Mathlib.Nat.{mod-eq-of-lt, add-assoc, lt-of-lt-of-le}
+use native.Mathlib.Numerals.{add-two}
 use native.Mathlib.Omega.{arith}
 use lib.Dec.{eqb}
-use lib.ListN.{length, getD, length-append, List·getD-append}
+use lib.ListN.{length, getD, length-append, List·getD-append, List·getD-eq-default}
 use lib.Pow.{pow-mono}
 use lib.Seq.{getD-append-add}
 use Rattle.model.specs.Limits.{maxChildren, unused}
@@ -27,22 +28,22 @@ use Rattle.automaton.proofs.Words.{length-words, low-at, high-at, word-
 abbrev header : Automaton → List ℕ
 header A = encodeHeader (length (A .arities)) (length (A .states)) (A .tags) (length (A .rules))
 
-abbrev encodeOf : State → List ℕ
+abbrev pub encodeOf : State → List ℕ
 encodeOf q = encodeState (q .final) (q .mask)
 
 header-width : (A : Automaton) → length (header A) ≡ headerWidth
 unfolding encodeHeader
 header-width A = refl
 
-symbol-width : (a : ℕ) → length (encodeSymbol a) ≡ 1
+pub symbol-width : (a : ℕ) → length (encodeSymbol a) ≡ 1
 unfolding encodeSymbol
 symbol-width a = refl
 
-state-width : (q : State) → length (encodeOf q) ≡ stateWidth
+pub state-width : (q : State) → length (encodeOf q) ≡ stateWidth
 unfolding encodeState
 state-width q = refl
 
-rule-width : (r : Rule) → length (encodeRule r) ≡ ruleWidth
+pub rule-width : (r : Rule) → length (encodeRule r) ≡ ruleWidth
 unfolding encodePlaces
 rule-width r = length-words (r .symbol ∷ r .target ∷ tab maxChildren (place r)) ∙ ap (λ (n : ℕ). 2 * (suc (suc n))) (length-tab maxChildren (place r))
 
@@ -92,3 +93,104 @@ module _ (A : Automaton) where
       ap (λ (n : ℕ). getD (header A ++ concatMap encodeSymbol (A .arities) ++ concatMap encodeOf (A .states) ++ concatMap encodeRule (A .rules)) (n + (ruleWidth * i + b)) 0) (sym e′)
       ∙ getD-append-add (header A ++ concatMap encodeSymbol (A .arities) ++ concatMap encodeOf (A .states)) (concatMap encodeRule (A .rules)) (ruleWidth * i + b) 0
       ∙ concat-at encodeRule ruleWidth rule-width noRule (A .rules) i b l m
+
+module _ (A : Automaton) (h : Sound A) where
+  -- the header's eight numbers
+  pub symbol-count : symbolCount (encode A) ≡ length (A .arities)
+  unfolding word encode encodeHeader
+  symbol-count = let z = h .few-symbols in word-back (length (A .arities)) (omega arith)
+
+  pub state-count : stateCount (encode A) ≡ length (A .states)
+  unfolding word encode encodeHeader
+  state-count = let z = h .few-states in word-back (length (A .states)) (omega arith)
+
+  pub tag-count : tagCount (encode A) ≡ A .tags
+  unfolding word encode encodeHeader
+  tag-count = let z = h .few-tags in word-back (A .tags) (omega arith)
+
+  pub rule-count : ruleCount (encode A) ≡ length (A .rules)
+  unfolding word encode encodeHeader
+  rule-count = let z = h .few-rules in word-back (length (A .rules)) (omega arith)
+
+  pub symbols-place : symbolsAt (encode A) ≡ headerWidth
+  unfolding word encode encodeHeader
+  symbols-place = refl
+
+  pub states-place : statesAt (encode A) ≡ statesOffset (length (A .arities))
+  unfolding word encode encodeHeader
+  states-place = let z = h .few-symbols in word-back (statesOffset (length (A .arities))) (omega arith)
+
+  pub rules-place : rulesAt (encode A) ≡ rulesOffset (length (A .arities)) (length (A .states))
+  unfolding word encode encodeHeader
+  rules-place = let z = h .few-symbols in let y = h .few-states in word-back (rulesOffset (length (A .arities)) (length (A .states))) (omega arith)
+
+  pub total-place : statedTotal (encode A) ≡ encodedLength A
+  unfolding word encode encodeHeader
+  total-place = let z = h .few-symbols in let y = h .few-states in let x = h .few-rules in word-back (encodedLength A) (omega arith)
+
+  -- symbols and states
+  pub symbol-byte : (i : ℕ) → i < length (A .arities) → symbolByte (encode A) i ≡ arityOf A i
+  unfolding symbolByte
+  symbol-byte i l = let z = h .few-children i in rw symbols-place (symbol-at A i l ∙ mod-eq-of-lt (omega arith))
+
+  state-byte : (q b : ℕ) → q < length (A .states) → b < stateWidth → stateByte (encode A) q b ≡ getD (encodeOf (stateAt A q)) b 0
+  unfolding stateByte
+  state-byte q b l m = rw (states-place, add-assoc) (state-at A q b l m)
+
+  mask-small : (q : ℕ) → (stateAt A q) .mask < 256
+  mask-small q = lt-of-lt-of-le (h .wellformed .masks q) (pow-mono (h .few-tags))
+
+  pub final-byte : (q : ℕ) → q < length (A .states) → stateByte (encode A) q 0 ≡ cond ((stateAt A q) .final) 1 0
+  unfolding encodeState
+  final-byte q l = state-byte q 0 l (omega arith)
+
+  pub mask-byte : (q : ℕ) → q < length (A .states) → stateByte (encode A) q 1 ≡ (stateAt A q) .mask
+  unfolding encodeState
+  mask-byte q l = state-byte q 1 l (omega arith) ∙ mod-eq-of-lt (mask-small q)
+
+  -- rules
+  module _ (i : ℕ) (l : i < length (A .rules)) where
+    listed : In (ruleAt A i) (A .rules)
+    listed = in-getD noRule (A .rules) i l
+
+    pub few-places : length ((ruleAt A i) .children) ≤ maxChildren
+    few-places = rw (h .wellformed .as-many (ruleAt A i) listed) (h .few-children ((ruleAt A i) .symbol))
+
+    pub place-child : (k : ℕ) → k < length ((ruleAt A i) .children) → place (ruleAt A i) k < length (A .states)
+    place-child k m = h .wellformed .children (ruleAt A i) listed (place (ruleAt A i) k) (in-getD unused ((ruleAt A i) .children) k m)
+
+    pub place-none : (k : ℕ) → length ((ruleAt A i) .children) ≤ k → place (ruleAt A i) k ≡ unused
+    place-none k m = List·getD-eq-default ((ruleAt A i) .children) unused m
+
+    place-small : (k : ℕ) → place (ruleAt A i) k < 65536
+    place-small k =
+        ⊎-elim (λ m. let z = place-child k m in let y = h .few-states in omega arith) (λ m. rw (place-none k m) (omega arith))
+        (below-or k (length ((ruleAt A i) .children)))
+
+    abbrev words : List ℕ
+    words = (ruleAt A i) .symbol ∷ (ruleAt A i) .target ∷ tab maxChildren (place (ruleAt A i))
+
+    words-small : (k : ℕ) → k < maxChildren + 2 → getD words k 0 < 65536
+    words-small zero m = let z = h .wellformed .symbols (ruleAt A i) listed in let y = h .few-symbols in omega arith
+    words-small (suc zero) m = let z = h .wellformed .targets (ruleAt A i) listed in let y = h .few-states in omega arith
+    words-small (suc (suc k)) m = rw (tab-at 0 maxChildren (place (ruleAt A i)) k (omega arith)) (place-small k)
+
+    rule-word : (k : ℕ) → k < maxChildren + 2 → ruleWord (encode A) i k ≡ getD words k 0
+    unfolding ruleWord word encodePlaces
+    rule-word k m =
+        let n : k < length words = m in
+        let o = rulesOffset (length (A .arities)) (length (A .states)) in
+        let e : rulesAt (encode A) + ruleWidth * i + 2 * k ≡ o + (ruleWidth * i + 2 * k) = omega (arith, rules-place) in
+        let e′ : o + (ruleWidth * i + 2 * k) + 1 ≡ o + (ruleWidth * i + (2 * k + 1)) = omega arith in
+        let low : getD (encode A) (o + (ruleWidth * i + 2 * k)) 0 ≡ getD words k 0 % 256 = rule-at A i (2 * k) l (omega arith) ∙ low-at words k n in
+        let high : getD (encode A) (o + (ruleWidth * i + (2 * k + 1))) 0 ≡ getD words k 0 / 256 % 256 = rule-at A i (2 * k + 1) l (omega arith) ∙ high-at words k n in
+        rw (e, e′, low, high) (word-back (getD words k 0) (words-small k m))
+
+    pub rule-symbol-word : ruleWord (encode A) i 0 ≡ (ruleAt A i) .symbol
+    rule-symbol-word = rule-word 0 (omega arith)
+
+    pub rule-target-word : ruleWord (encode A) i 1 ≡ (ruleAt A i) .target
+    rule-target-word = rule-word 1 (omega arith)
+
+    pub rule-place-word : (k : ℕ) → k < maxChildren → placeWord (encode A) i k ≡ place (ruleAt A i) k
+    rule-place-word k m = rw add-two (rule-word (suc (suc k)) (omega arith) ∙ tab-at 0 maxChildren (place (ruleAt A i)) k m)

@@ -9,3 +9,6 @@ pub mod Window
 pub mod Verdict
 pub mod Sound
 pub mod Encoded
+pub mod RoundTrip
+pub mod Bytes
+pub mod Known

@@ -7,12 +7,13 @@ use native.Mathlib.Omega.{arith}
 use lib.Dec.{T, eqb, leb, ltb}
 use lib.ListN.{length}
 use borrow.Author.Needs.{needs}
-use borrow.Author.Tests.{lt-ltb, le-ltb, ltb-true, leb-true, eqb-true, not-true, not-false}
+use borrow.Author.Tests.{lt-ltb, le-ltb, le-leb, eq-eqb, ltb-true, leb-true, eqb-true}
 use Rattle.model.specs.Limits.{maxSymbols, maxChildren, maxStates, maxTags, maxRules, unused}
 use Rattle.model.specs.Lists.{tab, allBelow}
 use Rattle.model.specs.Order.{lower?}
 use Rattle.model.specs.Refusal.{demand}
 use Rattle.model.proofs.Below.{at}
+use Rattle.automaton.proofs.Parts.{all-of}
 use Rattle.automaton.specs.Form.{headerWidth, statesOffset, rulesOffset, totalLength}
 use Rattle.automaton.specs.Stored.{word, symbolCount, stateCount, tagCount, ruleCount, symbolsAt, statesAt, rulesAt, statedTotal, symbolByte, stateByte, ruleWord, placeWord}
 use Rattle.automaton.specs.Check.{countsOk, offsetsOk, symbolOk, stateOk, placeOk, ruleOk, keyWord, ascendsAt, checkOf}
@@ -114,6 +115,44 @@ passes s h =
       places = λ i l k lk. at (placeOk s i) maxChildren k (rule-parts s i (at (ruleOk s) (ruleCount s) i (six .0) l) .2) lk;
       ascends = λ i l. at (ascendsAt s) (ruleCount s - 1) i (seven .0) (omega arith);
     }
+
+meets : (t : Bool) (n rest : ℕ) → t ≡ true → rest ≡ 0 → demand t n rest ≡ 0
+unfolding demand
+meets t n rest y h = rw y h
+
+-- And back: bytes with all of that are turned away by no number.
+pub passing : (s : List ℕ) → Passes s → checkOf s ≡ 0
+unfolding checkOf countsOk offsetsOk symbolOk stateOk ruleOk
+passing s p =
+    let c = p .counts in
+    let o = p .offsets in
+    meets (leb headerWidth (length s)) 1 _ (le-leb headerWidth (length s) (p .header))
+    (meets (countsOk s) 2 _
+    (rw (
+      le-leb 1 (symbolCount s) (c .some-symbol),
+      le-leb (symbolCount s) maxSymbols (c .few-symbols),
+      le-leb 1 (stateCount s) (c .some-state),
+      le-leb (stateCount s) maxStates (c .few-states),
+      le-leb (tagCount s) maxTags (c .few-tags),
+      le-leb (ruleCount s) maxRules (c .few-rules),
+    ))
+    (meets (offsetsOk s) 3 _
+    (rw (
+      eq-eqb (symbolsAt s) headerWidth (o .symbols-at),
+      eq-eqb (statesAt s) (statesOffset (symbolCount s)) (o .states-at),
+      eq-eqb (rulesAt s) (rulesOffset (symbolCount s) (stateCount s)) (o .rules-at),
+      eq-eqb (statedTotal s) (totalLength (symbolCount s) (stateCount s) (ruleCount s)) (o .total),
+      eq-eqb (length s) (totalLength (symbolCount s) (stateCount s) (ruleCount s)) (o .whole),
+    ))
+    (meets (allBelow (symbolCount s) (symbolOk s)) 4 _
+    (all-of (symbolCount s) (symbolOk s) (λ i l. le-leb (symbolByte s i) maxChildren (p .symbols i l)))
+    (meets (allBelow (stateCount s) (stateOk s)) 5 _
+    (all-of (stateCount s) (stateOk s) (λ q l. rw (le-leb (stateByte s q 0) 1 (p .states q l .0), lt-ltb (stateByte s q 1) (2 ^ tagCount s) (p .states q l .1))))
+    (meets (allBelow (ruleCount s) (ruleOk s)) 6 _
+    (all-of (ruleCount s) (ruleOk s) (λ i l. rw (lt-ltb (ruleWord s i 0) (symbolCount s) (p .rules i l .0), lt-ltb (ruleWord s i 1) (stateCount s) (p .rules i l .1)) (all-of maxChildren (placeOk s i) (p .places i l))))
+    (meets (allBelow (ruleCount s - 1) (ascendsAt s)) 7 0
+    (all-of (ruleCount s - 1) (ascendsAt s) (λ i l. p .ascends i (omega arith)))
+    refl))))))
 
 -- a place of a rule, of the values that were read: the place x, the symbol f, its arity a, the states q
 module _ (s : List ℕ) (i k x f a q : ℕ) (ex : x ≡ placeWord s i k) (ef : f ≡ ruleWord s i 0) (ea : a ≡ symbolByte s f) where

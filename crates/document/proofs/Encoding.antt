@@ -14,7 +14,10 @@ use Rattle.model.specs.Lists.{tab}
 use Rattle.model.specs.Table.{Row, noRow, rowAt}
 use Rattle.model.proofs.Tab.{tab-at, length-tab}
 use Rattle.model.proofs.Rows.{in-getD}
-use Rattle.document.specs.Rows.{rowCells, cellIn, used, placesIn, joinCells, payloadIn, rowIn, rowsBelow, decodeRows, placesOf, splitCells, encodeRow, encodeRows, Fits}
+use Rattle.document.specs.declared.fields.RowFields.{RowFields}
+use Rattle.document.specs.Scalars.{payloadOf}
+use Rattle.document.specs.Fields.{fieldsRow}
+use Rattle.document.specs.Rows.{rowCells, cellIn, used, placesIn, joinCells, payloadIn, rowIn, rowsBelow, decodeRows, placesOf, splitCells, encodeRow, encodeRows, Fits, Kept}
 
 pub tab-same : {A : Type 0} (n : ℕ) (f g : ℕ → A) → ((k : ℕ) → k < n → f k ≡ g k) → tab n f ≡ tab n g
 tab-same zero f g h = refl
@@ -64,14 +67,17 @@ join-split (suc n) x h =
 
 -- ---- a row, then rows
 
--- What a row needs for its cells to hold it.
-pub record Kept (r : Row) : Type 0 where
-  pub few : length (r .children) ≤ maxChildren
-  pub used-all : used (r .children) ≡ r .children
-  pub payload : r .payload < 2 ^ 64
-
 pub kept : {r : Row} → Fits r → Kept r
 kept {r} f = record { few = f .few; used-all = all-used (r .children) (f .places); payload = f .payload }
+
+-- A row by value is kept: its places are four, and its payload x fits.
+pub kept-fields : (f : RowFields) (x : ℕ) → x ≡ payloadOf (f .scalar) → x < 2 ^ 64 → length (f .places) ≡ maxChildren → Kept (fieldsRow f)
+kept-fields f x e h l =
+    record {
+      few = let m = length-used (f .places) in omega arith;
+      used-all = used-used (f .places);
+      payload = rw (← e) h;
+    }
 
 module _ (r : Row) where
   pub place-cell : (k : ℕ) → k < maxChildren → getD (encodeRow r) (suc k) 0 ≡ getD (r .children) k unused

@@ -4,6 +4,7 @@ pub mod scalar; // scalar.rt: the five kinds of scalars
 pub mod hash; // hash.rt: the hash of a row
 pub mod fields; // fields.rt: a row by value
 pub mod index; // index.rt: the index of a table's rows
+pub mod builder; // builder.rt: the table builder
 mod tests; // tests.rt: the four tests of a table
 
 use automaton::Checked;

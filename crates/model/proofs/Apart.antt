@@ -1,21 +1,20 @@
 -- The test for shared tags says what it should. Assumes nothing.
-use mathlib.Core.Path.{_≡_, refl, sym, ap, _∙_, subst}
-use mathlib.Core.Logic.{_⊎_, inl, inr, ⊎-elim}
-use mathlib.Core.List.{List, [], _∷_, _++_, List·Memᴰ as In}
-use mathlib.Core.Bool.{Bool, true, false, _&&_, not, cond}
-use Prim.Native.Nat.{ℕ, zero, suc, _/_, _%_, _^_, _<_, _≤_}
+use mathlib.Core.Path.{_≡_, subst}
+use mathlib.Core.Logic.{_↔_}
+use mathlib.Core.Bool.{true, _&&_, not}
+use Prim.Native.Nat.{ℕ, _/_, _%_, _^_, _<_}
 use native.Mathlib.Omega.{arith}
 use native.Mathlib.Nat.{zero-div}
 use native.Mathlib.Decide.{decLt}
-use lib.Dec.{T, T-not, eqb}
-use lib.ListN.{length, getD, List·getD-eq-default}
+use lib.Dec.{T, T-not, not-T, eqb}
+use lib.ListN.{length, List·getD-eq-default}
 use Rattle.model.specs.Automaton.{State, Automaton, noState, carries?}
-use Rattle.model.specs.Lists.{allBelow, any}
+use Rattle.model.specs.Lists.{allBelow}
 use Rattle.model.specs.Witness.{Apart, apart?}
-use Rattle.model.proofs.Members.{and-T}
-use Rattle.model.proofs.Below.{all-at}
+use Rattle.model.proofs.Members.{T-and, and-T, T-true}
+use Rattle.model.proofs.Below.{all-at, all-of}
 
-carried : (A : Automaton) (q k : ℕ) → T (carries? A q k) → q < length (A .states)
+pub carried : (A : Automaton) (q k : ℕ) → T (carries? A q k) → q < length (A .states)
 carried A q k c = go (decLt q (length (A .states)))
   where
     go : Dec (q < length (A .states)) → q < length (A .states)
@@ -38,3 +37,18 @@ apart-of A h k lk q q′ c c′ = go (decLt q q′) (decLt q′ q)
     go (yes l) d = absurd (never q q′ l c c′)
     go (no l) (yes m) = absurd (never q′ q m c′ c)
     go (no l) (no m) = omega arith
+
+of-apart : (A : Automaton) → Apart A → T (apart? A)
+of-apart A h =
+    all-of (length (A .states)) _
+    (λ q l. all-of q _
+    (λ p m. all-of (A .tags) _
+    (λ k n. not-T (carries? A p k && carries? A q k)
+    (λ c.
+    let (cp, cq) = T-and (carries? A p k) (carries? A q k) c in
+    let e = h k n p q cp cq in
+    omega arith))))
+
+-- THE THEOREM: the test passes exactly where no tag is carried by two states
+pub apart-exactly : (A : Automaton) → (apart? A ≡ true) ↔ Apart A
+apart-exactly A = (λ e. apart-of A (T-true (apart? A) .1 e), λ h. T-true (apart? A) .0 (of-apart A h))

@@ -1,14 +1,15 @@
 -- A loop that tests every index below n and leaves at the first that fails: what it knows at its head, and what it may return. Assumes nothing.
 use mathlib.Core.Path.{_≡_, refl, sym, ap, _∙_, subst}
-use mathlib.Core.Bool.{Bool, true, false, _&&_}
-use mathlib.Core.Logic.{_⊎_, inl, inr}
+use mathlib.Core.Bool.{Bool, true, false, _&&_, _||_}
+use mathlib.Core.Logic.{_⊎_, inl, inr, ⊎-elim}
 use Prim.Native.Nat.{ℕ, zero, suc, _+_, _-_, _<_, _≤_, zero-le}
 use native.Mathlib.Nat.{le-of-suc-le-suc, not-suc-le-zero, eq-or-lt-of-le, le-antisymm}
 use native.Mathlib.Numerals.{add-one, add-one-le}
 use borrow.Author.Needs.{needs}
+use native.Mathlib.Omega.{arith}
 use lib.Dec.{T}
-use Rattle.model.proofs.Members.{T-true}
-use Rattle.model.specs.Lists.{allBelow}
+use Rattle.model.proofs.Members.{T-true, and-T, or-left, or-right}
+use Rattle.model.specs.Lists.{allBelow, anyBelow}
 
 and-false : (a : Bool) → (a && false) ≡ false
 and-false true = refl
@@ -37,6 +38,26 @@ module _ (p : ℕ → Bool) where
 
 pub all-at : (n : ℕ) (f : ℕ → Bool) → T (allBelow n f) → (i : ℕ) → i < n → T (f i)
 all-at n f h i l = T-true (f i) .1 (at f n i (T-true (allBelow n f) .0 h) l)
+
+pub all-of : (n : ℕ) (f : ℕ → Bool) → ((i : ℕ) → i < n → T (f i)) → T (allBelow n f)
+unfolding allBelow
+all-of zero f h = tt
+all-of (suc n) f h = and-T (allBelow n f) (f n) (all-of n f (λ i l. h i (omega arith))) (h n (omega arith))
+
+-- a test that passes somewhere below n passes at a number
+pub any-below : (n : ℕ) (p : ℕ → Bool) → T (anyBelow n p) → (i : ℕ) × (i < n) × T (p i)
+unfolding anyBelow
+any-below zero p h = absurd h
+any-below (suc n) p h = go (anyBelow n p) h (λ g. any-below n p g)
+  where
+    go : (b : Bool) → T (b || p n) → (T b → (i : ℕ) × (i < n) × T (p i)) → (i : ℕ) × (i < suc n) × T (p i)
+    go true g ih = let (i, l, t) = ih tt in (i, omega arith, t)
+    go false g ih = (n, omega arith, g)
+
+pub below-any : (n : ℕ) (p : ℕ → Bool) (i : ℕ) → i < n → T (p i) → T (anyBelow n p)
+unfolding anyBelow
+below-any zero p i l t = absurd (not-suc-le-zero l)
+below-any (suc n) p i l t = ⊎-elim (λ e. or-right (anyBelow n p) (p n) (subst (λ (k : ℕ). T (p k)) e t)) (λ g. or-left (anyBelow n p) (p n) (below-any n p i g t)) (eq-or-lt-of-le (le-of-suc-le-suc l))
 
 -- at the loop's head: n is the number m of indices to test, and those below i pass
 pub record Passed (p : ℕ → Bool) (m n i : ℕ) : Type 0 where

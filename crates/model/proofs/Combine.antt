@@ -1,52 +1,26 @@
 -- A set is carried to another by a map of its states; the product lets in what both let in. Assumes nothing.
 use mathlib.Core.Path.{_≡_, refl, sym, ap, _∙_, subst}
-use mathlib.Core.Logic.{_⊎_, inl, inr, ⊎-elim, _↔_}
-use mathlib.Core.Option.{Option, none, some}
-use mathlib.Core.List.{List, [], _∷_, _++_, map, List·Memᴰ as In, List·Memᴰ·head as here, List·Memᴰ·tail as there, List·Memᴰ·cases-cons as in-cons, List·Memᴰ·not-nil as not-nil, List·Memᴰ·eq-of-singleton as eq-of-singleton, Memᴰ·cast}
-use mathlib.Core.Bool.{Bool, true, false, _&&_, _||_, cond}
-use Prim.Native.Nat.{ℕ, zero, suc, _+_, _-_, _*_, _/_, _%_, _^_, _<_, _≤_}
+use mathlib.Core.Logic.{_↔_}
+use mathlib.Core.Option.{some}
+use mathlib.Core.List.{List, [], _∷_, List·Memᴰ as In, List·Memᴰ·head as here, List·Memᴰ·eq-of-singleton as eq-of-singleton}
+use mathlib.Core.Bool.{_&&_}
+use Prim.Native.Nat.{ℕ, zero, suc, _+_, _-_, _*_, _/_, _%_, _^_, _<_}
 use native.Mathlib.Omega.{arith}
-use native.Mathlib.Nat.{add-mul-div-right, add-mul-mod-self-right, div-eq-of-lt, mul-assoc, mul-comm, pow-suc}
+use native.Mathlib.Nat.{add-mul-div-right, add-mul-mod-self-right, div-eq-of-lt, mul-assoc, pow-suc}
 use native.Mathlib.Decide.{decLt}
 use lib.Dec.{T, eqb, eqb→eq, eqb-refl}
 use lib.Arith.{digits-lt, digits-div, digits-mod}
 use lib.Pow.{pow-pos, pow-add, shr-shr}
-use lib.ListN.{length, getD, length-map}
-use Rattle.model.specs.Tree.{Tree, childrenOf, symbolOf, at}
-use Rattle.model.specs.Automaton.{Rule, State, Automaton, noState, final?, carries?}
-use Rattle.model.specs.Run.{Move, IsRun, Consistent, Accepts}
-use Rattle.model.specs.Lists.{concatMap, only, tab}
-use Rattle.model.specs.Order.{before?, insert, sorted}
-use Rattle.model.specs.Boolean.{pairState, pairNumbers, pairRule, pairRules, product, union}
-use Rattle.model.specs.Automaton.{Wellformed}
+use lib.ListN.{length, getD}
+use Rattle.model.specs.Tree.{Tree, at}
+use Rattle.model.specs.Automaton.{Rule, State, Automaton, Wellformed, noState, stateAt, final?, carries?}
+use Rattle.model.specs.Run.{Move, Consistent, Accepts}
+use Rattle.model.specs.Lists.{concatMap, only}
+use Rattle.model.specs.Boolean.{pairState, pairNumbers, pairRule, product}
 use Rattle.model.proofs.Members.{T-and, and-T, in-concatMap, concatMap-in, in-only, only-in}
 use Rattle.model.proofs.Tab.{tab-at}
+use Rattle.model.proofs.Order.{in-sorted, sorted-in}
 use Rattle.model.proofs.Rows.{in-getD}
-
--- sorting keeps the members
-in-insert : (r : Rule) (rs : List Rule) {y : Rule} → In y (insert r rs) → In y (r ∷ rs)
-in-insert r [] h = h
-in-insert r (s ∷ rs) {y = y} h = go (before? s r) h (λ g. in-insert r rs g)
-  where
-    go : (b : Bool) → In y (cond b (s ∷ insert r rs) (r ∷ s ∷ rs)) → (In y (insert r rs) → In y (r ∷ rs)) → In y (r ∷ s ∷ rs)
-    go false g ih = g
-    go true g ih = ⊎-elim (λ e. there (here e)) (λ m. ⊎-elim here (λ n. there (there n)) (in-cons (ih m))) (in-cons g)
-
-insert-in : (r : Rule) (rs : List Rule) {y : Rule} → In y (r ∷ rs) → In y (insert r rs)
-insert-in r [] h = h
-insert-in r (s ∷ rs) {y = y} h = go (before? s r) (λ g. insert-in r rs g)
-  where
-    go : (b : Bool) → (In y (r ∷ rs) → In y (insert r rs)) → In y (cond b (s ∷ insert r rs) (r ∷ s ∷ rs))
-    go false ih = h
-    go true ih = ⊎-elim (λ e. there (ih (here e))) (λ m. ⊎-elim here (λ n. there (ih (there n))) (in-cons m)) (in-cons h)
-
-pub in-sorted : (rs : List Rule) {y : Rule} → In y (sorted rs) → In y rs
-in-sorted [] h = h
-in-sorted (r ∷ rs) h = ⊎-elim here (λ m. there (in-sorted rs m)) (in-cons (in-insert r (sorted rs) h))
-
-pub sorted-in : (rs : List Rule) {y : Rule} → In y rs → In y (sorted rs)
-sorted-in [] h = h
-sorted-in (r ∷ rs) h = insert-in r (sorted rs) (⊎-elim here (λ m. there (sorted-in rs m)) (in-cons h))
 
 -- a map of the states of `A` to those of `B` that keeps the rules and the final states, and brings no tag that `A` has not
 pub record Carried (A B : Automaton) : Type 0 where
@@ -102,16 +76,38 @@ bit-high a b k t h =
     let low : a / 2 ^ t ≡ 0 = div-eq-of-lt h in
     ap (λ z. z % 2) (sym (shr-shr (a + b * 2 ^ t) t k) ∙ ap (λ z. z / 2 ^ k) (add-mul-div-right a b (pow-pos t) ∙ omega arith))
 
-length-pairNumbers : (n : ℕ) (ps qs : List ℕ) → length ps ≡ length qs → length (pairNumbers n ps qs) ≡ length ps
+-- .. need as many bits as both
+pub mask-bound : (a b t u : ℕ) → a < 2 ^ t → b < 2 ^ u → a + b * 2 ^ t < 2 ^ (t + u)
+mask-bound a b t u la lb = rw (pow-add 2 t u) (omega (arith, digits-lt lb la))
+
+pub length-pairNumbers : (n : ℕ) (ps qs : List ℕ) → length ps ≡ length qs → length (pairNumbers n ps qs) ≡ length ps
 length-pairNumbers n [] qs h = refl
 length-pairNumbers n (p ∷ ps) [] h = let z : ⊥ = omega arith in absurd z
 length-pairNumbers n (p ∷ ps) (q ∷ qs) h = ap suc (length-pairNumbers n ps qs (omega arith))
 
-pairNumbers-at : (n : ℕ) (ps qs : List ℕ) → length ps ≡ length qs → (j : ℕ) → j < length ps → getD (pairNumbers n ps qs) j 0 ≡ getD ps j 0 * n + getD qs j 0
+pub pairNumbers-at : (n : ℕ) (ps qs : List ℕ) → length ps ≡ length qs → (j : ℕ) → j < length ps → getD (pairNumbers n ps qs) j 0 ≡ getD ps j 0 * n + getD qs j 0
 pairNumbers-at n [] qs h j l = let z : ⊥ = omega arith in absurd z
 pairNumbers-at n (p ∷ ps) [] h j l = let z : ⊥ = omega arith in absurd z
 pairNumbers-at n (p ∷ ps) (q ∷ qs) h zero l = refl
 pairNumbers-at n (p ∷ ps) (q ∷ qs) h (suc j) l = pairNumbers-at n ps qs (omega arith) j (omega arith)
+
+-- the rule that pairs two rules, and the rules that pair one with a list of rules
+pub one-pair : (n : ℕ) (a b : Rule) {r : Rule} → In r (only (eqb (a .symbol) (b .symbol)) (pairRule n a b ∷ [])) → (a .symbol ≡ b .symbol) × (r ≡ pairRule n a b)
+one-pair n a b h = let (t, o) = in-only (eqb (a .symbol) (b .symbol)) _ h in (eqb→eq (a .symbol) (b .symbol) t, eq-of-singleton o)
+
+pub pair-in : (n : ℕ) (a : Rule) (bs : List Rule) {r : Rule} → In r (concatMap (λ b. only (eqb (a .symbol) (b .symbol)) (pairRule n a b ∷ [])) bs) → (b : Rule) × In b bs × (a .symbol ≡ b .symbol) × (r ≡ pairRule n a b)
+pair-in n a bs h = let (b, ib, m) = in-concatMap _ bs h in let (e, is) = one-pair n a b m in (b, ib, e, is)
+
+-- what the product's state `(p, q)` is
+module _ (A B : Automaton) where
+  pub product-state-at : (i : ℕ) → i < length (A .states) * length (B .states) → stateAt (product A B) i ≡ pairState (A .tags) (stateAt A (i / length (B .states))) (stateAt B (i % length (B .states)))
+  product-state-at i l = tab-at noState (length (A .states) * length (B .states)) _ i l
+
+  pub product-state : (p q : ℕ) → p < length (A .states) → q < length (B .states) → stateAt (product A B) (p * length (B .states) + q) ≡ pairState (A .tags) (stateAt A p) (stateAt B q)
+  product-state p q lp lq =
+      product-state-at (p * length (B .states) + q) (digits-lt lp lq)
+      ∙ ap (λ z. pairState (A .tags) (stateAt A z) (stateAt B ((p * length (B .states) + q) % length (B .states)))) (digits-div p lq)
+      ∙ ap (λ z. pairState (A .tags) (stateAt A p) (stateAt B z)) (digits-mod p lq)
 
 module _ (A B : Automaton) (sa : Wellformed A) (sb : Wellformed B) (same : A .arities ≡ B .arities) where
   abbrev P : Automaton
@@ -132,9 +128,8 @@ module _ (A B : Automaton) (sa : Wellformed A) (sb : Wellformed B) (same : A .ar
   pair-of : (r : Rule) → In r (P .rules) → Pair r
   pair-of r h =
       let (a, ia, h₁) = in-concatMap _ (A .rules) (in-sorted _ h) in
-      let (b, ib, h₂) = in-concatMap _ (B .rules) h₁ in
-      let (t, h₃) = in-only (eqb (a .symbol) (b .symbol)) _ h₂ in
-      record { left = a; right = b; in-left = ia; in-right = ib; symbols = eqb→eq _ _ t; is = eq-of-singleton h₃ }
+      let (b, ib, e, is) = pair-in n a (B .rules) h₁ in
+      record { left = a; right = b; in-left = ia; in-right = ib; symbols = e; is = is }
 
   of-pair : (a b : Rule) → In a (A .rules) → In b (B .rules) → a .symbol ≡ b .symbol → In (pairRule n a b) (P .rules)
   of-pair a b ia ib e =
@@ -142,25 +137,19 @@ module _ (A B : Automaton) (sa : Wellformed A) (sb : Wellformed B) (same : A .ar
       (concatMap-in (λ s. only (eqb (a .symbol) (s .symbol)) (pairRule n a s ∷ [])) ib
       (only-in (eqb (a .symbol) (b .symbol)) (subst (λ z. T (eqb (a .symbol) z)) e (eqb-refl (a .symbol))) (here refl))))
 
-  -- what the product's state `(p, q)` is
+  -- .. and what it carries
   module _ (p q : ℕ) (lp : p < length (A .states)) (lq : q < n) where
-    state : getD (P .states) (p * n + q) noState ≡ pairState (A .tags) (getD (A .states) p noState) (getD (B .states) q noState)
-    state =
-        tab-at noState (length (A .states) * n) _ (p * n + q) (digits-lt lp lq)
-        ∙ ap (λ z. pairState (A .tags) (getD (A .states) z noState) (getD (B .states) ((p * n + q) % n) noState)) (digits-div p lq)
-        ∙ ap (λ z. pairState (A .tags) (getD (A .states) p noState) (getD (B .states) z noState)) (digits-mod p lq)
-
     final-pair : final? P (p * n + q) ≡ (final? A p && final? B q)
-    final-pair = ap (λ (s : State). s .final) state
+    final-pair = ap (λ (s : State). s .final) (product-state A B p q lp lq)
 
     low-tag : (k : ℕ) → k < A .tags → carries? P (p * n + q) k ≡ carries? A p k
-    low-tag k h = ap (λ (s : State). eqb (s .mask / 2 ^ k % 2) 1) state ∙ ap (λ z. eqb z 1) (bit-low _ _ k (A .tags) h)
+    low-tag k h = ap (λ (s : State). eqb (s .mask / 2 ^ k % 2) 1) (product-state A B p q lp lq) ∙ ap (λ z. eqb z 1) (bit-low _ _ k (A .tags) h)
 
     high-tag : (k : ℕ) → carries? P (p * n + q) (A .tags + k) ≡ carries? B q k
-    high-tag k = ap (λ (s : State). eqb (s .mask / 2 ^ (A .tags + k) % 2) 1) state ∙ ap (λ z. eqb z 1) (bit-high _ _ k (A .tags) (sa .masks p))
+    high-tag k = ap (λ (s : State). eqb (s .mask / 2 ^ (A .tags + k) % 2) 1) (product-state A B p q lp lq) ∙ ap (λ z. eqb z 1) (bit-high _ _ k (A .tags) (sa .masks p))
 
-  by-pairNumbers : (C : Rule → Type 0) → ((a b : Rule) → In a (A .rules) → In b (B .rules) → a .symbol ≡ b .symbol → C (pairRule n a b)) → (r : Rule) → In r (P .rules) → C r
-  by-pairNumbers C h r ir = let d = pair-of r ir in subst C (sym (d .is)) (h (d .left) (d .right) (d .in-left) (d .in-right) (d .symbols))
+  pub by-pair : (C : Rule → Type 0) → ((a b : Rule) → In a (A .rules) → In b (B .rules) → a .symbol ≡ b .symbol → C (pairRule n a b)) → (r : Rule) → In r (P .rules) → C r
+  by-pair C h r ir = let d = pair-of r ir in subst C (sym (d .is)) (h (d .left) (d .right) (d .in-left) (d .in-right) (d .symbols))
 
   as-many : (a b : Rule) → In a (A .rules) → In b (B .rules) → a .symbol ≡ b .symbol → length (a .children) ≡ length (b .children)
   as-many a b ia ib e = cc (sa .as-many a ia, sb .as-many b ib)
@@ -170,7 +159,7 @@ module _ (A B : Automaton) (sa : Wellformed A) (sb : Wellformed B) (same : A .ar
       record {
         f = λ z. z / n;
         g = λ k. k;
-        rule = by-pairNumbers _ (λ a b ia ib e.
+        rule = by-pair _ (λ a b ia ib e.
             let m = as-many a b ia ib e in (
               a,
               ia,
@@ -181,9 +170,9 @@ module _ (A B : Automaton) (sa : Wellformed A) (sb : Wellformed B) (same : A .ar
                   let l : j < length (a .children) = omega (arith, length-pairNumbers n (a .children) (b .children) m) in
                   sym (ap (λ z. z / n) (pairNumbers-at n (a .children) (b .children) m j l) ∙ digits-div (getD (a .children) j 0) (sb .children b ib _ (in-getD 0 (b .children) j (omega arith)))),
             ));
-        final = by-pairNumbers _ (λ a b ia ib e h.
+        final = by-pair _ (λ a b ia ib e h.
             rw (digits-div (a .target) (sb .targets b ib)) (T-and (final? A (a .target)) (final? B (b .target)) (subst T (final-pair (a .target) (b .target) (sa .targets a ia) (sb .targets b ib)) h) .0));
-        tags = by-pairNumbers _ (λ a b ia ib e k h c. (
+        tags = by-pair _ (λ a b ia ib e k h c. (
           omega arith,
           subst T (sym (low-tag (a .target) (b .target) (sa .targets a ia) (sb .targets b ib) k h)) (rw (digits-div (a .target) (sb .targets b ib)) at c),
         ));
@@ -194,7 +183,7 @@ module _ (A B : Automaton) (sa : Wellformed A) (sb : Wellformed B) (same : A .ar
       record {
         f = λ z. z % n;
         g = λ k. A .tags + k;
-        rule = by-pairNumbers _ (λ a b ia ib e.
+        rule = by-pair _ (λ a b ia ib e.
             let m = as-many a b ia ib e in (
               b,
               ib,
@@ -205,9 +194,9 @@ module _ (A B : Automaton) (sa : Wellformed A) (sb : Wellformed B) (same : A .ar
                   let l : j < length (a .children) = omega (arith, length-pairNumbers n (a .children) (b .children) m) in
                   sym (ap (λ z. z % n) (pairNumbers-at n (a .children) (b .children) m j l) ∙ digits-mod (getD (a .children) j 0) (sb .children b ib _ (in-getD 0 (b .children) j (omega arith)))),
             ));
-        final = by-pairNumbers _ (λ a b ia ib e h.
+        final = by-pair _ (λ a b ia ib e h.
             rw (digits-mod (a .target) (sb .targets b ib)) (T-and (final? A (a .target)) (final? B (b .target)) (subst T (final-pair (a .target) (b .target) (sa .targets a ia) (sb .targets b ib)) h) .1));
-        tags = by-pairNumbers _ (λ a b ia ib e k h c. (
+        tags = by-pair _ (λ a b ia ib e k h c. (
           omega arith,
           subst T (sym (high-tag (a .target) (b .target) (sa .targets a ia) (sb .targets b ib) k)) (rw (digits-mod (a .target) (sb .targets b ib)) at c),
         ));

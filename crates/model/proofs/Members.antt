@@ -22,11 +22,11 @@ pub T-true : (b : Bool) → T b ↔ (b ≡ true)
 T-true true = (λ h. refl, λ h. tt)
 T-true false = (λ h. absurd h, λ h. subst T (sym h) tt)
 
-or-left : (a b : Bool) → T a → T (a || b)
+pub or-left : (a b : Bool) → T a → T (a || b)
 or-left true b h = tt
 or-left false b h = absurd h
 
-or-right : (a b : Bool) → T b → T (a || b)
+pub or-right : (a b : Bool) → T b → T (a || b)
 or-right true b h = tt
 or-right false b h = h
 
@@ -134,3 +134,14 @@ memories-in {a = a} (here {x = b} e) c q er eq =
     Memᴰ·append-left _ (only-in (eqb (b .row) c && eqb (b .state) q)
     (and-T (eqb (b .row) c) (eqb (b .state) q) (rw (← er, e) (eqb-refl (b .row))) (rw (← eq, e) (eqb-refl (b .state)))) (here (ap (λ z. z .memory) e)))
 memories-in (there {x = b} m) c q er eq = Memᴰ·append-right (only (eqb (b .row) c && eqb (b .state) q) (b .memory ∷ [])) (memories-in m c q er eq)
+
+pub eqAnnotation-refl : (a : Annotation) → T (eqAnnotation a a)
+eqAnnotation-refl a =
+    and-T (eqb (a .row) (a .row)) (eqb (a .state) (a .state) && eqList (a .memory) (a .memory)) (eqb-refl (a .row))
+    (and-T (eqb (a .state) (a .state)) (eqList (a .memory) (a .memory)) (eqb-refl (a .state)) (eqList-refl (a .memory)))
+
+-- a mapped list at a place, whatever stands past its end
+pub map-at : {A B : Type 0} (f : A → B) (a : A) (d : B) (xs : List A) (j : ℕ) → j < length xs → getD (map f xs) j d ≡ f (getD xs j a)
+map-at f a d [] j l = let z : ⊥ = omega arith in absurd z
+map-at f a d (x ∷ xs) zero l = refl
+map-at f a d (x ∷ xs) (suc j) l = map-at f a d xs j (omega arith)

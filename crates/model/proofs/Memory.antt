@@ -8,6 +8,7 @@ use native.Mathlib.Omega.{arith}
 use native.Mathlib.Nat.{suc-inj}
 use lib.Dec.{T, eqb, eqb→eq, eqb-refl}
 use lib.ListN.{length, getD}
+use lib.Seq.{ext-getD}
 use Rattle.model.specs.Annotation.{placesAgree, joinedPlace, agree?, joined}
 use Rattle.model.proofs.Members.{T-and, and-T}
 
@@ -64,3 +65,17 @@ cond-from false i j h = let z : ⊥ = omega arith in absurd z
 pub cond-at : (b : Bool) (i : ℕ) → T b → cond b (suc i) 0 ≡ suc i
 cond-at true i h = refl
 cond-at false i h = absurd h
+
+pub length-joined : (a b : List ℕ) → length a ≡ length b → length (joined a b) ≡ length b
+length-joined [] b h = refl
+length-joined (x ∷ a) [] h = h
+length-joined (x ∷ a) (y ∷ b) h = ap suc (length-joined a b (suc-inj h))
+
+-- memories of one width that say the same are equal
+pub same-memory : (a b : List ℕ) → length a ≡ length b → Within a b → Within b a → a ≡ b
+same-memory a b e w v = ext-getD 0 a b e (λ k l. one (getD a k 0) (getD b k 0) (w k) (v k))
+  where
+    one : (x y : ℕ) → ((j : ℕ) → x ≡ suc j → y ≡ suc j) → ((j : ℕ) → y ≡ suc j → x ≡ suc j) → x ≡ y
+    one zero zero f g = refl
+    one zero (suc y) f g = g y refl
+    one (suc x) y f g = sym (f x refl)

@@ -1,6 +1,6 @@
 -- The trees of a table's rows: the equation of a row's tree, and that rows without equals have trees without equals. Assumes nothing.
 use mathlib.Core.Path.{_≡_, refl, sym, ap, _∙_, subst}
-use mathlib.Core.Logic.{_⊎_, inl, inr, ⊎-elim}
+use mathlib.Core.Logic.{_⊎_, inl, inr, ⊎-elim, _↔_}
 use mathlib.Core.Option.{Option, none, some, Option·some-injective, Option·none-ne-some}
 use mathlib.Core.List.{List, [], _∷_, _++_, map, List·Memᴰ as In, List·Memᴰ·head as here, List·Memᴰ·tail as there, nil≢cons, cons≢nil, head-eq-of-cons-eq, tail-eq-of-cons-eq}
 use Prim.Native.Nat.{ℕ, zero, suc, _<_, _≤_}
@@ -24,7 +24,7 @@ in-getD d [] j h = let z : ⊥ = omega arith in absurd z
 in-getD d (x ∷ xs) zero h = here refl
 in-getD d (x ∷ xs) (suc j) h = there (in-getD d xs j (omega arith))
 
-map-inj : {A B : Type 0} (f : A → B) (xs ys : List A) → ((x y : A) → In x xs → In y ys → f x ≡ f y → x ≡ y) → map f xs ≡ map f ys → xs ≡ ys
+pub map-inj : {A B : Type 0} (f : A → B) (xs ys : List A) → ((x y : A) → In x xs → In y ys → f x ≡ f y → x ≡ y) → map f xs ≡ map f ys → xs ≡ ys
 map-inj f [] [] h e = refl
 map-inj f [] (y ∷ ys) h e = absurd (nil≢cons e)
 map-inj f (x ∷ xs) [] h e = absurd (cons≢nil e)
@@ -56,10 +56,10 @@ at-below t f cs e j p u h = go cs j (rw e at h)
     go (c ∷ l) zero g = (omega arith, g)
     go (c ∷ l) (suc j) g = let r = go l j g in (omega arith, r .1)
 
-kindOf : Tree → ℕ
+abbrev pub kindOf : Tree → ℕ
 kindOf (node s k p f) = k
 
-payloadOf : Tree → ℕ
+abbrev pub payloadOf : Tree → ℕ
 payloadOf (node s k p f) = p
 
 module _ (rows : List Row) (lower : Lower rows) where
@@ -89,7 +89,6 @@ module _ (rows : List Row) (lower : Lower rows) where
 
   -- rows without equals have trees without equals
   one-row : (i j : ℕ) → treeAt rows i ≡ treeAt rows j → (rowAt rows i) .children ≡ (rowAt rows j) .children → rowAt rows i ≡ rowAt rows j
-  unfolding kindOf payloadOf
   one-row i j e k = λ x. record { symbol = ap symbolOf e x; kind = ap kindOf e x; payload = ap payloadOf e x; children = k x }
 
   pub one-tree : Distinct rows → (n i j : ℕ) → i < n → i < length rows → j < length rows → treeAt rows i ≡ treeAt rows j → i ≡ j
@@ -109,3 +108,20 @@ module _ (rows : List Row) (lower : Lower rows) where
 
   pub as-many-kids : (i : ℕ) → i < length rows → length (childrenOf (treeAt rows i)) ≡ length ((rowAt rows i) .children)
   as-many-kids i l = ap length (kids-tree i l) ∙ length-map ((rowAt rows i) .children) (treeAt rows)
+
+  -- a row's tree stands at a row's number once
+  pub equal-trees : Distinct rows → (i j : ℕ) → i < length rows → j < length rows → (treeAt rows i ≡ treeAt rows j) ↔ (i ≡ j)
+  equal-trees d i j l m = (one-tree d (suc i) i j (omega arith) l m, ap (treeAt rows))
+
+  -- every subtree of a row's tree is a row's tree
+  pub row-at : (p : List ℕ) (i : ℕ) → i < length rows → (u : Tree) → at (treeAt rows i) p ≡ some u → (j : ℕ) × (j < length rows) × (u ≡ treeAt rows j)
+  row-at [] i l u e = (i, l, sym (Option·some-injective _ _ e))
+  row-at (n ∷ p) i l u e =
+      let (h, e′) = below i l n p u e in
+      let c = getD ((rowAt rows i) .children) n 0 in
+      let b = lower i l c (in-getD 0 ((rowAt rows i) .children) n h) in
+      row-at p c (omega arith) u e′
+
+  -- a position below a child is a position of the row's tree
+  pub above : (i : ℕ) → i < length rows → (n : ℕ) → n < length ((rowAt rows i) .children) → (p : List ℕ) → at (treeAt rows i) (n ∷ p) ≡ at (treeAt rows (getD ((rowAt rows i) .children) n 0)) p
+  above i l n h p = ap (λ o. andThen o (λ u. at u p)) (kid-at i l n h)

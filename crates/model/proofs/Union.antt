@@ -1,38 +1,45 @@
 -- The union lets in what one of the two lets in. Assumes nothing.
 use mathlib.Core.Path.{_≡_, refl, sym, ap, _∙_, subst}
 use mathlib.Core.Logic.{_⊎_, inl, inr, ⊎-elim, _↔_}
-use mathlib.Core.Option.{Option, none, some}
-use mathlib.Core.List.{List, [], _∷_, _++_, map, List·Memᴰ as In, List·Memᴰ·append-cases as in-append, Memᴰ·append-left, Memᴰ·append-right}
-use mathlib.Core.Bool.{Bool, true, false}
-use Prim.Native.Nat.{ℕ, zero, suc, _+_, _-_, _*_, _/_, _%_, _^_, _<_, _≤_}
+use mathlib.Core.Option.{some}
+use mathlib.Core.List.{List, [], _∷_, map, List·Memᴰ as In, List·Memᴰ·append-cases as in-append, Memᴰ·append-left, Memᴰ·append-right}
+use mathlib.Core.Bool.{false}
+use Prim.Native.Nat.{ℕ, zero, suc, _+_, _-_, _/_, _%_, _^_, _<_, _≤_}
 use native.Mathlib.Omega.{arith}
-use native.Mathlib.Nat.{div-eq-of-lt, lt-of-lt-of-le, zero-add, zero-div}
+use native.Mathlib.Nat.{div-eq-of-lt, lt-of-lt-of-le, zero-add, zero-div, zero-mul}
 use native.Mathlib.Decide.{decLt}
 use lib.Dec.{T, eqb}
 use lib.Pow.{pow-mono, pow-pos}
 use lib.Seq.{getD-append-add}
 use lib.ListN.{length, getD, length-map, List·getD-append}
 use Rattle.model.specs.Tree.{Tree, childrenOf, at}
-use Rattle.model.specs.Automaton.{Rule, State, Automaton, noState, final?, carries?}
+use Rattle.model.specs.Automaton.{Rule, State, Automaton, Wellformed, noState, stateAt, final?, carries?}
 use Rattle.model.specs.Run.{Move, IsRun, Accepts}
-use Rattle.model.specs.Order.{sorted}
 use Rattle.model.specs.Boolean.{shiftState, shiftRule, union}
-use Rattle.model.specs.Automaton.{Wellformed}
-use Rattle.model.proofs.Members.{in-map, map-in}
+use Rattle.model.proofs.Members.{in-map, map-in, map-at}
 use Rattle.model.proofs.Rows.{in-getD}
 use Rattle.model.proofs.Runs.{at-kid, child-run, leaf}
-use Rattle.model.proofs.Combine.{in-sorted, sorted-in, Carried, carry, bit-low, bit-high}
-
-map-at : {B C : Type 0} (f : B → C) (b : B) (d : C) (xs : List B) (j : ℕ) → j < length xs → getD (map f xs) j d ≡ f (getD xs j b)
-map-at f b d [] j l = let z : ⊥ = omega arith in absurd z
-map-at f b d (x ∷ xs) zero l = refl
-map-at f b d (x ∷ xs) (suc j) l = map-at f b d xs j (omega arith)
+use Rattle.model.proofs.Order.{in-sorted, sorted-in}
+use Rattle.model.proofs.Combine.{Carried, carry, bit-low, bit-high}
 
 -- a mask has no bit at or past its width
 bit-past : (m t k : ℕ) → m < 2 ^ t → t ≤ k → T (eqb (m / 2 ^ k % 2) 1) → ⊥
 bit-past m t k h l c =
     let z : m / 2 ^ k ≡ 0 = div-eq-of-lt (lt-of-lt-of-le h (pow-mono l)) in
     subst (λ x. T (eqb (x % 2) 1)) z c
+
+-- the states of the union: the first's, then the second's, shifted
+shifted-at : (t : ℕ) (xs : List State) (q : ℕ) → getD (map (shiftState t) xs) q noState ≡ shiftState t (getD xs q noState)
+shifted-at t [] q = λ i. record { final = false; mask = sym (zero-mul (2 ^ t)) i }
+shifted-at t (x ∷ xs) zero = refl
+shifted-at t (x ∷ xs) (suc q) = shifted-at t xs q
+
+module _ (A B : Automaton) where
+  pub union-first : (q : ℕ) → q < length (A .states) → stateAt (union A B) q ≡ stateAt A q
+  union-first q l = List·getD-append (A .states) (map (shiftState (A .tags)) (B .states)) noState q l
+
+  pub union-second : (q : ℕ) → stateAt (union A B) (length (A .states) + q) ≡ shiftState (A .tags) (stateAt B q)
+  union-second q = getD-append-add (A .states) (map (shiftState (A .tags)) (B .states)) q noState ∙ shifted-at (A .tags) (B .states) q
 
 module _ (A B : Automaton) (sa : Wellformed A) (sb : Wellformed B) where
   abbrev U : Automaton
@@ -41,25 +48,18 @@ module _ (A B : Automaton) (sa : Wellformed A) (sb : Wellformed B) where
   abbrev n : ℕ
   n = length (A .states)
 
-  -- the states of the union
-  left-state : (q : ℕ) → q < n → getD (U .states) q noState ≡ getD (A .states) q noState
-  left-state q l = List·getD-append (A .states) (map (shiftState (A .tags)) (B .states)) noState q l
-
-  right-state : (q : ℕ) → q < length (B .states) → getD (U .states) (n + q) noState ≡ shiftState (A .tags) (getD (B .states) q noState)
-  right-state q l = getD-append-add (A .states) (map (shiftState (A .tags)) (B .states)) q noState ∙ map-at (shiftState (A .tags)) noState noState (B .states) q l
-
   final-left : (q : ℕ) → q < n → final? U q ≡ final? A q
-  final-left q l = ap (λ (s : State). s .final) (left-state q l)
+  final-left q l = ap (λ (s : State). s .final) (union-first A B q l)
 
   final-right : (q : ℕ) → q < length (B .states) → final? U (n + q) ≡ final? B q
-  final-right q l = ap (λ (s : State). s .final) (right-state q l)
+  final-right q l = ap (λ (s : State). s .final) (union-second A B q)
 
   tag-left : (q : ℕ) → q < n → (k : ℕ) → carries? U q k ≡ carries? A q k
-  tag-left q l k = ap (λ (s : State). eqb (s .mask / 2 ^ k % 2) 1) (left-state q l)
+  tag-left q l k = ap (λ (s : State). eqb (s .mask / 2 ^ k % 2) 1) (union-first A B q l)
 
   tag-right : (q : ℕ) → q < length (B .states) → (k : ℕ) → carries? U (n + q) (A .tags + k) ≡ carries? B q k
   tag-right q l k =
-      ap (λ (s : State). eqb (s .mask / 2 ^ (A .tags + k) % 2) 1) (right-state q l)
+      ap (λ (s : State). eqb (s .mask / 2 ^ (A .tags + k) % 2) 1) (union-second A B q)
       ∙ ap (λ z. eqb (z / 2 ^ (A .tags + k) % 2) 1) (sym (zero-add _))
       ∙ ap (λ z. eqb z 1) (bit-high 0 ((getD (B .states) q noState) .mask) k (A .tags) (pow-pos (A .tags)))
 
@@ -68,7 +68,7 @@ module _ (A B : Automaton) (sa : Wellformed A) (sb : Wellformed B) where
   tag-apart q l k h c =
       let m = (getD (B .states) q noState) .mask in
       let e : carries? U (n + q) k ≡ eqb (0 / 2 ^ k % 2) 1
-      = ap (λ (s : State). eqb (s .mask / 2 ^ k % 2) 1) (right-state q l) ∙ ap (λ z. eqb (z / 2 ^ k % 2) 1) (sym (zero-add _)) ∙ ap (λ z. eqb z 1) (bit-low 0 m k (A .tags) h) in
+      = ap (λ (s : State). eqb (s .mask / 2 ^ k % 2) 1) (union-second A B q) ∙ ap (λ z. eqb (z / 2 ^ k % 2) 1) (sym (zero-add _)) ∙ ap (λ z. eqb z 1) (bit-low 0 m k (A .tags) h) in
       subst (λ x. T (eqb (x % 2) 1)) (zero-div (2 ^ k)) (subst T e c)
 
   from-left : Carried A U
@@ -102,7 +102,7 @@ module _ (A B : Automaton) (sa : Wellformed A) (sb : Wellformed B) where
           (omega arith, subst T (tag-right q l (k - A .tags)) (subst (λ z. T (carries? U (n + q) z)) e c))
 
   -- a rule of the union is one of the two sets'
-  rule-of : (r : Rule) → In r (U .rules) → In r (A .rules) ⊎ ((b : Rule) × In b (B .rules) × (r ≡ shiftRule n b))
+  pub rule-of : (r : Rule) → In r (U .rules) → In r (A .rules) ⊎ ((b : Rule) × In b (B .rules) × (r ≡ shiftRule n b))
   rule-of r h = ⊎-elim inl (λ m. inr (in-map (shiftRule n) (B .rules) m)) (in-append (A .rules) (in-sorted _ h))
 
   -- a run that starts in a state of the first set stays there

@@ -1,30 +1,28 @@
--- The witness is let in, and a set without a witness lets in no tree. Assumes nothing.
+-- A marked tree has a run from its state at whose positions stand the trees that are marked for their states. Assumes nothing.
 use mathlib.Core.Path.{_≡_, refl, sym, ap, _∙_, subst}
-use mathlib.Core.Logic.{_⊎_, inl, inr, ⊎-elim, _↔_}
+use mathlib.Core.Logic.{_⊎_, inl, inr, ⊎-elim}
 use mathlib.Core.Option.{Option, none, some, Option·some-injective, Option·none-ne-some}
-use mathlib.Core.List.{List, [], _∷_, _++_, map, List·Memᴰ as In, List·Memᴰ·head as here, List·Memᴰ·tail as there}
-use mathlib.Core.Bool.{Bool, true, false, _&&_, _||_, cond}
-use Prim.Native.Nat.{ℕ, zero, suc, _+_, _<_, _≤_}
+use mathlib.Core.List.{List, [], _∷_, List·Memᴰ as In, List·Memᴰ·head as here, List·Memᴰ·tail as there}
+use mathlib.Core.Bool.{Bool, true, false}
+use Prim.Native.Nat.{ℕ, zero, suc, _<_}
 use native.Mathlib.Omega.{arith}
-use native.Mathlib.Nat.{zero-add, add-zero}
-use lib.Dec.{T, eqb, eqb→eq, eqb-refl}
-use lib.ListN.{length, getD, getElem?}
-use Rattle.model.specs.Tree.{Tree, Forest, node, fnil, fcons, trees, forest, childrenOf, symbolOf, at, andThen}
-use Rattle.model.specs.Automaton.{Rule, Automaton, final?, carries?}
-use Rattle.model.specs.Run.{Move, IsRun, Consistent, Accepts}
+use lib.Dec.{T, eqb, eqb→eq}
+use lib.ListN.{length, getD}
+use Rattle.model.specs.Tree.{Tree, node, forest, andThen}
+use Rattle.model.specs.Automaton.{Rule, Automaton}
 use Rattle.model.specs.Lists.{tab}
-use Rattle.model.specs.Witness.{orElse, when?, treesIn, topped, byRule, byFirst, nextRound, noMarks, firstFinal, witnessIn, witness, Apart}
+use Rattle.model.specs.Witness.{orElse, when?, treesIn, topped, byRule, byFirst, nextRound, noMarks}
 use Rattle.model.proofs.Tab.{tab-at}
 use Rattle.model.proofs.Rows.{trees-forest}
-use Rattle.model.proofs.Runs.{Fine, Runs, finer, node-runs, leaf}
+use Rattle.model.proofs.Runs.{Runs, finer, node-runs, leaf}
 
 module _ {A B : Type 0} where
-  then-some : (o : Option A) (f : A → Option B) {b : B} → andThen o f ≡ some b → (a : A) × (o ≡ some a) × (f a ≡ some b)
+  pub then-some : (o : Option A) (f : A → Option B) {b : B} → andThen o f ≡ some b → (a : A) × (o ≡ some a) × (f a ≡ some b)
   then-some none f {b = b} e = absurd (Option·none-ne-some b e)
   then-some (some a) f e = (a, refl, e)
 
 module _ {A : Type 0} where
-  or-cases : (a b : Option A) {t : A} → orElse a b ≡ some t → (a ≡ some t) ⊎ (b ≡ some t)
+  pub or-cases : (a b : Option A) {t : A} → orElse a b ≡ some t → (a ≡ some t) ⊎ (b ≡ some t)
   or-cases none b e = inr e
   or-cases (some a) b e = inl e
 
@@ -32,7 +30,7 @@ module _ {A : Type 0} where
   or-none none b e = (refl, e)
   or-none (some a) b e = absurd (Option·none-ne-some a (sym e))
 
-  when-some : (b : Bool) (o : Option A) {t : A} → when? b o ≡ some t → T b × (o ≡ some t)
+  pub when-some : (b : Bool) (o : Option A) {t : A} → when? b o ≡ some t → T b × (o ≡ some t)
   when-some true o e = (tt, e)
   when-some false o {t = t} e = absurd (Option·none-ne-some t e)
 
@@ -43,19 +41,19 @@ module _ {A : Type 0} where
 
 module _ (A : Automaton) where
   -- a run of `t` from `q` at whose positions stand the trees that are marked for their states
-  abbrev Marked : List (Option Tree) → ℕ → Tree → Type 0
+  abbrev pub Marked : List (Option Tree) → ℕ → Tree → Type 0
   Marked M q t = getD M q none ≡ some t
 
-  abbrev Homely : List (Option Tree) → Type 0
+  abbrev pub Homely : List (Option Tree) → Type 0
   Homely M = (q : ℕ) (t : Tree) → getD M q none ≡ some t → Runs A (Marked M) t q
 
-  abbrev Onto : List (Option Tree) → List (Option Tree) → Type 0
+  abbrev pub Onto : List (Option Tree) → List (Option Tree) → Type 0
   Onto M N = (q : ℕ) (t : Tree) → getD M q none ≡ some t → getD N q none ≡ some t
 
-  abbrev Kids : List (Option Tree) → List ℕ → List Tree → Type 0
+  abbrev pub Kids : List (Option Tree) → List ℕ → List Tree → Type 0
   Kids M qs ts = (length qs ≡ length ts) × ((j : ℕ) → j < length ts → Runs A (Marked M) (getD ts j leaf) (getD qs j 0))
 
-  kids : (M : List (Option Tree)) → Homely M → (qs : List ℕ) (ts : List Tree) → treesIn M qs ≡ some ts → Kids M qs ts
+  pub kids : (M : List (Option Tree)) → Homely M → (qs : List ℕ) (ts : List Tree) → treesIn M qs ≡ some ts → Kids M qs ts
   kids M h [] ts e = subst (Kids M []) (Option·some-injective _ _ e) (refl, λ j l. let z : ⊥ = omega arith in absurd z)
   kids M h (q ∷ qs) ts e =
       let (t, et, e₁) = then-some (getD M q none) _ e in
@@ -65,15 +63,15 @@ module _ (A : Automaton) where
       (ap suc el, λ j. elim j [ zero ↦ λ l. h q t et | suc i ↦ λ l. each i (omega arith) ])
 
   -- the rule that marks a state
-  record By (M : List (Option Tree)) (q : ℕ) (rs : List Rule) (t : Tree) : Type 0 where
-    rule : Rule
-    listed : In rule rs
-    target : rule .target ≡ q
-    under-it : List Tree
-    marked : treesIn M (rule .children) ≡ some under-it
-    is : node (rule .symbol) 0 0 (forest under-it) ≡ t
+  pub record By (M : List (Option Tree)) (q : ℕ) (rs : List Rule) (t : Tree) : Type 0 where
+    pub rule : Rule
+    pub listed : In rule rs
+    pub target : rule .target ≡ q
+    pub under-it : List Tree
+    pub marked : treesIn M (rule .children) ≡ some under-it
+    pub is : node (rule .symbol) 0 0 (forest under-it) ≡ t
 
-  by-first : (M : List (Option Tree)) (q : ℕ) (rs : List Rule) (t : Tree) → byFirst M q rs ≡ some t → By M q rs t
+  pub by-first : (M : List (Option Tree)) (q : ℕ) (rs : List Rule) (t : Tree) → byFirst M q rs ≡ some t → By M q rs t
   by-first M q [] t e = absurd (Option·none-ne-some t e)
   by-first M q (r ∷ rs) t e =
       ⊎-elim
@@ -89,18 +87,18 @@ module _ (A : Automaton) where
   top-run M N o r ir ts (el, each) e = node-runs (node (r .symbol) 0 0 (forest ts)) ts (trees-forest ts) r ir refl el e (λ j l. finer o (each j l))
 
   -- marks stay in range, and a round keeps what is marked
-  abbrev InRange : List (Option Tree) → Type 0
+  abbrev pub InRange : List (Option Tree) → Type 0
   InRange M = (q : ℕ) (t : Tree) → getD M q none ≡ some t → q < length (A .states)
 
-  kept : (M : List (Option Tree)) → InRange M → Onto M (nextRound A M)
+  pub kept : (M : List (Option Tree)) → InRange M → Onto M (nextRound A M)
   kept M i q t e =
       tab-at none (length (A .states)) (λ z. orElse (getD M z none) (byFirst M z (A .rules))) q (i q t e)
       ∙ ap (λ o. orElse o (byFirst M q (A .rules))) e
 
-  in-range : (M : List (Option Tree)) → InRange (nextRound A M)
+  pub in-range : (M : List (Option Tree)) → InRange (nextRound A M)
   in-range M q t e = tab-some (length (A .states)) (λ z. orElse (getD M z none) (byFirst M z (A .rules))) q e .0
 
-  next-homely : (M : List (Option Tree)) → InRange M → Homely M → Homely (nextRound A M)
+  pub next-homely : (M : List (Option Tree)) → InRange M → Homely M → Homely (nextRound A M)
   next-homely M i h q t e =
       let (l, e₁) = tab-some (length (A .states)) (λ z. orElse (getD M z none) (byFirst M z (A .rules))) q e in
       ⊎-elim
@@ -115,33 +113,5 @@ module _ (A : Automaton) where
           (top-run M (nextRound A M) (kept M i) (b .rule) (b .listed) (b .under-it) (kids M h (b .rule .children) (b .under-it) (b .marked))
           (ap (λ z. getD (nextRound A M) z none) (b .target) ∙ e ∙ ap some (sym (b .is)))))
 
-  -- the first final state that is marked
-  first-final : (M : List (Option Tree)) (n : ℕ) (t : Tree) → firstFinal A M n ≡ some t → (q : ℕ) × T (final? A (n + q)) × (getD M q none ≡ some t)
-  first-final [] n t e = absurd (Option·none-ne-some t e)
-  first-final (o ∷ M) n t e =
-      ⊎-elim
-      (λ a. let (f, e′) = when-some (final? A n) o a in (0, subst (λ z. T (final? A z)) (sym (add-zero n)) f, e′))
-      (λ a. let (q, f, e′) = first-final M (suc n) t a in (suc q, subst (λ z. T (final? A z)) (omega arith) f, e′))
-      (or-cases (when? (final? A n) o) (firstFinal A M (suc n)) e)
-
-  let-in : Apart A → (M : List (Option Tree)) → Homely M → (t : Tree) → firstFinal A M 0 ≡ some t → Accepts A t
-  let-in d M h t e =
-      let (q, f, e₁) = first-final M 0 t e in
-      let (ρ, g) = h q t e₁ in
-      record {
-        run = ρ;
-        runs = g .runs;
-        accepting = subst (λ z. T (final? A z)) (zero-add q ∙ sym (g .root)) f;
-        consistent = λ k l p p′ u u′ e e′ c c′. Option·some-injective u u′ (sym (g .all p u e) ∙ ap (λ z. getD M z none) (d k l (ρ p) (ρ p′) c c′) ∙ g .all p′ u′ e′);
-      }
-
-  witness-in : Apart A → (n : ℕ) (M : List (Option Tree)) → InRange M → Homely M → (t : Tree) → witnessIn A n M ≡ some t → Accepts A t
-  witness-in d zero M i h t e = let-in d M h t e
-  witness-in d (suc n) M i h t e =
-      ⊎-elim (let-in d M h t) (witness-in d n (nextRound A M) (in-range M) (next-homely M i h) t) (or-cases (firstFinal A M 0) (witnessIn A n (nextRound A M)) e)
-
-  none-marked : (q : ℕ) (t : Tree) → getD (noMarks A) q none ≡ some t → ⊥
+  pub none-marked : (q : ℕ) (t : Tree) → getD (noMarks A) q none ≡ some t → ⊥
   none-marked q t e = Option·none-ne-some t (tab-some (length (A .states)) (λ z. none) q e .1)
-
-  pub alive : Apart A → (t : Tree) → witness A ≡ some t → Accepts A t
-  alive d = witness-in d (length (A .states)) (noMarks A) (λ q t e. absurd (none-marked q t e)) (λ q t e. absurd (none-marked q t e))

@@ -56,7 +56,7 @@ annotation i q m = record { row = i; state = q; memory = m }
 -- The annotations that derive: a rule on a row, an annotation for each child with the row and the state that are asked, their memories joined from the empty one, then the last step.
 mutual
   pub data Derivable (A : Automaton) (rows : List Row) : ℕ → ℕ → Memory → Type 0 where
-    derived : {i : ℕ} {r : Rule} {m y : Memory} → i < length rows → In r (A .rules) → r .symbol ≡ (rowAt rows i) .symbol → Joins A rows (emptyMemory A) ((rowAt rows i) .children) (r .children) m → In y (finish A (r .target) i m) → Derivable A rows i (r .target) y
+    derived : {i q : ℕ} {r : Rule} {m y : Memory} → i < length rows → In r (A .rules) → r .symbol ≡ (rowAt rows i) .symbol → r .target ≡ q → Joins A rows (emptyMemory A) ((rowAt rows i) .children) (r .children) m → In y (finish A q i m) → Derivable A rows i q y
 
   -- from the memory m, children in the rows and states listed join to the last memory
   pub data Joins (A : Automaton) (rows : List Row) : Memory → List ℕ → List ℕ → Memory → Type 0 where

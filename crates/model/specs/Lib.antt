@@ -8,9 +8,11 @@ pub mod Sound
 pub mod Run
 pub mod Papers
 pub mod Table
+pub mod Fit
 pub mod Build
 pub mod Annotation
 pub mod Leaves
 pub mod Written
+pub mod WrittenTest
 pub mod Boolean
 pub mod Witness

@@ -33,6 +33,11 @@ unfoldable pub allBelow : ℕ → (ℕ → Bool) → Bool
 allBelow zero p = true
 allBelow (suc n) p = allBelow n p && p n
 
+-- the test p passes at some index below n
+unfoldable pub anyBelow : ℕ → (ℕ → Bool) → Bool
+anyBelow zero p = false
+anyBelow (suc n) p = anyBelow n p || p n
+
 -- the larger of two numbers
 abbrev pub larger : ℕ → ℕ → ℕ
 larger a b = cond (leb a b) b a

@@ -1,0 +1,180 @@
+//! The library's check of a stored set against the reference's.
+
+use compare::answer::Answer;
+use compare::case::{Case, Expected, Input};
+use compare::library::check::check_automaton;
+use compare::tally::{Tally, SET};
+use generate::{set_bytes, sets, Random};
+use reference::examples::{rule, set_b, set_d, set_e, set_g, state};
+use reference::limits::{HEADER_BYTES, RULE_BYTES};
+use reference::{Automaton, Rule};
+
+/// Compares one call, and answers what both answered.
+fn compare(set: &[u8]) -> Answer {
+    let library = check_automaton(set);
+    let reference = Answer::of_reference(reference::check_automaton(set).map(|_| 0));
+    let inputs = [("set", Input::Set(set))];
+    let expected = Expected::Exactly(reference);
+    Case { function: "check_automaton", inputs: &inputs, library, expected }.same_answer();
+    reference
+}
+
+/// The number that a set is refused with, if it is.
+fn number(automaton: &Automaton) -> Option<u8> {
+    compare(&automaton.encode()).number()
+}
+
+#[test]
+fn seeded_sets() {
+    let mut tally = Tally::of("check_automaton");
+    for seed in 0..25_000 {
+        let random = &mut Random::new(seed);
+        let sizes = sets::any_sizes(random);
+        let automaton = sets::automaton(random, &sizes);
+        let set = set_bytes::stored(random, &automaton, 85);
+        tally.count(compare(&set), |_| "sound");
+    }
+    tally.must_reach(20_000, 200, &SET, &["sound"]);
+}
+
+#[test]
+fn every_value_of_every_byte_of_the_examples() {
+    let mut tally = Tally::of("check_automaton, byte by byte");
+    for automaton in [set_e(), set_g(), set_d(), set_b()] {
+        let sound = automaton.encode();
+        for at in 0..sound.len() {
+            for value in 0..=255 {
+                let mut set = sound.clone();
+                set[at] = value;
+                tally.count(compare(&set), |_| "sound");
+            }
+        }
+    }
+    tally.must_reach(20_000, 5, &SET[1..], &["sound"]);
+}
+
+#[test]
+fn every_length_of_the_examples() {
+    for automaton in [set_e(), set_g(), set_d(), set_b()] {
+        let sound = automaton.encode();
+        let longer = [&sound[..], &sound[..]].concat();
+        for length in 0..=longer.len() {
+            let expected = match length {
+                _ if length < HEADER_BYTES => Some(1),
+                _ if length == sound.len() => None,
+                _ => Some(3),
+            };
+            assert_eq!(compare(&longer[..length]).number(), expected);
+        }
+    }
+}
+
+#[test]
+fn every_number_of_a_middling_set() {
+    let automaton = sets::automaton(&mut Random::new(7), &sets::medium_sizes());
+    let sound = automaton.encode();
+    let rules_at = sound.len() - RULE_BYTES * automaton.rules.len();
+    let header = (0..HEADER_BYTES).step_by(2);
+    for at in header.chain((rules_at..sound.len()).step_by(2)) {
+        let old = u16::from_le_bytes([sound[at], sound[at + 1]]);
+        for value in [0, 1, 39, 40, 255, 256, 1024, 32_768, 65_534, 65_535, old ^ 1, old ^ 256, !old] {
+            let mut set = sound.clone();
+            set[at..at + 2].copy_from_slice(&value.to_le_bytes());
+            compare(&set);
+        }
+    }
+}
+
+/// A set with so many symbols, states, tags and rules.
+fn of_counts(symbols: usize, states: usize, tags: usize, rules: usize) -> Automaton {
+    let numbered = |number: usize| rule(0, &[number / 64 % 64, number % 64, 0, 0], 0);
+    let mut arities = vec![0; symbols];
+    if let Some(first) = arities.first_mut() {
+        *first = 4;
+    }
+    Automaton {
+        arities,
+        states: vec![state(true, 0); states],
+        tag_count: tags,
+        rules: (0..rules).map(numbered).collect(),
+    }
+}
+
+#[test]
+fn counts_at_their_limits() {
+    for (symbols, states, tags, rules, expected) in [
+        (1, 64, 0, 0, None),
+        (64, 256, 8, 1024, None),
+        (0, 64, 0, 0, Some(2)),
+        (65, 64, 0, 0, Some(2)),
+        (1, 0, 0, 0, Some(2)),
+        (1, 1, 0, 1, None),
+        (1, 256, 0, 5, None),
+        (1, 257, 0, 5, Some(2)),
+        (1, 64, 8, 5, None),
+        (1, 64, 9, 5, Some(2)),
+        (1, 64, 16, 5, Some(2)),
+        (1, 64, 0, 1024, None),
+        (1, 64, 0, 1025, Some(2)),
+    ] {
+        let automaton = of_counts(symbols, states, tags, rules);
+        assert_eq!(number(&automaton), expected, "{symbols} {states} {tags} {rules}");
+    }
+}
+
+#[test]
+fn children_at_their_limits() {
+    for (arity, expected) in [(0, None), (4, None), (5, Some(4)), (255, Some(4))] {
+        let mut automaton = of_counts(64, 4, 0, 0);
+        automaton.arities[63] = arity;
+        assert_eq!(number(&automaton), expected, "{arity} children");
+    }
+}
+
+#[test]
+fn tags_and_final_bytes_at_their_limits() {
+    for tags in 0..=8 {
+        for mask in 0..=255u8 {
+            let mut automaton = of_counts(2, 256, tags, 3);
+            automaton.states[255].tags = mask;
+            let expected = if u16::from(mask) < 1 << tags { None } else { Some(5) };
+            assert_eq!(number(&automaton), expected, "{tags} tags, mask {mask}");
+        }
+    }
+}
+
+#[test]
+fn a_wrong_rule_is_found_wherever_it_stands() {
+    let sound = of_counts(3, 64, 0, 1024);
+    for at in [0, 1, 511, 1022, 1023] {
+        let with = |change: fn(&mut Rule)| {
+            let mut automaton = sound.clone();
+            change(&mut automaton.rules[at]);
+            number(&automaton)
+        };
+        assert_eq!(with(|rule| rule.symbol = 3), Some(6), "rule {at}");
+        assert_eq!(with(|rule| rule.target = 64), Some(6), "rule {at}");
+        assert_eq!(with(|rule| rule.children[3] = 64), Some(6), "rule {at}");
+        assert_eq!(with(|rule| rule.children[3] = 65_535), Some(6), "rule {at}");
+        assert_eq!(with(|rule| rule.target = 63), None, "rule {at}");
+    }
+}
+
+#[test]
+fn unused_places_and_order_are_checked_up_to_the_last_rule() {
+    let leaf_rules = |children: &[usize]| Automaton {
+        rules: vec![rule(1, &[], 0), rule(1, children, 1)],
+        ..of_counts(2, 2, 0, 0)
+    };
+    assert_eq!(number(&leaf_rules(&[])), None);
+    assert_eq!(number(&leaf_rules(&[65_535, 65_535, 65_535, 0])), Some(6));
+    assert_eq!(number(&leaf_rules(&[65_535, 65_535, 65_535, 65_534])), Some(6));
+    for at in [0, 512, 1022] {
+        let mut equal = of_counts(3, 64, 0, 1024);
+        equal.rules[at + 1] = equal.rules[at].clone();
+        assert_eq!(number(&equal), Some(7));
+        let mut swapped = of_counts(3, 64, 0, 1024);
+        swapped.rules.swap(at, at + 1);
+        assert_eq!(number(&swapped), Some(7));
+    }
+}

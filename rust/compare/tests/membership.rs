@@ -1,0 +1,241 @@
+//! The library's judging against the reference's, with the run handed back and both spaces.
+
+use compare::answer::Answer;
+use compare::case::{Case, Expected, Input};
+use compare::lent::Lent;
+use compare::library;
+use compare::tally::{Tally, SET, TABLE};
+use generate::{documents, rows, set_bytes, sets, Random};
+use reference::examples::{rule, set_b, set_d, set_e, set_g, state};
+use reference::limits::{ANNOTATION_CELLS, MAX_ROOM, ROW_CELLS, STEP_CELLS};
+use reference::{Automaton, Document, Judgement, Refusal, Row, Scalar};
+
+/// Compares one call with work and run spaces of so many cells, and answers what the library
+/// answered: for a yes the number of steps, which is its own choice.
+fn compare(set: &[u8], rows: &[u16], work_cells: usize, run_cells: usize) -> Answer {
+    let inputs = [
+        ("set", Input::Set(set)),
+        ("rows", Input::Cells(rows, ROW_CELLS)),
+        ("work", Input::Space(work_cells)),
+        ("run", Input::Space(run_cells)),
+    ];
+    let (mut work, mut run) = (Lent::of_length(work_cells), Lent::of_length(run_cells));
+    let library = library::membership::membership(set, rows, work.space(), run.space());
+    let reference = reference::membership(set, rows, work_cells, run_cells);
+    let expected = expected(&reference);
+    let case = Case { function: "membership", inputs: &inputs, library, expected };
+    case.same_answer();
+    case.same_space("work", &work, &work_afterwards(&work, &reference));
+    let front = run_handed_back(library, &run);
+    if !front.is_empty() {
+        passes_the_check(&case, set, rows, front);
+    }
+    case.same_space("run", &run, &run.with_front(front));
+    library
+}
+
+fn expected(reference: &Result<Judgement, Refusal>) -> Expected {
+    match reference {
+        Ok(judgement) if judgement.is_yes() => Expected::RunOfAtMost(judgement.annotations),
+        other => Expected::Exactly(Answer::of_reference(other.as_ref().map(|_| 0).map_err(|&e| e))),
+    }
+}
+
+/// All zeros after every judging that passes 32, refused by 31 or not; else untouched.
+fn work_afterwards(work: &Lent<u16>, reference: &Result<Judgement, Refusal>) -> Vec<u16> {
+    match reference {
+        Ok(_) | Err(Refusal { number: 31, .. }) => work.zeros(),
+        Err(_) => work.with_front(&[]),
+    }
+}
+
+/// The steps that the library wrote: none unless it said yes.
+fn run_handed_back(library: Answer, run: &Lent<u16>) -> &[u16] {
+    match library {
+        Answer::Value(steps) => &run.contents()[..STEP_CELLS * steps as usize],
+        Answer::Refused { .. } => &[],
+    }
+}
+
+fn passes_the_check(case: &Case, set: &[u8], rows: &[u16], run: &[u16]) {
+    if let Err(refusal) = reference::check_run(set, rows, run) {
+        case.fail(&format!("the run handed back is refused with {}: {run:?}", refusal.number));
+    }
+}
+
+fn kind(value: u64) -> &'static str {
+    if value == 0 {
+        "no"
+    } else {
+        "yes"
+    }
+}
+
+/// Room for so many annotations and run space for as many steps, neither with a cell to spare.
+fn compare_with_room(automaton: &Automaton, document: &Document, room: usize) -> Answer {
+    let (work, run) = (ANNOTATION_CELLS * room, STEP_CELLS * room);
+    compare(&automaton.encode(), &document.cells(), work, run)
+}
+
+/// A room near the number of annotations, or any.
+fn telling_room(random: &mut Random, automaton: &Automaton, document: &Document) -> usize {
+    const ENOUGH: usize = 400;
+    let count = match reference::membership::judge(automaton, document, ENOUGH) {
+        Ok(judgement) => judgement.annotations,
+        Err(_) => ENOUGH,
+    };
+    random.pick(&[count, count, count + 1, count.saturating_sub(1), count / 2, 0, 30])
+}
+
+/// Sets of these sizes are judged.
+const SIZES: [fn() -> sets::Sizes; 4] =
+    [sets::tiny_sizes, sets::small_sizes, sets::tagged_sizes, sets::medium_sizes];
+
+#[test]
+fn seeded_documents() {
+    let mut tally = Tally::of("membership");
+    for seed in 0..30_000 {
+        let random = &mut Random::new(seed);
+        let sizes = random.pick(&SIZES)();
+        let automaton = sets::automaton(random, &sizes);
+        let most = random.pick(&[1, 4, 8, 16, 30]);
+        let Some(document) = documents::document(random, &automaton, most) else { continue };
+        let room = telling_room(random, &automaton, &document);
+        let work = ANNOTATION_CELLS * room + random.pick(&[0, 1, 31]);
+        let run = STEP_CELLS * room + random.pick(&[0, 0, 1, 5, 6, 40]);
+        let run = if random.percent(10) { random.below(run + 1) } else { run };
+        let set = set_bytes::stored(random, &automaton, 12);
+        let table =
+            if random.percent(20) { rows::damaged(random, &automaton, document) } else { document.cells() };
+        tally.count(compare(&set, &table, work, run), kind);
+    }
+    let numbers = [&SET[..], &TABLE, &[32, 31]].concat();
+    tally.must_reach(20_000, 200, &numbers, &["yes", "no"]);
+}
+
+/// Whether the set would let the document in if no state had a tag.
+fn is_let_in_without_tags(automaton: &Automaton, document: &Document) -> bool {
+    let mut untagged = automaton.clone();
+    untagged.states.iter_mut().for_each(|state| state.tags = 0);
+    let judgement = reference::membership::judge(&untagged, document, usize::MAX);
+    judgement.expect("no bound, no refusal").is_yes()
+}
+
+#[test]
+fn documents_grown_along_the_rules() {
+    let mut tally = Tally::of("membership, grown documents");
+    for seed in 0..9000 {
+        let random = &mut Random::new(seed);
+        let automaton = sets::automaton(random, &sets::tagged_sizes());
+        let Some(document) = documents::grown(random, &automaton, 60) else { continue };
+        let room = random.pick(&[20, 500, 500]);
+        let answer = compare_with_room(&automaton, &document, room);
+        let turned_down = answer == Answer::Value(0) && is_let_in_without_tags(&automaton, &document);
+        tally.count(answer, |value| if turned_down { "no, by its tags" } else { kind(value) });
+    }
+    tally.must_reach(2000, 200, &[31], &["yes", "no, by its tags"]);
+}
+
+/// A pair over one or two leaves of symbol 1, for the examples.
+fn example_document(scalars: &[Scalar]) -> Document {
+    let leaves = scalars.iter().map(|&scalar| Row { symbol: 1, children: vec![], scalar });
+    let pair = Row { symbol: 0, children: vec![0, scalars.len() - 1], scalar: Scalar::Bare };
+    Document { rows: leaves.chain([pair]).collect() }
+}
+
+#[test]
+fn the_examples_with_every_room_and_run_space() {
+    let equal = example_document(&[Scalar::Count(7)]);
+    let unequal = example_document(&[Scalar::Count(7), Scalar::Count(8)]);
+    let zeros = example_document(&[Scalar::Rate(0), Scalar::Rate(1 << 63)]);
+    for set in [set_e(), set_b(), set_d()] {
+        for document in [&equal, &unequal, &zeros] {
+            for work in 0..=140 {
+                for run in [0, 5, 6, 11, 12, 17, 18, 23, 24, 30] {
+                    compare(&set.encode(), &document.cells(), work, run);
+                }
+            }
+        }
+    }
+    assert_eq!(compare_with_room(&set_e(), &equal, 2), Answer::Value(2));
+    assert_eq!(compare_with_room(&set_e(), &equal, 1).number(), Some(31));
+    assert_eq!(compare_with_room(&set_e(), &unequal, 9), Answer::Value(0));
+    assert_eq!(compare_with_room(&set_e(), &zeros, 9), Answer::Value(0));
+    assert_eq!(compare_with_room(&set_b(), &equal, 3), Answer::Value(3));
+    assert_eq!(compare_with_room(&set_d(), &equal, 0), Answer::Value(0));
+}
+
+#[test]
+fn chains_of_g() {
+    for levels in 1..=20 {
+        let document = documents::chain(&set_g(), levels).expect("G has a leaf");
+        let answer = compare_with_room(&set_g(), &document, 100);
+        let is_yes = answer != Answer::Value(0);
+        assert_eq!(is_yes, levels == 1 || levels == 3, "{levels} levels");
+    }
+}
+
+/// Symbols f/4 and a/0 in four states each and b/0 in five, so that annotations can be counted.
+fn counting_set() -> Automaton {
+    let f = (0..4).map(|target| rule(0, &[0, 0, 0, 0], target));
+    let a = (0..4).map(|target| rule(1, &[], target));
+    let b = (0..5).map(|target| rule(2, &[], target));
+    Automaton {
+        arities: vec![4, 0, 0],
+        states: vec![state(true, 0); 5],
+        tag_count: 0,
+        rules: f.chain(a).chain(b).collect(),
+    }
+}
+
+#[test]
+fn annotations_at_their_limit() {
+    let set = counting_set();
+    let mut document = documents::broad(&mut Random::new(11), &set, 1024).expect("there are leaves");
+    assert_eq!(document.rows.len(), 1024);
+    let yes = compare_with_room(&set, &document, MAX_ROOM);
+    assert!(matches!(yes, Answer::Value(steps) if steps > 0));
+    assert_eq!(compare_with_room(&set, &document, MAX_ROOM - 1).number(), Some(31));
+    // Work space past 4,096 annotations makes no more room and asks for no longer run space.
+    let (set_bytes, cells) = (set.encode(), document.cells());
+    let (work, run) = (ANNOTATION_CELLS * (MAX_ROOM + 9) + 5, STEP_CELLS * MAX_ROOM);
+    assert!(matches!(compare(&set_bytes, &cells, work, run), Answer::Value(steps) if steps > 0));
+    assert_eq!(compare(&set_bytes, &cells, work, run - 1).number(), Some(32));
+    document.rows[0].symbol = 2;
+    assert_eq!(compare(&set_bytes, &document.cells(), work, run).number(), Some(31));
+}
+
+/// A set at all limits: g in 256 states one after the other, and a leaf in each of them.
+#[test]
+fn a_set_and_a_document_at_the_limits() {
+    let mut rules: Vec<_> = (0..256).map(|from| rule(0, &[from], (from + 1) % 256)).collect();
+    rules.extend((0..256).map(|from| rule(1, &[from, from], (from + 7) % 256)));
+    rules.extend((0..256).map(|from| rule(2, &[from, from, from, from], from)));
+    rules.extend((0..256).map(|target| rule(3, &[], target)));
+    let set = Automaton {
+        arities: vec![1, 2, 4, 0],
+        states: (0..256).map(|number| state(number == 200, 0)).collect(),
+        tag_count: 8,
+        rules,
+    };
+    assert_eq!(set.rules.len(), 1024);
+    let document = documents::broad(&mut Random::new(2), &set, 16).expect("there are leaves");
+    assert!(matches!(compare_with_room(&set, &document, MAX_ROOM), Answer::Value(steps) if steps > 0));
+    let longer = documents::broad(&mut Random::new(2), &set, 17).expect("there are leaves");
+    assert_eq!(compare_with_room(&set, &longer, MAX_ROOM).number(), Some(31));
+}
+
+#[test]
+fn a_chain_of_256_levels_with_tags() {
+    // Each g may carry tag 0 or not; at most one row can, so there is an annotation for each choice.
+    let set = Automaton {
+        arities: vec![1, 0],
+        states: vec![state(false, 0), state(true, 1)],
+        tag_count: 1,
+        rules: vec![rule(0, &[0], 0), rule(0, &[0], 1), rule(0, &[1], 0), rule(1, &[], 0)],
+    };
+    let document = documents::chain(&set, 30).expect("there is a leaf");
+    assert!(matches!(compare_with_room(&set, &document, 1000), Answer::Value(30)));
+    let document = documents::chain(&set, 256).expect("there is a leaf");
+    assert_eq!(compare_with_room(&set, &document, MAX_ROOM).number(), Some(31));
+}

@@ -1,0 +1,52 @@
+//! The library's product against the reference's.
+
+mod pairs;
+
+use compare::library::boolean::product;
+use pairs::{of_counts, Operation};
+use reference::examples::{set_b, set_d, set_e};
+
+const PRODUCT: Operation = Operation { name: "product", library: product, reference: reference::product };
+
+#[test]
+fn seeded_pairs() {
+    PRODUCT.compare_seeded_pairs();
+}
+
+#[test]
+fn every_space_for_the_examples() {
+    PRODUCT.compare_every_space(&set_e(), &set_b());
+    PRODUCT.compare_every_space(&set_b(), &set_e());
+    PRODUCT.compare_every_space(&set_e(), &set_d());
+    PRODUCT.compare_every_space(&set_e(), &set_e());
+}
+
+#[test]
+fn the_order_of_places() {
+    PRODUCT.compare_order_of_places();
+}
+
+#[test]
+fn results_at_the_limits() {
+    for (first, second, expected) in [
+        (of_counts(16, 0, 5), of_counts(16, 0, 5), None),
+        (of_counts(256, 0, 5), of_counts(1, 0, 1), None),
+        (of_counts(1, 0, 1), of_counts(256, 0, 5), None),
+        (of_counts(129, 0, 5), of_counts(2, 0, 5), Some(52)),
+        (of_counts(17, 0, 5), of_counts(16, 0, 5), Some(52)),
+        (of_counts(256, 0, 0), of_counts(256, 0, 0), Some(52)),
+        (of_counts(5, 8, 5), of_counts(5, 0, 5), None),
+        (of_counts(5, 0, 5), of_counts(5, 8, 5), None),
+        (of_counts(5, 3, 5), of_counts(5, 5, 5), None),
+        (of_counts(5, 8, 5), of_counts(5, 1, 5), Some(52)),
+        (of_counts(5, 5, 5), of_counts(5, 4, 5), Some(52)),
+        (of_counts(5, 0, 32), of_counts(5, 0, 32), None),
+        (of_counts(6, 0, 1024), of_counts(5, 0, 1), None),
+        (of_counts(6, 0, 1024), of_counts(5, 0, 0), None),
+        (of_counts(5, 0, 25), of_counts(5, 0, 41), Some(52)),
+        (of_counts(6, 0, 1024), of_counts(6, 0, 1024), Some(52)),
+        (of_counts(16, 4, 32), of_counts(16, 4, 32), None),
+    ] {
+        assert_eq!(PRODUCT.number(&first, &second), expected);
+    }
+}

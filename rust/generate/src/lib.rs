@@ -1,0 +1,15 @@
+//! Seeded inputs, sound and damaged, for the tests of reference and library.
+//!
+//! Every input follows from a seed, so a test that fails can be run again on the same input.
+
+pub mod documents;
+pub mod lists;
+pub mod pairs;
+pub mod random;
+pub mod rows;
+pub mod runs;
+pub mod set_bytes;
+pub mod sets;
+pub mod texts;
+
+pub use random::Random;

@@ -1,0 +1,99 @@
+//! Union and product of two stored sets, refusals 51 to 53 (document 01, "Joining, demanding both, and the sample").
+
+use crate::automaton::{Automaton, Rule, State};
+use crate::limits::{MAX_RULES, MAX_STATES, MAX_TAGS};
+use crate::refusal::{refuse_if, Refusal};
+use crate::stored::check_automaton;
+
+/// The bytes of the union, for a result space of so many bytes.
+pub fn union(first: &[u8], second: &[u8], space: usize) -> Result<Vec<u8>, Refusal> {
+    let (first, second) = check_both(first, second)?;
+    let states = first.states.len() + second.states.len();
+    let rules = first.rules.len() + second.rules.len();
+    refuse_if(result_is_too_large(&first, &second, states, rules), 52)?;
+    write(&united(&first, &second), space)
+}
+
+/// The bytes of the product, for a result space of so many bytes.
+pub fn product(first: &[u8], second: &[u8], space: usize) -> Result<Vec<u8>, Refusal> {
+    let (first, second) = check_both(first, second)?;
+    let states = first.states.len() * second.states.len();
+    let rules = rule_pairs(&first, &second).count();
+    refuse_if(result_is_too_large(&first, &second, states, rules), 52)?;
+    write(&multiplied(&first, &second), space)
+}
+
+/// Both sets, the first checked before the second, with the same symbols.
+fn check_both(first: &[u8], second: &[u8]) -> Result<(Automaton, Automaton), Refusal> {
+    let first = check_automaton(first)?;
+    let second = check_automaton(second)?;
+    refuse_if(first.arities != second.arities, 51)?;
+    Ok((first, second))
+}
+
+fn result_is_too_large(first: &Automaton, second: &Automaton, states: usize, rules: usize) -> bool {
+    states > MAX_STATES || first.tag_count + second.tag_count > MAX_TAGS || rules > MAX_RULES
+}
+
+fn write(result: &Automaton, space: usize) -> Result<Vec<u8>, Refusal> {
+    let bytes = result.encode();
+    refuse_if(space < bytes.len(), 53)?;
+    Ok(bytes)
+}
+
+/// The first set's states and tags, then the second's, shifted.
+pub fn united(first: &Automaton, second: &Automaton) -> Automaton {
+    let shift = first.states.len();
+    let shifted_states = second
+        .states
+        .iter()
+        .map(|state| State { is_final: state.is_final, tags: shifted(state.tags, first.tag_count) });
+    let shifted_rules = second.rules.iter().map(|rule| Rule {
+        symbol: rule.symbol,
+        children: rule.children.iter().map(|child| child + shift).collect(),
+        target: rule.target + shift,
+    });
+    let mut rules: Vec<Rule> = first.rules.iter().cloned().chain(shifted_rules).collect();
+    rules.sort();
+    Automaton {
+        arities: first.arities.clone(),
+        states: first.states.iter().copied().chain(shifted_states).collect(),
+        tag_count: first.tag_count + second.tag_count,
+        rules,
+    }
+}
+
+/// All pairs of states and all pairs of rules with the same symbol.
+pub fn multiplied(first: &Automaton, second: &Automaton) -> Automaton {
+    let pair = |p: usize, q: usize| p * second.states.len() + q;
+    let mut states = Vec::new();
+    for p in &first.states {
+        for q in &second.states {
+            states.push(State {
+                is_final: p.is_final && q.is_final,
+                tags: p.tags | shifted(q.tags, first.tag_count),
+            });
+        }
+    }
+    let mut rules: Vec<Rule> = rule_pairs(first, second)
+        .map(|(one, other)| Rule {
+            symbol: one.symbol,
+            children: one.children.iter().zip(&other.children).map(|(&p, &q)| pair(p, q)).collect(),
+            target: pair(one.target, other.target),
+        })
+        .collect();
+    rules.sort();
+    Automaton { arities: first.arities.clone(), states, tag_count: first.tag_count + second.tag_count, rules }
+}
+
+/// The second set's tags, moved past the first set's; with 8 tags in the first, none are left.
+fn shifted(tags: u8, by: usize) -> u8 {
+    (u16::from(tags) << by) as u8
+}
+
+/// Every pair of rules with the same symbol.
+fn rule_pairs<'a>(first: &'a Automaton, second: &'a Automaton) -> impl Iterator<Item = (&'a Rule, &'a Rule)> {
+    first.rules.iter().flat_map(|one| {
+        second.rules.iter().filter(|other| other.symbol == one.symbol).map(move |other| (one, other))
+    })
+}

@@ -1,0 +1,235 @@
+//! Random sets and documents, judged in two unlike ways that must agree.
+
+use generate::sets::{
+    layered, layered_over_symbols, over_symbols, separate_tags, small_sizes, tiny_sizes, Sizes,
+};
+use generate::{documents, runs, Random};
+use reference::boolean::{multiplied, united};
+use reference::brute_force::{self, lets_in, Tree};
+use reference::membership::{all_annotations, judge};
+use reference::run::{check_steps, run_cells};
+use reference::{check_automaton, witness, Automaton, Document, Row, Scalar};
+
+/// Most labellings that a test tries on one tree.
+const MOST_LABELLINGS: usize = 20_000;
+
+/// A tiny set and a document small enough for every labelling to be tried.
+fn small_case(seed: u64) -> Option<(Automaton, Document)> {
+    let random = &mut Random::new(seed);
+    let automaton = generate::sets::automaton(random, &tiny_sizes());
+    let document = documents::document(random, &automaton, 6)?;
+    can_be_tried(&automaton, &document).then_some((automaton, document))
+}
+
+fn can_be_tried(automaton: &Automaton, document: &Document) -> bool {
+    if document.levels() > 12 {
+        return false;
+    }
+    let positions = Tree::of_row(document, document.last()).size();
+    let labellings = automaton.states.len().checked_pow(positions as u32);
+    labellings.is_some_and(|count| count <= MOST_LABELLINGS)
+}
+
+fn says_yes(automaton: &Automaton, document: &Document) -> bool {
+    judge(automaton, document, usize::MAX).expect("no bound, no refusal").is_yes()
+}
+
+#[test]
+fn annotations_and_decision_agree_with_all_labellings() {
+    let (mut yes, mut no, mut with_memory) = (0, 0, 0);
+    for (automaton, document) in (0..6000).filter_map(small_case) {
+        let tree = Tree::of_row(&document, document.last());
+        let expected = lets_in(&automaton, &tree);
+        assert_eq!(says_yes(&automaton, &document), expected, "{automaton:?} {document:?}");
+        let found = all_annotations(&automaton, &document);
+        let expected_annotations = brute_force::annotations(&automaton, &document);
+        assert_eq!(found, expected_annotations, "{automaton:?} {document:?}");
+        *(if expected { &mut yes } else { &mut no }) += 1;
+        with_memory += usize::from(found.iter().any(|a| a.memory.iter().any(Option::is_some)));
+    }
+    assert!(yes > 300 && no > 300 && with_memory > 300, "{yes} yes, {no} no, {with_memory} with memory");
+}
+
+#[test]
+fn tags_decide_many_of_the_cases_tried() {
+    let turned_down_by_tags = (0..6000)
+        .filter_map(small_case)
+        .filter(|(automaton, document)| {
+            let mut untagged = automaton.clone();
+            untagged.states.iter_mut().for_each(|state| state.tags = 0);
+            says_yes(&untagged, document) && !says_yes(automaton, document)
+        })
+        .count();
+    assert!(turned_down_by_tags > 30, "only {turned_down_by_tags} cases");
+}
+
+#[test]
+fn the_room_is_exactly_the_number_of_annotations() {
+    for (automaton, document) in (0..2000).filter_map(small_case) {
+        let count = all_annotations(&automaton, &document).len();
+        let judgement = judge(&automaton, &document, count).expect("there is room for all");
+        assert_eq!(judgement.annotations, count);
+        if count > 0 {
+            assert_eq!(judge(&automaton, &document, count - 1).unwrap_err().number, 31);
+        }
+    }
+}
+
+#[test]
+fn a_run_handed_back_passes_the_check_and_is_no_longer_than_the_annotations() {
+    let mut runs = 0;
+    for seed in 0..4000 {
+        let random = &mut Random::new(seed);
+        let automaton = generate::sets::automaton(random, &small_sizes());
+        let Some(document) = documents::document(random, &automaton, 20) else { continue };
+        let Ok(judgement) = judge(&automaton, &document, 2000) else { continue };
+        if let Some(run) = judgement.run {
+            assert_eq!(check_steps(&automaton, &document, &run_cells(&run)), Ok(()));
+            assert!(run.len() <= judgement.annotations);
+            runs += 1;
+        }
+    }
+    assert!(runs > 300, "only {runs} runs");
+}
+
+#[test]
+fn a_run_that_passes_the_check_means_that_the_document_is_let_in() {
+    let (mut passed, mut refused_where_let_in) = (0, 0);
+    for seed in 0..8000 {
+        let Some((automaton, document)) = small_case(seed) else { continue };
+        let cells = runs::lent(&mut Random::new(!seed), &automaton, &document, 40);
+        let tree = Tree::of_row(&document, document.last());
+        match check_steps(&automaton, &document, &cells) {
+            Ok(()) => {
+                assert!(lets_in(&automaton, &tree), "{automaton:?} {document:?} {cells:?}");
+                passed += 1;
+            }
+            Err(_) => refused_where_let_in += usize::from(lets_in(&automaton, &tree)),
+        }
+    }
+    assert!(passed > 200 && refused_where_let_in > 100, "{passed} {refused_where_let_in}");
+}
+
+#[test]
+fn union_and_product_mean_either_and_both() {
+    let sizes = Sizes { states: 1..=2, tags: 0..=2, ..tiny_sizes() };
+    let (mut both_yes, mut differing) = (0, 0);
+    for seed in 0..6000 {
+        let random = &mut Random::new(seed);
+        let first = generate::sets::automaton(random, &sizes);
+        let second = over_symbols(random, &sizes, first.arities.clone());
+        let Some(document) = documents::document(random, &first, 5) else { continue };
+        let (either, both) = (united(&first, &second), multiplied(&first, &second));
+        if !can_be_tried(&either, &document) {
+            continue;
+        }
+        let tree = Tree::of_row(&document, document.last());
+        let (one, other) = (lets_in(&first, &tree), lets_in(&second, &tree));
+        assert_eq!(lets_in(&either, &tree), one || other, "{first:?} {second:?} {document:?}");
+        assert_eq!(lets_in(&both, &tree), one && other, "{first:?} {second:?} {document:?}");
+        assert_eq!(says_yes(&either, &document), one || other);
+        assert_eq!(says_yes(&both, &document), one && other);
+        assert_eq!(check_automaton(&either.encode()), Ok(either));
+        assert_eq!(check_automaton(&both.encode()), Ok(both));
+        both_yes += usize::from(one && other);
+        differing += usize::from(one != other);
+    }
+    assert!(both_yes > 100 && differing > 100, "{both_yes} both, {differing} differing");
+}
+
+/// Every tree of at most so many levels with bare leaves, as tables.
+fn all_trees(arities: &[u8], levels: usize) -> Vec<Tree> {
+    if levels == 0 {
+        return Vec::new();
+    }
+    let below = all_trees(arities, levels - 1);
+    let mut trees = Vec::new();
+    for (symbol, &arity) in arities.iter().enumerate() {
+        for children in all_lists(&below, usize::from(arity)) {
+            trees.push(Tree { symbol, scalar: Scalar::Bare, children });
+        }
+    }
+    trees
+}
+
+/// Every list of so many trees.
+fn all_lists(trees: &[Tree], length: usize) -> Vec<Vec<Tree>> {
+    if length == 0 {
+        return vec![Vec::new()];
+    }
+    let mut lists = Vec::new();
+    for list in all_lists(trees, length - 1) {
+        for tree in trees {
+            lists.push([&list[..], std::slice::from_ref(tree)].concat());
+        }
+    }
+    lists
+}
+
+/// A sound table of a tree.
+fn table_of(tree: &Tree) -> Document {
+    fn add(tree: &Tree, rows: &mut Vec<Row>) -> usize {
+        let children = tree.children.iter().map(|child| add(child, rows)).collect();
+        rows.push(Row { symbol: tree.symbol, children, scalar: tree.scalar });
+        rows.len() - 1
+    }
+    let mut rows = Vec::new();
+    add(tree, &mut rows);
+    documents::thinned(&rows)
+}
+
+/// The levels of the lowest tree, of at most three levels, that a set lets in.
+fn lowest_tree_let_in(automaton: &Automaton, trees: &[Tree]) -> Option<usize> {
+    trees.iter().filter(|tree| says_yes(automaton, &table_of(tree))).map(Tree::height).min()
+}
+
+#[test]
+fn no_tree_let_in_is_lower_than_the_sample() {
+    let (mut seen_live, mut seen_dead, mut seen_high) = (0, 0, 0);
+    for arities in [vec![2, 0, 0], vec![1, 2, 0], vec![1, 0, 0, 1]] {
+        let trees = all_trees(&arities, 3);
+        for seed in 0..400 {
+            let random = &mut Random::new(seed);
+            let sizes = Sizes { states: 1..=4, tags: 0..=3, rules: 0..=8, ..tiny_sizes() };
+            let mut automaton = layered_over_symbols(random, &sizes, arities.clone());
+            if random.percent(50) {
+                automaton = over_symbols(random, &sizes, arities.clone());
+                separate_tags(&mut automaton);
+            }
+            let lowest = lowest_tree_let_in(&automaton, &trees);
+            match witness(&automaton.encode(), 1000).expect("no state shares a tag") {
+                None => {
+                    assert_eq!(lowest, None, "{automaton:?}");
+                    seen_dead += 1;
+                }
+                Some(sample) => {
+                    assert!(says_yes(&automaton, &sample), "{automaton:?}");
+                    assert_eq!(lowest, Some(sample.levels()).filter(|&levels| levels <= 3));
+                    seen_live += 1;
+                    seen_high += usize::from(sample.levels() == 3);
+                }
+            }
+        }
+    }
+    assert!(seen_live > 100 && seen_dead > 100 && seen_high > 10, "{seen_live} {seen_dead} {seen_high}");
+}
+
+#[test]
+fn a_sample_is_a_sound_table_in_first_finishing_order() {
+    let mut with_shared_rows = 0;
+    for seed in 0..3000 {
+        let automaton = layered(&mut Random::new(seed), &small_sizes());
+        let set = automaton.encode();
+        let Some(sample) = witness(&set, 1000).expect("no state shares a tag") else { continue };
+        assert!(reference::check_document(&set, &sample.cells()).is_ok());
+        assert!(says_yes(&automaton, &sample), "{automaton:?}");
+        let Ok(text) = reference::write_term(&set, b"", b"", &sample.cells(), 100_000) else { continue };
+        assert_eq!(reference::read_term(&set, b"", b"", &text, 10_240), Ok(sample.clone()));
+        with_shared_rows += usize::from(table_size(&sample) > sample.rows.len());
+    }
+    assert!(with_shared_rows > 100, "only {with_shared_rows}");
+}
+
+fn table_size(document: &Document) -> usize {
+    Tree::of_row(document, document.last()).size()
+}

@@ -1,0 +1,198 @@
+//! The settled readings of document 01: texts, lists, spaces and programs where a sentence needed one.
+
+mod common;
+
+use common::{document, ROW_SPACE};
+use reference::examples::{rule, set_d, set_e, state};
+use reference::limits::ROW_CELLS;
+use reference::{
+    check_automaton, check_names, judge_program, membership, read_term, witness, Automaton, Refusal,
+};
+
+/// The number of rows, or a refusal's number and place.
+type Reading = Result<usize, (u8, usize)>;
+
+/// What a text gives against set E without name lists.
+fn read(text: &str, row_space: usize) -> Reading {
+    read_term(&set_e().encode(), b"", b"", text.as_bytes(), row_space * ROW_CELLS)
+        .map(|document| document.rows.len())
+        .map_err(|refusal| (refusal.number, refusal.place.expect("a place")))
+}
+
+#[test]
+fn texts_against_e() {
+    let cases: [(&str, usize, Reading); 22] = [
+        ("", 1024, Err((63, 0))),
+        ("s1 ", 1024, Err((63, 2))),
+        ("s9(", 1024, Err((65, 0))),
+        ("s0(s1,s1", 1024, Err((63, 8))),
+        ("s0(s1,s1))", 1024, Err((63, 9))),
+        ("s0()", 1024, Err((63, 3))),
+        ("s0(s1)x", 1024, Err((66, 0))),
+        ("s0(s1,s2,s1,s1,s1,s1)", 1024, Err((66, 0))),
+        ("s0=1x", 1024, Err((66, 0))),
+        ("s1(s1)", 1024, Err((66, 0))),
+        ("s0(s1,s2)", 2, Err((67, 0))),
+        ("s1=00", 1024, Err((63, 4))),
+        ("s1=18446744073709551615", 1024, Ok(1)),
+        ("s1=18446744073709551616", 1024, Err((63, 22))),
+        ("s1=tru", 1024, Err((63, 6))),
+        ("s1=truex", 1024, Err((63, 7))),
+        ("s1#4294967296", 1024, Err((63, 12))),
+        ("s1~0123456789abcdeF", 1024, Err((63, 18))),
+        ("s1~0123456789abcdef0", 1024, Err((63, 19))),
+        ("aaaaaaaaaaaaaaaa", 1024, Err((65, 0))),
+        ("aaaaaaaaaaaaaaaaa", 1024, Err((63, 16))),
+        ("s0(s1,s2=1x", 1, Err((67, 6))),
+    ];
+    for (text, row_space, answer) in cases {
+        assert_eq!(read(text, row_space), answer, "{text:?} with space for {row_space} rows");
+    }
+}
+
+#[test]
+fn texts_around_the_end_of_a_term() {
+    assert_eq!(read("s0~0123456789abcdef0", 1024), Err((66, 0)));
+    assert_eq!(read("s0=truex", 1024), Err((66, 0)));
+    assert_eq!(read("s0=00", 1024), Err((63, 4)));
+    assert_eq!(read("s0", 1024), Err((66, 0)));
+    assert_eq!(read("s0 ", 1024), Err((66, 0)));
+    assert_eq!(read("s0(s1,s9x", 1024), Err((65, 6)));
+    assert_eq!(read("s1=", 1024), Err((63, 3)));
+    assert_eq!(read("s1#4294967295", 1024), Ok(1));
+    assert_eq!(read("s1=0", 1024), Ok(1));
+    assert_eq!(read("s1=07", 1024), Err((63, 4)));
+    assert_eq!(read("S1", 1024), Err((63, 0)));
+    assert_eq!(read("s1,s1", 1024), Err((63, 2)));
+}
+
+#[test]
+fn a_row_that_is_already_there_never_gives_67() {
+    assert_eq!(read("s0(s1,s1)", 2), Ok(2));
+    assert_eq!(read("s1", 0), Err((67, 0)));
+    assert_eq!(read("s0", 0), Err((66, 0)));
+}
+
+/// Set of g/1 and a/0.
+fn unary_set() -> Automaton {
+    Automaton { arities: vec![1, 0], states: vec![state(true, 0)], tag_count: 0, rules: vec![] }
+}
+
+#[test]
+fn level_257_gives_64_for_a_letter_and_63_for_anything_else() {
+    let read = |text: String| {
+        read_term(&unary_set().encode(), b"", b"", text.as_bytes(), ROW_SPACE)
+            .map(|document| document.levels())
+    };
+    let open = |levels: usize| "s0(".repeat(levels);
+    assert_eq!(read(open(255) + "s1" + &")".repeat(255)), Ok(256));
+    assert_eq!(read(open(256) + "s1"), Err(Refusal::at(64, 768)));
+    assert_eq!(read(open(256) + "zzz"), Err(Refusal::at(64, 768)));
+    assert_eq!(read(open(256) + "1"), Err(Refusal::at(63, 768)));
+    assert_eq!(read(open(256)), Err(Refusal::at(63, 768)));
+}
+
+/// The names shown for E's three symbols, or the number.
+fn shown(site: &[u8], built_in: &[u8]) -> Result<Vec<String>, u8> {
+    let names = check_names(site, built_in, 3).map_err(|refusal| refusal.number)?;
+    Ok(names.into_iter().map(|name| String::from_utf8(name).expect("letters")).collect())
+}
+
+#[test]
+fn lists_against_e() {
+    assert_eq!(shown(b"s1", b""), Err(62));
+    assert_eq!(shown(b"s1", b"\nt"), Ok(vec!["s1".into(), "t".into(), "s2".into()]));
+    assert_eq!(shown(b"p\r\n", b""), Err(61));
+}
+
+#[test]
+fn lines_of_a_list() {
+    use reference::names::lines;
+    assert_eq!(lines(b"").len(), 0);
+    assert_eq!(lines(b"a").len(), 1);
+    assert_eq!(lines(b"a\n").len(), 1);
+    assert_eq!(lines(b"a\nb").len(), 2);
+    assert_eq!(lines(&[10; 64]).len(), 64);
+    assert_eq!(shown(&[10; 64], b""), Ok(vec!["s0".into(), "s1".into(), "s2".into()]));
+    assert_eq!(shown(&[10; 65], b""), Err(61));
+    assert_eq!(shown(b"", &[&[10; 64][..], b"a"].concat()), Err(61));
+}
+
+#[test]
+fn lines_past_the_last_symbol_must_be_names_but_are_not_shown() {
+    assert_eq!(shown(b"\n\n\nA", b""), Err(61));
+    assert_eq!(shown(b"\n\n\ns0", b""), Ok(vec!["s0".into(), "s1".into(), "s2".into()]));
+    assert_eq!(
+        shown(b"thisnamehas16byt", b"x"),
+        Ok(vec!["thisnamehas16byt".into(), "s1".into(), "s2".into()])
+    );
+    assert_eq!(shown(b"thisnamehas17byte", b""), Err(61));
+    assert_eq!(shown(b"9a", b""), Err(61));
+    assert_eq!(shown(b"p", b"q\nq\n"), Ok(vec!["p".into(), "q".into(), "s2".into()]));
+    assert_eq!(shown(b"p\np", b""), Err(62));
+}
+
+#[test]
+fn a_lower_number_counts_wherever_it_stands() {
+    let mut bytes = set_e().encode();
+    bytes[58] = 0;
+    assert_eq!(check_automaton(&bytes), Err(Refusal::plain(6)));
+    bytes[21] = 2;
+    assert_eq!(check_automaton(&bytes), Err(Refusal::plain(5)));
+    bytes[18] = 5;
+    assert_eq!(check_automaton(&bytes), Err(Refusal::plain(4)));
+    bytes.push(0);
+    assert_eq!(check_automaton(&bytes), Err(Refusal::plain(3)));
+    bytes[4] = 9;
+    assert_eq!(check_automaton(&bytes), Err(Refusal::plain(2)));
+}
+
+#[test]
+fn spaces_hold_what_fits_whole() {
+    let set = set_e().encode();
+    let rows = document(&set_e(), "s0(s1,s1)").cells();
+    assert!(membership(&set, &rows, 95, 12).is_ok());
+    assert_eq!(membership(&set, &rows, 96, 12), Err(Refusal::plain(32)));
+    assert_eq!(membership(&set, &rows, 63, 11), Err(Refusal::plain(31)));
+    assert_eq!(membership(&set, &rows, 64, 11), Err(Refusal::plain(32)));
+    assert_eq!(membership(&set, &rows, usize::MAX, 6 * 4096 - 1), Err(Refusal::plain(32)));
+    assert!(membership(&set, &rows, usize::MAX, 6 * 4096).is_ok());
+    assert_eq!(witness(&set, 19), Err(Refusal::plain(42)));
+    assert!(witness(&set, 20).is_ok());
+}
+
+#[test]
+fn a_room_of_0_can_still_answer_no() {
+    let rows = document(&set_d(), "s1").cells();
+    let judgement = membership(&set_d().encode(), &rows, 31, 0).expect("no annotation, no refusal");
+    assert!(!judgement.is_yes());
+    assert_eq!(judgement.annotations, 0);
+    let rows = document(&set_e(), "s1").cells();
+    assert_eq!(membership(&set_e().encode(), &rows, 31, 0), Err(Refusal::plain(31)));
+}
+
+#[test]
+fn sample_space_comes_before_shared_tags() {
+    let sharing = Automaton {
+        arities: vec![0],
+        states: vec![state(true, 1), state(true, 1)],
+        tag_count: 1,
+        rules: vec![rule(0, &[], 0)],
+    };
+    assert_eq!(witness(&sharing.encode(), 19), Err(Refusal::plain(42)));
+    assert_eq!(witness(&sharing.encode(), 20), Err(Refusal::plain(41)));
+}
+
+#[test]
+fn the_judging_program_cuts_at_the_total_that_bytes_14_and_15_state() {
+    let mut input = set_e().encode();
+    input.extend(b"s0(s1,s1)");
+    assert_eq!(judge_program(&input), b"yes\n");
+    input[14] = 15;
+    assert_eq!(judge_program(&input), b"refused 1\n");
+    input[14] = 60;
+    assert_eq!(judge_program(&input), b"refused 3\n");
+    input[15] = 255;
+    assert_eq!(judge_program(&input), b"refused 3\n");
+    assert_eq!(judge_program(&[255; 15]), b"refused 1\n");
+}

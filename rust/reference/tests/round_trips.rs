@@ -1,0 +1,66 @@
+//! Writing and reading back: stored sets, rows and texts.
+
+use generate::sets::{any_sizes, automaton, small_sizes};
+use generate::{documents, lists, Random};
+use reference::limits::{MAX_ROWS, ROW_CELLS};
+use reference::table::TableBuilder;
+use reference::{check_automaton, check_document, check_names, read_term, write_term, Document};
+
+#[test]
+fn a_stored_set_decodes_to_what_was_encoded() {
+    for seed in 0..2000 {
+        let random = &mut Random::new(seed);
+        let sizes = any_sizes(random);
+        let automaton = automaton(random, &sizes);
+        assert_eq!(check_automaton(&automaton.encode()), Ok(automaton));
+    }
+}
+
+#[test]
+fn lent_rows_decode_to_what_was_encoded() {
+    for seed in 0..2000 {
+        let random = &mut Random::new(seed);
+        let automaton = automaton(random, &small_sizes());
+        let Some(document) = documents::document(random, &automaton, 300) else { continue };
+        let checked = check_document(&automaton.encode(), &document.cells());
+        assert_eq!(checked, Ok((automaton, document)));
+    }
+}
+
+/// The same tree's table with rows in first-finishing order.
+fn in_finishing_order(document: &Document) -> Document {
+    fn add(document: &Document, row: usize, table: &mut TableBuilder) -> usize {
+        let mut row = document.rows[row].clone();
+        for child in &mut row.children {
+            *child = add(document, *child, table);
+        }
+        table.place(row).expect("no more rows than before")
+    }
+    let mut table = TableBuilder::with_limit(document.rows.len());
+    add(document, document.last(), &mut table);
+    table.finish()
+}
+
+#[test]
+fn reading_undoes_writing_with_the_same_numbers_where_rows_are_in_order() {
+    let (mut in_order, mut reordered) = (0, 0);
+    for seed in 0..3000 {
+        let random = &mut Random::new(seed);
+        let automaton = automaton(random, &small_sizes());
+        let set = automaton.encode();
+        let Some(document) = documents::document(random, &automaton, 30) else { continue };
+        let (site, built_in) = lists::both(random, automaton.arities.len(), 0);
+        let names = check_names(&site, &built_in, automaton.arities.len());
+        names.expect("sound lists show no name twice");
+        let Ok(text) = write_term(&set, &site, &built_in, &document.cells(), 20_000) else { continue };
+        let back = read_term(&set, &site, &built_in, &text, ROW_CELLS * MAX_ROWS).expect("reads back");
+        let expected = in_finishing_order(&document);
+        assert_eq!(back, expected);
+        *(if expected == document { &mut in_order } else { &mut reordered }) += 1;
+        let space = text.len();
+        assert!(write_term(&set, &site, &built_in, &document.cells(), space).is_ok());
+        let refused = write_term(&set, &site, &built_in, &document.cells(), space - 1);
+        assert_eq!(refused.unwrap_err().number, 68);
+    }
+    assert!(in_order > 300 && reordered > 300, "{in_order} in order, {reordered} reordered");
+}
