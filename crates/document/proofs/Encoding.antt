@@ -14,14 +14,11 @@ use Rattle.model.specs.Lists.{tab}
 use Rattle.model.specs.Table.{Row, noRow, rowAt}
 use Rattle.model.proofs.Tab.{tab-at, length-tab}
 use Rattle.model.proofs.Rows.{in-getD}
+use Rattle.automaton.proofs.Parts.{tab-same}
 use Rattle.document.specs.declared.fields.RowFields.{RowFields}
 use Rattle.document.specs.Scalars.{payloadOf}
 use Rattle.document.specs.Fields.{fieldsRow}
 use Rattle.document.specs.Rows.{rowCells, cellIn, used, placesIn, joinCells, payloadIn, rowIn, rowsBelow, decodeRows, placesOf, splitCells, encodeRow, encodeRows, Fits, Kept}
-
-pub tab-same : {A : Type 0} (n : ℕ) (f g : ℕ → A) → ((k : ℕ) → k < n → f k ≡ g k) → tab n f ≡ tab n g
-tab-same zero f g h = refl
-tab-same {A} (suc n) f g h = λ i. h 0 (omega arith) i ∷ tab-same n (λ k. f (suc k)) (λ k. g (suc k)) (λ k l. h (suc k) (omega arith)) i
 
 -- ---- child places
 

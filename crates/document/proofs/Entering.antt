@@ -1,9 +1,9 @@
 -- Rows entered into the index one after the other: a row is found exactly where an earlier one equals it. Assumes nothing.
 use mathlib.Core.Path.{_≡_, refl, sym, ap, _∙_, subst}
 use mathlib.Core.Bool.{Bool, true, false, not, cond}
-use mathlib.Core.Logic.{_⊎_, inl, inr, ⊎-elim}
+use mathlib.Core.Logic.{⊎-elim}
 use mathlib.Core.List.{List}
-use Prim.Native.Nat.{ℕ, zero, suc, _+_, _*_, _%_, _<_, _≤_}
+use Prim.Native.Nat.{ℕ, _+_, _*_, _%_, _<_, _≤_}
 use native.Mathlib.Nat.{mod-lt}
 use native.Mathlib.Numerals.{add-one}
 use native.Mathlib.Omega.{arith}
@@ -17,14 +17,14 @@ use Rattle.model.specs.Table.{Row, rowAt, scalar?}
 use Rattle.model.specs.Build.{eqRow}
 use Rattle.model.proofs.Members.{T-true}
 use Rattle.model.proofs.Below.{Passed, passed-none, passed-more, passed-all, stopped, at, fails}
-use Rattle.model.proofs.Build.{eqRow→eq, eqRow-refl}
+use Rattle.model.proofs.Build.{eqRow→eq}
 use Rattle.automaton.proofs.Parts.{all-of}
 use Rattle.document.specs.declared.scalar.Decoded.the-variants.{Is, Not}
 use Rattle.document.specs.declared.rows.Row as number
 use Rattle.document.specs.declared.index.Probed.{Probed}
 use Rattle.document.specs.declared.index.Probed.the-variants.{Found, Free, Crowded}
 use Rattle.document.specs.declared.fields.RowFields.{RowFields}
-use Rattle.document.specs.Rows.{rowCells, rowIn, decodeRows, encodeRow}
+use Rattle.document.specs.Rows.{rowIn, decodeRows, encodeRow}
 use Rattle.document.specs.Hash.{rowHash}
 use Rattle.document.specs.Scalars.{kindOf, payloadOf, decodeScalar, scalarAt}
 use Rattle.document.specs.Fields.{fieldsRow}

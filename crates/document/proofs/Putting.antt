@@ -1,21 +1,20 @@
 -- A row put into a space of rows: the rows before it stay, and it is read back. Assumes nothing.
 use mathlib.Core.Path.{_≡_, refl, sym, ap, _∙_}
 use mathlib.Core.List.{List, [], _∷_, _++_, append-assoc}
-use mathlib.Core.Bool.{Bool, true, false, cond}
 use Prim.Native.Nat.{ℕ, zero, suc, _+_, _*_, _<_, _≤_}
 use native.Mathlib.Numerals.{add-one}
 use native.Mathlib.Omega.{arith}
 use borrow.Author.Needs.{needs}
 use borrow.Author.Tests.{le-leb, lt-leb}
-use lib.Dec.{leb}
 use lib.ListN.{length, getD, take, drop, set, length-set, length-append, length-drop, List·getD-append}
 use lib.Seq.{paste, paste-zero, paste-suc, take-all, getD-take, getD-append-add, length-take-le, take-at}
 use Rattle.model.specs.Limits.{maxChildren}
 use Rattle.model.specs.Lists.{tab}
 use Rattle.model.specs.Table.{Row}
+use Rattle.automaton.proofs.Parts.{tab-same}
 use Rattle.document.specs.Rows.{rowCells, cellIn, used, joinCells, rowIn, rowsBelow, encodeRow, Kept}
 use Rattle.document.specs.Put.{putCells}
-use Rattle.document.proofs.Encoding.{tab-same, decoded}
+use Rattle.document.proofs.Encoding.{decoded}
 
 module _ (before cells : List ℕ) (i : ℕ) where
   pub put-fits : i * rowCells + rowCells ≤ length before → putCells before i cells ≡ take (i * rowCells) before ++ cells ++ drop (i * rowCells + rowCells) before

@@ -10,7 +10,6 @@ mod tests; // tests.rt: the four tests of a table
 use automaton::Checked;
 pub use scalar::Scalar;
 ghost use mathlib.Core.Path.{_≡_};
-ghost use Prim.Native.Nat.{_≤_};
 ghost use Rattle.automaton.specs.Answer.{refusalOf, checkedOf};
 ghost use Rattle.document.specs.Check.{documentCheckOf};
 
