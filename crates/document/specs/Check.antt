@@ -76,6 +76,7 @@ distinctCheckOf rows = demand (allBelow (length rows) (fresh? rows)) 15 0
 unfoldable pub uses? : ℕ → List ℕ → ℕ → Bool
 uses? j cs i = ltb i j && any (eqb i) cs
 
+-- some later row has row i as a child
 unfoldable pub used? : List Row → ℕ → Bool
 used? rows i = anyBelow (length rows) (λ j. uses? j ((rowAt rows j) .children) i)
 
