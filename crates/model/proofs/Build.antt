@@ -19,14 +19,14 @@ use Rattle.model.proofs.Members.{T-and, and-T, eqList→eq, eqList-refl
 use Rattle.model.proofs.Rows.{tree-eq, one-tree, below, in-getD}
 use Rattle.model.proofs.Levels.{atIn, below-levels}
 
-eqRow→eq : (a b : Row) → T (eqRow a b) → a ≡ b
+pub eqRow→eq : (a b : Row) → T (eqRow a b) → a ≡ b
 eqRow→eq a b h =
     let (h₁, g) = T-and (eqb (a .symbol) (b .symbol)) (eqb (a .kind) (b .kind) && (eqb (a .payload) (b .payload) && eqList (a .children) (b .children))) h in
     let (h₂, g₂) = T-and (eqb (a .kind) (b .kind)) (eqb (a .payload) (b .payload) && eqList (a .children) (b .children)) g in
     let (h₃, h₄) = T-and (eqb (a .payload) (b .payload)) (eqList (a .children) (b .children)) g₂ in
     λ i. record { symbol = eqb→eq (a .symbol) (b .symbol) h₁ i; kind = eqb→eq (a .kind) (b .kind) h₂ i; payload = eqb→eq (a .payload) (b .payload) h₃ i; children = eqList→eq (a .children) (b .children) h₄ i }
 
-eqRow-refl : (a : Row) → T (eqRow a a)
+pub eqRow-refl : (a : Row) → T (eqRow a a)
 eqRow-refl a = and-T (eqb (a .symbol) (a .symbol)) _ (eqb-refl (a .symbol)) (and-T (eqb (a .kind) (a .kind)) _ (eqb-refl (a .kind)) (and-T (eqb (a .payload) (a .payload)) _ (eqb-refl (a .payload)) (eqList-refl (a .children))))
 
 -- what the scan finds: the row, or that there is none

@@ -1,0 +1,17 @@
+pub mod Rates
+pub mod Variants
+pub mod Scalars
+pub mod Hashing
+pub mod Places
+pub mod Children
+pub mod Equality
+pub mod Encoding
+pub mod Encoded
+pub mod Putting
+pub mod Marking
+pub mod Heights
+pub mod Decoding
+pub mod Refusals
+pub mod Form
+pub mod Whole
+pub mod Sound

@@ -1,0 +1,33 @@
+-- `document::fields::cells_of` meets its contract, cell by cell. Assumes nothing.
+use borrow.Author.Needs.{needs}
+use Rattle.document.proofs.fields.cells_of.Statement.{statement}
+use Rattle.document.proofs.fields.cells_of.Tie as tie
+
+returns : tie.Need-returns
+returns c =
+    rw (
+      c .low-cell4 .ensures,
+      c .before .low-cell3 .ensures,
+      c .before .before .low-cell2 .ensures,
+      c .before .before .before .low-cell .ensures,
+      c .before .before .before .before .payload .ensures .0,
+      c .before .before .before .before .before .kind .ensures,
+      c .before .before .before .before .before .before .settled .ensures,
+    )
+
+pub cells-of-spec : {M : Type 1} → statement M
+cells-of-spec =
+    tie.close
+    (tie.spec
+    (λ c κs. search needs)
+    (λ c κs. search needs)
+    (λ c κs. search needs)
+    (λ c. search needs)
+    (λ c. search needs)
+    (λ c. search needs)
+    (λ c. search needs)
+    (λ c κs. search needs)
+    (λ c κs. search needs)
+    (λ c κs. search needs)
+    (λ c κs. search needs)
+    returns)

@@ -1,0 +1,25 @@
+-- What the passes of the table check ask of the rows and leave in their scratch. Assumes nothing.
+use mathlib.Core.Path.{_≡_}
+use mathlib.Core.List.{List, [], _∷_}
+use mathlib.Core.Bool.{Bool, false, _||_}
+use Prim.Native.Nat.{ℕ, _/_, _<_, _≤_}
+use lib.ListN.{length, getD}
+use Rattle.model.specs.Limits.{maxRows}
+use Rattle.model.specs.Lists.{larger}
+use Rattle.document.specs.Rows.{rowCells}
+use Rattle.document.specs.Check.{uses?}
+
+-- n is the number of rows, and 11 does not turn them away for it
+pub record Counted (cells : List ℕ) (n : ℕ) : Type 0 where
+  pub rows : n ≡ length cells / rowCells
+  pub some : 0 < n
+  pub few : n ≤ maxRows
+
+-- after the children cs of row j are marked: what was marked, and those of them that are lower
+abbrev pub Marked : ℕ → List ℕ → List Bool → List Bool → Type 0
+Marked j cs before after = (i : ℕ) → i < length before → getD after i false ≡ (getD before i false || uses? j cs i)
+
+-- the largest of the heights of the rows listed
+abbrev pub highestOf : List ℕ → List ℕ → ℕ
+highestOf heights [] = 0
+highestOf heights (c ∷ cs) = larger (getD heights c 0) (highestOf heights cs)

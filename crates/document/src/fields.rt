@@ -1,0 +1,107 @@
+// A row by value: its symbol, child places and scalar; its ten cells; and its equality with a lent row.
+use crate::rows::Row;
+use crate::rows::UNUSED;
+use crate::rows::kind;
+use crate::rows::payload;
+use crate::rows::place;
+use crate::rows::symbol;
+use crate::scalar;
+use crate::scalar::Scalar;
+ghost use mathlib.Core.Path.{_≡_};
+ghost use Prim.Native.Nat.{_/_, _%_};
+ghost use Rattle.model.specs.Lists.{eqList};
+ghost use Rattle.model.specs.Build.{eqRow};
+ghost use Rattle.document.specs.Rows.{used, placesOf, rowIn, encodeRow};
+ghost use Rattle.document.specs.Fields.{fieldsRow, placeAfter};
+
+// Places after the first unused one do not count.
+pub struct RowFields {
+    pub symbol: u16,
+    pub places: [u16; 4],
+    pub scalar: Scalar,
+}
+
+fn place_after(last: u16, x: u16) -> u16
+    ensures { λ r. ⌜ r ≡ placeAfter last x ⌝ }
+{
+    if last == UNUSED { UNUSED } else { x }
+}
+
+// The places, all unused after the first that is.
+fn settled(places: [u16; 4]) -> [u16; 4]
+    ensures { λ r. ⌜ r ≡ placesOf (used places) ⌝ }
+{
+    let mut p = places;
+    let mut k = 0;
+    while k < 3 {
+        p[k + 1] = place_after(p[k], p[k + 1]);
+        k += 1;
+    }
+    p
+}
+
+fn low_cell(x: u64) -> u16
+    ensures { λ r. ⌜ r ≡ x % 65536 ⌝ }
+{
+    (x % 65536) as u16
+}
+
+// The ten cells of a row.
+pub fn cells_of(f: RowFields) -> [u16; 10]
+    ensures { λ r. ⌜ r ≡ encodeRow (fieldsRow f) ⌝ }
+{
+    let places = f.places;
+    let p = settled(places);
+    let s = f.scalar;
+    let k = scalar::kind(s);
+    let x = scalar::payload(s);
+    let y = x / 65536;
+    let z = y / 65536;
+    let w = z / 65536;
+    [
+        f.symbol,
+        p[0],
+        p[1],
+        p[2],
+        p[3],
+        k,
+        low_cell(x),
+        low_cell(y),
+        low_cell(z),
+        low_cell(w),
+    ]
+}
+
+// Whether the places of row i are these, up to the first unused one.
+fn same_places(rows: &[u16], i: u16, places: [u16; 4]) -> bool
+    ensures { λ r. ⌜ r ≡ eqList (used places) ((rowIn (now (rows .entry)) i) .children) ⌝ }
+{
+    let mut k = 0;
+    while k < 4 {
+        let x = places[k];
+        let y = place(rows, Row(i), k as u16);
+        k += 1;
+        if x != y.0 {
+            return false;
+        }
+        if x == UNUSED {
+            return true;
+        }
+    }
+    true
+}
+
+// Whether row i equals the fields.
+pub fn same_row(rows: &[u16], i: Row, f: RowFields) -> bool
+    ensures { λ r. ⌜ r ≡ eqRow (fieldsRow f) (rowIn (now (rows .entry)) (i .0)) ⌝ }
+{
+    if f.symbol != symbol(rows, i) {
+        return false;
+    }
+    let s = f.scalar;
+    if !scalar::held(s, kind(rows, i), payload(rows, i)) {
+        return false;
+    }
+    let places = f.places;
+    same_places(rows, i.0, places)
+}
