@@ -63,7 +63,7 @@ fits-bare a k p h l =
     let g = true-and (eqb k 0) (eqb p 0) (rw (ne-eqb a 0 (λ e. omega arith)) at h) in
     (eqb-true k 0 (g .0), eqb-true p 0 (g .1))
 
-fits-scalar : (a k p : ℕ) → fits? a k p ≡ true → T (scalar? k p)
+pub fits-scalar : (a k p : ℕ) → fits? a k p ≡ true → T (scalar? k p)
 fits-scalar zero k p h = rw h tt
 fits-scalar (suc a) k p h = let g = fits-bare (suc a) k p h (omega arith) in rw (g .0, g .1) tt
 

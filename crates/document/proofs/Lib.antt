@@ -6,6 +6,7 @@ pub mod Places
 pub mod Children
 pub mod Equality
 pub mod Encoding
+pub mod Probing
 pub mod Encoded
 pub mod Putting
 pub mod Marking
@@ -14,4 +15,7 @@ pub mod Decoding
 pub mod Refusals
 pub mod Form
 pub mod Whole
+pub mod Entering
+pub mod Verdicts
 pub mod Sound
+pub mod Lent

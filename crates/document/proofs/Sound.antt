@@ -14,9 +14,12 @@ use Rattle.model.specs.Sound.{Sound}
 use Rattle.model.specs.Table.{Row, rowAt, scalar?, SoundTable}
 use Rattle.model.proofs.Members.{T-and, T-true}
 use Rattle.model.proofs.Rows.{in-getD}
+use Rattle.automaton.specs.Stored.{decode}
+use Rattle.automaton.specs.Check.{checkOf}
 use Rattle.automaton.proofs.Parts.{all-of}
+use Rattle.automaton.proofs.Sound.{sound-decode}
 use Rattle.document.specs.Rows.{rowCells, rowIn, decodeRows, encodeRows, Fits}
-use Rattle.document.specs.Check.{rowCount, placeIn, place?, child?, arityIn, fits?, formCheckOf, distinctCheckOf, usedCheckOf, levelsCheckOf, tableCheckOf}
+use Rattle.document.specs.Check.{rowCount, placeIn, place?, child?, arityIn, fits?, formCheckOf, distinctCheckOf, usedCheckOf, levelsCheckOf, tableCheckOf, documentCheckOf}
 use Rattle.document.proofs.Places.{rows-length}
 use Rattle.document.proofs.Scalars.{either}
 use Rattle.document.proofs.Refusals.{both-passed, both-pass}
@@ -127,3 +130,13 @@ module _ (A : Automaton) (rows : List Row) (sound : Sound A) (table : SoundTable
       (rw (decode-encode rows row-fits)
       (both-pass (distinctCheckOf rows) _ (distinct-passes rows (table .distinct))
       (both-pass (usedCheckOf rows) _ (used-passes rows (table .used)) (low-passes rows (table .low)))))
+
+-- A set and rows that the whole check does not turn away are a sound automaton and a sound table of it; and it lets those pass.
+pub sound-document : (set cells : List ℕ) → documentCheckOf set cells ≡ 0 → Sound (decode set) × SoundTable (decode set) (decodeRows cells)
+sound-document set cells h =
+    let (s, t) = both-passed (checkOf set) (tableCheckOf (decode set) cells) h in
+    let a = sound-decode set s in
+    (a, sound-table (decode set) cells (a .few-children) t)
+
+pub document-passes : (set : List ℕ) (rows : List Row) → checkOf set ≡ 0 → SoundTable (decode set) rows → documentCheckOf set (encodeRows rows) ≡ 0
+document-passes set rows s t = both-pass (checkOf set) (tableCheckOf (decode set) (encodeRows rows)) s (table-passes (decode set) rows (sound-decode set s) t)

@@ -22,7 +22,7 @@ use Rattle.document.specs.Check.{fresh?, anyBelow, uses?, used?, distinc
 use Rattle.document.proofs.Refusals.{passed, pass, true-and}
 
 -- the order of two numbers
-order : (i j : ℕ) → (i < j) ⊎ ((i ≡ j) ⊎ (j < i))
+pub order : (i j : ℕ) → (i < j) ⊎ ((i ≡ j) ⊎ (j < i))
 order i j = go (ltb i j) refl (ltb j i) refl
   where
     go : (a : Bool) → ltb i j ≡ a → (b : Bool) → ltb j i ≡ b → (i < j) ⊎ ((i ≡ j) ⊎ (j < i))
@@ -32,7 +32,7 @@ order i j = go (ltb i j) refl (ltb j i) refl
 
 module _ (rows : List Row) where
   -- an earlier row that equals row j makes row j fail
-  not-fresh : (i j : ℕ) → i < j → fresh? rows j ≡ true → rowAt rows j ≡ rowAt rows i → ⊥
+  pub not-fresh : (i j : ℕ) → i < j → fresh? rows j ≡ true → rowAt rows j ≡ rowAt rows i → ⊥
   unfolding fresh?
   not-fresh i j l h e =
       let f = not-true (eqRow (rowAt rows j) (rowAt rows i)) (at (λ i. not (eqRow (rowAt rows j) (rowAt rows i))) j i h l) in

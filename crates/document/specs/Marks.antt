@@ -3,10 +3,14 @@ use mathlib.Core.Path.{_≡_}
 use mathlib.Core.List.{List, [], _∷_}
 use mathlib.Core.Bool.{Bool, false, _||_}
 use Prim.Native.Nat.{ℕ, _/_, _<_, _≤_}
+use lib.Dec.{T}
 use lib.ListN.{length, getD}
 use Rattle.model.specs.Limits.{maxRows}
 use Rattle.model.specs.Lists.{larger}
-use Rattle.document.specs.Rows.{rowCells}
+use Rattle.model.specs.Table.{scalar?}
+use Rattle.model.specs.Build.{eqRow}
+use Rattle.document.specs.Rows.{rowCells, rowIn}
+use Rattle.document.specs.Index.{startSlot}
 use Rattle.document.specs.Check.{uses?}
 
 -- n is the number of rows, and 11 does not turn them away for it
@@ -14,6 +18,17 @@ pub record Counted (cells : List ℕ) (n : ℕ) : Type 0 where
   pub rows : n ≡ length cells / rowCells
   pub some : 0 < n
   pub few : n ≤ maxRows
+
+-- the kind and the payload of each row are a scalar
+abbrev pub AllScalars : List ℕ → ℕ → Type 0
+AllScalars cells n = (i : ℕ) → i < n → T (scalar? ((rowIn cells i) .kind) ((rowIn cells i) .payload))
+
+-- row i equals row j; and the slot where row j is looked for first
+abbrev pub sameAs : List ℕ → ℕ → ℕ → Bool
+sameAs cells j i = eqRow (rowIn cells j) (rowIn cells i)
+
+abbrev pub startOf : List ℕ → ℕ → ℕ
+startOf cells j = startSlot (rowIn cells j)
 
 -- after the children cs of row j are marked: what was marked, and those of them that are lower
 abbrev pub Marked : ℕ → List ℕ → List Bool → List Bool → Type 0

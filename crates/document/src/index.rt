@@ -1,0 +1,50 @@
+// The index of a table's rows: slots of open addressing, each empty or with a row's number and 1.
+use crate::fields::RowFields;
+use crate::fields::same_row;
+use crate::hash::row_hash;
+use crate::rows::Row;
+use crate::rows::size;
+ghost use mathlib.Core.Path.{_≡_};
+ghost use Prim.Native.Nat.{_%_};
+ghost use Rattle.model.specs.Build.{eqRow};
+ghost use Rattle.document.specs.Rows.{rowIn};
+ghost use Rattle.document.specs.Hash.{rowHash};
+ghost use Rattle.document.specs.Fields.{fieldsRow};
+ghost use Rattle.document.specs.Index.{probe};
+
+// Twice as many slots as a table has rows, so that a probe finds an empty one.
+pub const SLOTS: usize = 2048;
+
+// What a probe finds: an equal row, the empty slot where the row belongs, or neither.
+pub enum Probed {
+    Found(Row),
+    Free(usize),
+    Crowded,
+}
+
+// The slot where a row of these cells is looked for first.
+pub fn start_slot(cells: [u16; 10]) -> u16
+    ensures { λ r. ⌜ r ≡ rowHash cells % 2048 ⌝ }
+{
+    (row_hash(cells) % 2048) as u16
+}
+
+// Looks for a row that equals the fields, from slot start on.
+pub fn probe(rows: &[u16], slots: &[u16; 2048], start: u16, f: RowFields) -> Probed
+    ensures { λ r. ⌜ r ≡ probe (now (slots .entry)) (λ i. eqRow (fieldsRow f) (rowIn (now (rows .entry)) i)) start ⌝ }
+{
+    let mut d = 0;
+    while d < SLOTS {
+        let at = (size(start) + d) % SLOTS;
+        let held = slots[at];
+        d += 1;
+        if held == 0 {
+            return Probed::Free(at);
+        }
+        let i = Row(held - 1);
+        if same_row(rows, i, f) {
+            return Probed::Found(i);
+        }
+    }
+    Probed::Crowded
+}

@@ -1,0 +1,377 @@
+// The four tests of a table of lent rows: its form (11 to 14), equal rows (15), unused rows (16), its height (17).
+use crate::fields::cells_of;
+use crate::index::Probed;
+use crate::index::SLOTS;
+use crate::index::probe;
+use crate::index::start_slot;
+use crate::rows::MAX_CHILDREN;
+use crate::rows::ROW_CELLS;
+use crate::rows::Row;
+use crate::rows::UNUSED;
+use crate::rows::count;
+use crate::rows::fields_at;
+use crate::rows::kind;
+use crate::rows::payload;
+use crate::rows::place;
+use crate::rows::size;
+use crate::rows::symbol;
+use crate::scalar::Decoded;
+use crate::scalar::decode;
+use automaton::arity;
+use automaton::header;
+ghost use mathlib.Core.Path.{_≡_};
+ghost use mathlib.Core.Bool.{false};
+ghost use Prim.Native.Nat.{ℕ, _-_, _<_, _≤_};
+ghost use lib.Dec.{T};
+ghost use lib.ListN.{length, getD};
+ghost use Rattle.model.specs.Limits.{maxChildren, maxRows};
+ghost use Rattle.model.specs.Lists.{allBelow, larger};
+ghost use Rattle.model.specs.Tree.{levels};
+ghost use Rattle.model.specs.Table.{treeOf, scalar?, Lower};
+ghost use Rattle.automaton.specs.Stored.{decode};
+ghost use Rattle.automaton.specs.Check.{checkOf};
+ghost use Rattle.document.specs.Rows.{rowIn, decodeRows};
+ghost use Rattle.document.specs.Index.{probe};
+ghost use Rattle.document.specs.Check.{rowCount, counted?, known?, place?, child?, children?, fits?, scalarFits?, formCheckOf, fresh?, distinctCheckOf, used?, usedCheckOf, levelsCheckOf, tableCheckOf};
+ghost use Rattle.document.specs.Marks.{Counted, AllScalars, sameAs, startOf, Marked, highestOf};
+
+const MAX_ROWS: usize = 1024;
+
+const MAX_LEVELS: u16 = 256;
+
+// 11: 1 to 1,024 rows, none cut short.
+fn counted(rows: &[u16]) -> bool
+    ensures { λ r. ⌜ r ≡ counted? (now (rows .entry)) ⌝ }
+{
+    let n = count(rows);
+    (1 <= n) & ((n <= MAX_ROWS) & (rows.len() % ROW_CELLS == 0))
+}
+
+// 12 at row i.
+fn symbol_known(set: &[u8], rows: &[u16], i: u16) -> bool
+    ensures { λ r. ⌜ r ≡ known? (decode (now (set .entry))) (now (rows .entry)) i ⌝ }
+{
+    let h = header(set);
+    symbol(rows, Row(i)) < h.symbols
+}
+
+fn symbols_known(set: &[u8], rows: &[u16], n: u16) -> bool
+    requires { ⌜ n ≡ rowCount (now rows) ⌝ }
+    ensures { λ r. ⌜ r ≡ allBelow (rowCount (now (rows .entry))) (known? (decode (now (set .entry))) (now (rows .entry))) ⌝ }
+{
+    let mut i = 0;
+    while i < n {
+        if symbol_known(set, rows, i) {
+            i += 1;
+        } else {
+            return false;
+        }
+    }
+    true
+}
+
+fn place_fits(in_use: bool, i: u16, x: u16) -> bool
+    ensures { λ r. ⌜ r ≡ place? «in_use» i x ⌝ }
+{
+    if in_use { x < i } else { x == UNUSED }
+}
+
+fn child_fits(rows: &[u16], i: u16, arity: u16, k: u16) -> bool
+    ensures { λ r. ⌜ r ≡ child? (now (rows .entry)) i arity k ⌝ }
+{
+    let x = place(rows, Row(i), k);
+    place_fits(k < arity, i, x.0)
+}
+
+fn places_fit(rows: &[u16], i: u16, arity: u16) -> bool
+    ensures { λ r. ⌜ r ≡ allBelow maxChildren (child? (now (rows .entry)) i arity) ⌝ }
+{
+    let n = MAX_CHILDREN;
+    let mut k = 0;
+    while k < n {
+        if child_fits(rows, i, arity, k) {
+            k += 1;
+        } else {
+            return false;
+        }
+    }
+    true
+}
+
+// 13 at row i.
+fn children_fit(set: &[u8], rows: &[u16], i: u16) -> bool
+    ensures { λ r. ⌜ r ≡ children? (decode (now (set .entry))) (now (rows .entry)) i ⌝ }
+{
+    let a = arity(set, symbol(rows, Row(i)));
+    places_fit(rows, i, a)
+}
+
+fn all_children_fit(set: &[u8], rows: &[u16], n: u16) -> bool
+    requires { ⌜ n ≡ rowCount (now rows) ⌝ }
+    ensures { λ r. ⌜ r ≡ allBelow (rowCount (now (rows .entry))) (children? (decode (now (set .entry))) (now (rows .entry))) ⌝ }
+{
+    let mut i = 0;
+    while i < n {
+        if children_fit(set, rows, i) {
+            i += 1;
+        } else {
+            return false;
+        }
+    }
+    true
+}
+
+fn is_scalar(kind: u16, payload: u64) -> bool
+    ensures { λ r. ⌜ r ≡ scalar? kind payload ⌝ }
+{
+    match decode(kind, payload) {
+        Decoded::Is(_) => true,
+        Decoded::Not => false,
+    }
+}
+
+fn fits_arity(arity: u16, kind: u16, payload: u64) -> bool
+    ensures { λ r. ⌜ r ≡ fits? arity kind payload ⌝ }
+{
+    if arity == 0 {
+        return is_scalar(kind, payload);
+    }
+    (kind == 0) & (payload == 0)
+}
+
+// 14 at row i.
+fn scalar_fits(set: &[u8], rows: &[u16], i: u16) -> bool
+    ensures { λ r. ⌜ r ≡ scalarFits? (decode (now (set .entry))) (now (rows .entry)) i ⌝ }
+{
+    let a = arity(set, symbol(rows, Row(i)));
+    fits_arity(a, kind(rows, Row(i)), payload(rows, Row(i)))
+}
+
+fn all_scalars_fit(set: &[u8], rows: &[u16], n: u16) -> bool
+    requires { ⌜ n ≡ rowCount (now rows) ⌝ }
+    ensures { λ r. ⌜ r ≡ allBelow (rowCount (now (rows .entry))) (scalarFits? (decode (now (set .entry))) (now (rows .entry))) ⌝ }
+{
+    let mut i = 0;
+    while i < n {
+        if scalar_fits(set, rows, i) {
+            i += 1;
+        } else {
+            return false;
+        }
+    }
+    true
+}
+
+// 11 to 14, or 0: the form of the rows, each by itself.
+pub fn form(set: &[u8], rows: &[u16]) -> u16
+    ensures { λ r. ⌜ r ≡ formCheckOf (decode (now (set .entry))) (now (rows .entry)) ⌝ }
+{
+    if !counted(rows) {
+        return 11;
+    }
+    let n = count(rows) as u16;
+    if !symbols_known(set, rows, n) {
+        return 12;
+    }
+    if !all_children_fit(set, rows, n) {
+        return 13;
+    }
+    if !all_scalars_fit(set, rows, n) {
+        return 14;
+    }
+    0
+}
+
+// Looks for row j among the rows that the slots index.
+fn probe_row(rows: &[u16], slots: &[u16; SLOTS], j: u16) -> Probed
+    requires { ⌜ T (scalar? ((rowIn (now rows) j) .kind) ((rowIn (now rows) j) .payload)) ⌝ }
+    ensures { λ r. ⌜ r ≡ probe (now (slots .entry)) (sameAs (now (rows .entry)) j) (startOf (now (rows .entry)) j) ⌝ }
+{
+    let f = fields_at(rows, Row(j));
+    probe(rows, slots, start_slot(cells_of(f)), f)
+}
+
+// 15: each row is looked for among the earlier ones, then entered.
+fn all_distinct(rows: &[u16], n: u16) -> bool
+    requires { ⌜ Counted (now rows) n × AllScalars (now rows) n ⌝ }
+    ensures { λ r. ⌜ r ≡ allBelow (length (decodeRows (now (rows .entry)))) (fresh? (decodeRows (now (rows .entry)))) ⌝ }
+{
+    let mut slots = [0u16; SLOTS];
+    let mut j = 0;
+    while j < n {
+        let found = probe_row(rows, &slots, j);
+        j += 1;
+        match found {
+            Probed::Found(_) => return false,
+            Probed::Free(t) => slots[t] = j,
+            Probed::Crowded => return false,
+        }
+    }
+    true
+}
+
+// 15, or 0.
+pub fn distinct(rows: &[u16], n: u16) -> u16
+    requires { ⌜ Counted (now rows) n × AllScalars (now rows) n ⌝ }
+    ensures { λ r. ⌜ r ≡ distinctCheckOf (decodeRows (now (rows .entry))) ⌝ }
+{
+    if all_distinct(rows, n) { 0 } else { 15 }
+}
+
+// Marks each child of row j that is lower than it.
+fn mark(rows: &[u16], j: u16, used: &mut [bool])
+    requires { ⌜ j ≤ length (now used) ⌝ }
+    ensures { λ r. ⌜ Marked j ((rowIn (now (rows .entry)) j) .children) (now (used .entry)) (now (used .exit)) ⌝ }
+{
+    let n = MAX_CHILDREN;
+    let mut k = 0;
+    while k < n {
+        let c = place(rows, Row(j), k);
+        k += 1;
+        if c.0 == UNUSED {
+            return;
+        }
+        if c.0 < j {
+            used[size(c.0)] = true;
+        }
+    }
+}
+
+fn is_marked(used: &[bool], i: u16) -> bool
+    ensures { λ r. ⌜ r ≡ getD (now (used .entry)) i false ⌝ }
+{
+    let at = size(i);
+    if at < used.len() {
+        return used[at];
+    }
+    false
+}
+
+fn all_marked(used: &[bool], n: u16) -> bool
+    ensures { λ r. ⌜ r ≡ allBelow n (λ i. getD (now (used .entry)) i false) ⌝ }
+{
+    let mut i = 0;
+    while i < n {
+        if is_marked(used, i) {
+            i += 1;
+        } else {
+            return false;
+        }
+    }
+    true
+}
+
+// 16: one pass marks the children of every row, then every row but the last must be marked.
+fn all_used(rows: &[u16], n: u16) -> bool
+    requires { ⌜ Counted (now rows) n ⌝ }
+    ensures { λ r. ⌜ r ≡ allBelow (length (decodeRows (now (rows .entry))) - 1) (used? (decodeRows (now (rows .entry)))) ⌝ }
+{
+    let mut used = [false; MAX_ROWS];
+    let mut j = 0;
+    while j < n {
+        mark(rows, j, &mut used);
+        j += 1;
+    }
+    all_marked(&used, n - 1)
+}
+
+fn larger_of(a: u16, b: u16) -> u16
+    ensures { λ r. ⌜ r ≡ larger a b ⌝ }
+{
+    if a <= b {
+        return b;
+    }
+    a
+}
+
+fn height_at(heights: &[u16], c: u16) -> u16
+    ensures { λ r. ⌜ r ≡ getD (now (heights .entry)) c 0 ⌝ }
+{
+    let at = size(c);
+    if at < heights.len() {
+        return heights[at];
+    }
+    0
+}
+
+// The height of row i's highest child, 0 where it has none.
+fn highest_child(rows: &[u16], heights: &[u16], i: u16) -> u16
+    ensures { λ r. ⌜ r ≡ highestOf (now (heights .entry)) ((rowIn (now (rows .entry)) i) .children) ⌝ }
+{
+    let n = MAX_CHILDREN;
+    let mut k = 0;
+    let mut h = 0;
+    while k < n {
+        let c = place(rows, Row(i), k);
+        k += 1;
+        if c.0 == UNUSED {
+            return h;
+        }
+        h = larger_of(h, height_at(heights, c.0));
+    }
+    h
+}
+
+// The levels of the last row's tree: each row's height from those of its children, which are lower.
+fn levels_of(rows: &[u16], n: u16) -> u16
+    requires { ⌜ Counted (now rows) n × Lower (decodeRows (now rows)) ⌝ }
+    ensures { λ r. ⌜ r ≡ levels (treeOf (decodeRows (now (rows .entry)))) ⌝ }
+{
+    let mut heights = [0u16; MAX_ROWS];
+    let mut i = 0;
+    while i < n {
+        let h = highest_child(rows, &heights, i) + 1;
+        heights[size(i)] = h;
+        i += 1;
+    }
+    height_at(&heights, n - 1)
+}
+
+// 16, or 0.
+pub fn used(rows: &[u16], n: u16) -> u16
+    requires { ⌜ Counted (now rows) n ⌝ }
+    ensures { λ r. ⌜ r ≡ usedCheckOf (decodeRows (now (rows .entry))) ⌝ }
+{
+    if all_used(rows, n) { 0 } else { 16 }
+}
+
+// 17, or 0: heights need lower children only.
+pub fn low(rows: &[u16], n: u16) -> u16
+    requires { ⌜ Counted (now rows) n × Lower (decodeRows (now rows)) ⌝ }
+    ensures { λ r. ⌜ r ≡ levelsCheckOf (decodeRows (now (rows .entry))) ⌝ }
+{
+    if levels_of(rows, n) <= MAX_LEVELS {
+        0
+    } else {
+        17
+    }
+}
+
+// The rows of a table that passed 11.
+fn row_count(rows: &[u16]) -> u16
+    requires { ⌜ rowCount (now rows) ≤ maxRows ⌝ }
+    ensures { λ r. ⌜ r ≡ rowCount (now (rows .entry)) ⌝ }
+{
+    count(rows) as u16
+}
+
+// 11 to 17, or 0: each test over the whole table before the next.
+pub fn table(set: &[u8], rows: &[u16]) -> u16
+    requires { ⌜ checkOf (now set) ≡ 0 ⌝ }
+    ensures { λ r. ⌜ r ≡ tableCheckOf (decode (now (set .entry))) (now (rows .entry)) ⌝ }
+{
+    let f = form(set, rows);
+    if f != 0 {
+        return f;
+    }
+    let n = row_count(rows);
+    let d = distinct(rows, n);
+    if d != 0 {
+        return d;
+    }
+    let u = used(rows, n);
+    if u != 0 {
+        return u;
+    }
+    low(rows, n)
+}
