@@ -1,13 +1,13 @@
 -- What the set's and the table's check give to the tests of a run: the sound set and table, and the children of a known row. Assumes nothing.
-use mathlib.Core.Path.{_≡_, refl, sym, ap, _∙_}
-use mathlib.Core.Logic.{_⊎_, ⊎-elim}
+use mathlib.Core.Path.{_≡_, sym, ap, _∙_}
+use mathlib.Core.Logic.{⊎-elim}
 use mathlib.Core.List.{List}
 use Prim.Native.Nat.{ℕ, _<_, _≤_}
 use native.Mathlib.Omega.{arith}
 use borrow.Author.Tests.{le-ltb, eqb-true}
 use lib.ListN.{length, getD, List·getD-eq-default}
-use Rattle.model.specs.Limits.{maxChildren, maxRows, unused}
-use Rattle.model.specs.Lists.{tab, allBelow}
+use Rattle.model.specs.Limits.{maxChildren, unused}
+use Rattle.model.specs.Lists.{tab}
 use Rattle.model.specs.Sound.{Sound}
 use Rattle.model.specs.Table.{Row, rowAt, SoundTable}
 use Rattle.model.proofs.Tab.{tab-at, tab-past}
@@ -16,27 +16,23 @@ use Rattle.model.proofs.Rows.{in-getD}
 use Rattle.automaton.specs.Stored.{decode}
 use Rattle.automaton.specs.Check.{checkOf}
 use Rattle.automaton.proofs.Parts.{below-or}
-use Rattle.automaton.proofs.Sound.{sound-decode}
-use Rattle.document.specs.Rows.{rowIn, decodeRows}
+use Rattle.document.specs.Rows.{decodeRows}
 use Rattle.document.specs.Check.{rowCount, placeIn, child?, arityIn, formCheckOf, tableCheckOf, documentCheckOf}
 use Rattle.document.proofs.Places.{row-at, rows-length, place-past}
 use Rattle.document.proofs.Refusals.{both-passed}
 use Rattle.document.proofs.Form.{Formed, formed, children-are}
-use Rattle.document.proofs.Sound.{sound-table}
+use Rattle.document.proofs.Sound.{sound-document}
 
 module _ (set cells : List ℕ) (h : documentCheckOf set cells ≡ 0) where
   pub sound-set : Sound (decode set)
-  sound-set = sound-decode set (both-passed (checkOf set) (tableCheckOf (decode set) cells) h .0)
-
-  table-passed : tableCheckOf (decode set) cells ≡ 0
-  table-passed = both-passed (checkOf set) (tableCheckOf (decode set) cells) h .1
+  sound-set = sound-document set cells h .0
 
   pub sound-rows : SoundTable (decode set) (decodeRows cells)
-  sound-rows = sound-table (decode set) cells (sound-set .few-children) table-passed
+  sound-rows = sound-document set cells h .1
 
   form : Formed (decode set) cells
   unfolding tableCheckOf
-  form = formed (decode set) cells (both-passed (formCheckOf (decode set) cells) _ table-passed .0)
+  form = formed (decode set) cells (both-passed (formCheckOf (decode set) cells) _ (both-passed (checkOf set) (tableCheckOf (decode set) cells) h .1) .0)
 
   module _ (r : ℕ) (l : r < length (decodeRows cells)) where
     inside : r < rowCount cells

@@ -28,15 +28,15 @@ pub record Going (n mask row : ℕ) (before held : List ℕ) (k : ℕ) : Type 0 
   pub few : n ≤ tagPlaces
   pub long : length held ≡ tagPlaces
   pub inside : k ≤ n
-  pub went : (j : ℕ) → j < k → getD held j unused ≡ cond (bit? mask j) row (getD before j unused)
-  pub rest : (j : ℕ) → k ≤ j → getD held j unused ≡ getD before j unused
+  pub went : (j : ℕ) → j < k → getD held j 0 ≡ cond (bit? mask j) row (getD before j 0)
+  pub rest : (j : ℕ) → k ≤ j → getD held j 0 ≡ getD before j 0
 
 module _ (n mask row : ℕ) (before : List ℕ) where
   pub going-none : n ≤ tagPlaces → length before ≡ tagPlaces → Going n mask row before before 0
   going-none f e = record { few = f; long = e; inside = omega arith; went = λ j l. absurd (omega arith); rest = λ j l. refl }
 
   -- one tag more: the places are those before, with tag k's as asked
-  module _ (held held′ : List ℕ) (k : ℕ) (h : Going n mask row before held k) (l : k < n) (long : length held′ ≡ length held) (here : getD held′ k unused ≡ cond (bit? mask k) row (getD held k unused)) (other : (j : ℕ) → (j ≡ k → ⊥) → getD held′ j unused ≡ getD held j unused) where
+  module _ (held held′ : List ℕ) (k : ℕ) (h : Going n mask row before held k) (l : k < n) (long : length held′ ≡ length held) (here : getD held′ k 0 ≡ cond (bit? mask k) row (getD held k 0)) (other : (j : ℕ) → (j ≡ k → ⊥) → getD held′ j 0 ≡ getD held j 0) where
     going : Going n mask row before held′ (k + 1)
     going = record {
       few = h .few;
@@ -46,18 +46,18 @@ module _ (n mask row : ℕ) (before : List ℕ) where
       rest = λ j m. other j (λ e. omega arith) ∙ h .rest j (omega arith);
     }
       where
-        this : (j : ℕ) → j ≡ k → getD held′ j unused ≡ cond (bit? mask j) row (getD before j unused)
+        this : (j : ℕ) → j ≡ k → getD held′ j 0 ≡ cond (bit? mask j) row (getD before j 0)
         this j e = rw e (here ∙ ap (λ (x : ℕ). cond (bit? mask k) row x) (h .rest k (omega arith)))
 
   pub going-more : (held : List ℕ) (k a : ℕ) (r : Bool) → Going n mask row before held k → k < n → r ≡ bit? mask k → r ≡ true → a ≡ k → Going n mask row before (set held a row) (k + 1)
   going-more held k a r h l e t ea =
       rw ea (going held (set held k row) k h l (length-set held k row)
-      (getD-set-same held k row unused (rw (h .long) (omega (arith, h .few))) ∙ sym (ap (λ (b : Bool). cond b row (getD held k unused)) (sym e ∙ t)))
-      (λ j n. getD-set-other held k j row unused n))
+      (getD-set-same held k row 0 (rw (h .long) (omega (arith, h .few))) ∙ sym (ap (λ (b : Bool). cond b row (getD held k 0)) (sym e ∙ t)))
+      (λ j n. getD-set-other held k j row 0 n))
 
   pub going-on : (held : List ℕ) (k : ℕ) (r : Bool) → Going n mask row before held k → k < n → r ≡ bit? mask k → r ≡ false → Going n mask row before held (k + 1)
   going-on held k r h l e f =
-      going held held k h l refl (sym (ap (λ (b : Bool). cond b row (getD held k unused)) (sym e ∙ f))) (λ j n. refl)
+      going held held k h l refl (sym (ap (λ (b : Bool). cond b row (getD held k 0)) (sym e ∙ f))) (λ j n. refl)
 
   pub gone : (held : List ℕ) (k : ℕ) → Going n mask row before held k → n ≤ k → Gone n mask row before held
   gone held k h l j m = h .went j (omega arith)
@@ -111,8 +111,8 @@ module _ (A : Automaton) (run : List Step) where
     pub steps : n ≡ length run
     pub count : tags ≡ A .tags
     pub inside : i ≤ n
-    pub told : (k : ℕ) → k < tags → (j : ℕ) → j < i → has j k ≡ true → getD held k unused ≡ (stepAt run j) .row
-    pub from : (k : ℕ) → k < tags → (getD held k unused ≡ unused → ⊥) → (j : ℕ) × (j < i) × (has j k ≡ true) × ((stepAt run j) .row ≡ getD held k unused)
+    pub told : (k : ℕ) → k < tags → (j : ℕ) → j < i → has j k ≡ true → getD held k 0 ≡ (stepAt run j) .row
+    pub from : (k : ℕ) → k < tags → (getD held k 0 ≡ unused → ⊥) → (j : ℕ) × (j < i) × (has j k ≡ true) × ((stepAt run j) .row ≡ getD held k 0)
 
   module _ (n tags : ℕ) (t : Tagged A run n) where
     pub held-none : tags ≡ A .tags → Held n tags (replicate tagPlaces unused) 0
@@ -121,7 +121,7 @@ module _ (A : Automaton) (run : List Step) where
       count = e;
       inside = omega arith;
       told = λ k l j m. absurd (omega arith);
-      from = λ k l m. absurd (m (getD-replicate tagPlaces k unused unused (omega (arith, t .few))));
+      from = λ k l m. absurd (m (getD-replicate tagPlaces k unused 0 (omega (arith, t .few))));
     }
 
     -- step i goes to row r by the mask of its state
@@ -130,28 +130,28 @@ module _ (A : Automaton) (run : List Step) where
       has-bit k = ap (λ (m : ℕ). bit? m k) em
 
       module _ (held′ : List ℕ) (g : Gone tags mask r held held′) (f : (k : ℕ) → k < tags → mayGo? held mask r k ≡ true) where
-        name : (k : ℕ) → k < tags → (b : Bool) → bit? mask k ≡ b → getD held′ k unused ≡ cond b r (getD held k unused)
-        name k m b e = g k m ∙ ap (λ (a : Bool). cond a r (getD held k unused)) e
+        name : (k : ℕ) → k < tags → (b : Bool) → bit? mask k ≡ b → getD held′ k 0 ≡ cond b r (getD held k 0)
+        name k m b e = g k m ∙ ap (λ (a : Bool). cond a r (getD held k 0)) e
 
         -- an earlier step keeps its row
-        kept : (k : ℕ) → k < tags → (j : ℕ) → j < i → has j k ≡ true → (b : Bool) → bit? mask k ≡ b → getD held′ k unused ≡ (stepAt run j) .row
+        kept : (k : ℕ) → k < tags → (j : ℕ) → j < i → has j k ≡ true → (b : Bool) → bit? mask k ≡ b → getD held′ k 0 ≡ (stepAt run j) .row
         unfolding mayGo?
         kept k m j lj c true e =
             let x = h .told k m j lj c in
             ⊎-elim
             (λ u. let z = t .rows j (omega arith) in absurd (omega arith))
             (λ u. name k m true e ∙ sym u ∙ x)
-            (may (bit? mask k) (getD held k unused) r (f k m) e)
+            (may (bit? mask k) (getD held k 0) r (f k m) e)
         kept k m j lj c false e = name k m false e ∙ h .told k m j lj c
 
-        told-more : (k : ℕ) → k < tags → (j : ℕ) → j < i + 1 → has j k ≡ true → getD held′ k unused ≡ (stepAt run j) .row
+        told-more : (k : ℕ) → k < tags → (j : ℕ) → j < i + 1 → has j k ≡ true → getD held′ k 0 ≡ (stepAt run j) .row
         told-more k m j lj c =
             ⊎-elim
             (λ e. name k m true (has-bit k ∙ subst (λ (q : ℕ). has q k ≡ true) e c) ∙ er ∙ ap (λ (q : ℕ). (stepAt run q) .row) (sym e))
             (λ lj′. kept k m j lj′ c (bit? mask k) refl)
             (eq-or-lt-of-le (le-of-suc-le-suc (rw add-one at lj)))
 
-        from-more : (k : ℕ) → k < tags → (getD held′ k unused ≡ unused → ⊥) → (b : Bool) → bit? mask k ≡ b → (j : ℕ) × (j < i + 1) × (has j k ≡ true) × ((stepAt run j) .row ≡ getD held′ k unused)
+        from-more : (k : ℕ) → k < tags → (getD held′ k 0 ≡ unused → ⊥) → (b : Bool) → bit? mask k ≡ b → (j : ℕ) × (j < i + 1) × (has j k ≡ true) × ((stepAt run j) .row ≡ getD held′ k 0)
         from-more k m u true e = (i, omega arith, sym (has-bit k) ∙ e, sym er ∙ sym (name k m true e))
         from-more k m u false e =
             let (j, lj, c, ej) = h .from k m (λ q. u (name k m false e ∙ q)) in
@@ -173,7 +173,7 @@ module _ (A : Automaton) (run : List Step) where
       unfolding mayGo?
       two-rows a e y =
           let (k, m, q) = fails-at tags (mayGo? held mask r) (sym e ∙ y) in
-          let (b, u, d) = may-not (bit? mask k) (getD held k unused) r q in
+          let (b, u, d) = may-not (bit? mask k) (getD held k 0) r q in
           let (j, lj, c, ej) = h .from k m u in
           let s = h .steps in let w = h .count in
           let ji : sameRow? A run k i j ≡ false = on-two (has i k) (has j k) ((stepAt run i) .row) ((stepAt run j) .row) (sym (has-bit k) ∙ b) c (λ o. d (sym ej ∙ sym o ∙ sym er)) in

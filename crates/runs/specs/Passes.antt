@@ -44,11 +44,11 @@ pub record Tagged (A : Automaton) (run : List Step) (n : ℕ) : Type 0 where
 
 -- tag k, if the mask has it, may go to row i: its place names no row yet, or this one
 unfoldable pub mayGo? : List ℕ → ℕ → ℕ → ℕ → Bool
-mayGo? held mask i k = not (bit? mask k) || (eqb (getD held k unused) unused || eqb (getD held k unused) i)
+mayGo? held mask i k = not (bit? mask k) || (eqb (getD held k 0) unused || eqb (getD held k 0) i)
 
 -- after the tags below n that the mask has went to row i
 abbrev pub Gone : ℕ → ℕ → ℕ → List ℕ → List ℕ → Type 0
-Gone n mask i before after = (k : ℕ) → k < n → getD after k unused ≡ cond (bit? mask k) i (getD before k unused)
+Gone n mask i before after = (k : ℕ) → k < n → getD after k 0 ≡ cond (bit? mask k) i (getD before k 0)
 
 -- after the lower steps that step j uses are marked
 abbrev pub Marked : List Step → ℕ → List Bool → List Bool → Type 0

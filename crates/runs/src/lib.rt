@@ -13,29 +13,39 @@ use automaton::Checked;
 
 pub use steps::Step;
 
-// 21 to 26, or 0, where the set and the table are sound.
-fn refusal(set: &[u8], rows: &[u16], run: &[u16]) -> u16
+// The tests of the run, in their order, where the set and the table are sound.
+fn tried(set: &[u8], rows: &[u16], run: &[u16]) -> Checked
     requires { ⌜ documentCheckOf (now set) (now rows) ≡ 0 ⌝ }
-    ensures { λ r. ⌜ r ≡ runCheckOf (decode (now (set .entry))) (decodeRows (now (rows .entry))) (now (run .entry)) ⌝ }
+    ensures { λ r. ⌜ r ≡ checkedOf (runCheckOf (decode (now (set .entry))) (decodeRows (now (rows .entry))) (now (run .entry))) ⌝ }
 {
     if !tests::counted(run) {
-        return 21;
+        return Checked::Refused(21);
     }
     let n = steps::count(run) as u16;
     if !tests::all_known(set, rows, run, n) {
-        return 22;
+        return Checked::Refused(22);
     }
     if !tests::all_fit(set, rows, run, n) {
-        return 23;
+        return Checked::Refused(23);
     }
     if !tests::one_row(set, run, n) {
-        return 24;
+        return Checked::Refused(24);
     }
     if !tests::ends(set, rows, run, n) {
-        return 25;
+        return Checked::Refused(25);
     }
     if !tests::all_used(run, n) {
-        return 26;
+        return Checked::Refused(26);
     }
-    0
+    Checked::Sound
+}
+
+// Whether the run shows that the set lets the document in: the number that turns the set, the table or the run away, in this order.
+pub fn check(set: &[u8], rows: &[u16], run: &[u16]) -> Checked
+    ensures { λ r. ⌜ (refusalOf r ≡ checkRunOf (now (set .entry)) (now (rows .entry)) (now (run .entry))) × (r ≡ checkedOf (checkRunOf (now (set .entry)) (now (rows .entry)) (now (run .entry)))) ⌝ }
+{
+    match document::check(set, rows) {
+        Checked::Sound => tried(set, rows, run),
+        Checked::Refused(n) => Checked::Refused(n),
+    }
 }

@@ -75,20 +75,30 @@ pub fn target(set: &[u8], run: &[u16], i: Step) -> State
     rule_target(set, rule(run, i))
 }
 
-// Makes the step by value step i of the space; where it does not fit whole, nothing is written.
-pub fn put_step(out: &mut [u16], i: Step, f: StepFields)
-    ensures { λ r. ⌜ now (out .exit) ≡ putAt (now (out .entry)) (i .0 * stepCells) (fieldCells f) ⌝ }
+// Makes the cells step i of the space; where they do not fit whole, nothing is written.
+fn put_cells(out: &mut [u16], i: Step, cells: [u16; 6])
+    ensures { λ r. ⌜ now (out .exit) ≡ putAt (now (out .entry)) (i .0 * stepCells) cells ⌝ }
 {
     let at = size(i.0) * STEP_CELLS;
     if out.len() < at + STEP_CELLS {
         return;
     }
+    let mut k = 0;
+    while k < STEP_CELLS {
+        out[at + k] = cells[k];
+        k += 1;
+    }
+}
+
+// The same with a step by value.
+pub fn put_step(out: &mut [u16], i: Step, f: StepFields)
+    ensures { λ r. ⌜ now (out .exit) ≡ putAt (now (out .entry)) (i .0 * stepCells) (fieldCells f) ⌝ }
+{
     let row = f.row;
     let places = f.places;
-    out[at] = f.rule;
-    out[at + 1] = row.0;
-    out[at + 2] = places[0];
-    out[at + 3] = places[1];
-    out[at + 4] = places[2];
-    out[at + 5] = places[3];
+    put_cells(
+        out,
+        i,
+        [f.rule, row.0, places[0], places[1], places[2], places[3]],
+    );
 }

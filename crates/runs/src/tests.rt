@@ -1,5 +1,5 @@
 // The run check's tests 21 to 26, each over the whole run.
-use automaton::{State, header, is_final, rule_child, rule_symbol, tags_of};
+use automaton::{header, is_final, rule_child, rule_symbol, tags_of};
 use document::rows;
 use document::rows::{MAX_CHILDREN, Row, UNUSED, size};
 use crate::steps::{STEP_CELLS, Step, count, place, row, rule, target};
@@ -153,10 +153,11 @@ fn go(held: &mut [u16; TAG_PLACES], tags: u16, mask: u16, to: Row)
     let mut k = 0;
     while k < tags {
         let at = size(k);
-        if has_tag(mask, k) {
+        let has = has_tag(mask, k);
+        k += 1;
+        if has {
             held[at] = to.0;
         }
-        k += 1;
     }
 }
 
