@@ -1,7 +1,6 @@
 -- Encoding undoes decoding: bytes that pass the check are the stored form of what they stand for. Assumes nothing.
 use mathlib.Core.Path.{_≡_, refl, sym, ap, _∙_}
-use mathlib.Core.Bool.{Bool, true, false, cond}
-use mathlib.Core.Logic.{_⊎_, inl, inr, ⊎-elim}
+use mathlib.Core.Bool.{cond}
 use mathlib.Core.List.{List, [], _∷_, _++_}
 use Prim.Native.Nat.{ℕ, zero, suc, _+_, _*_, _%_, _≤_, _<_}
 use native.Mathlib.Nat.{add-zero, mod-eq-of-lt, le-of-eq, mul-le-mul-left}
@@ -11,7 +10,6 @@ use lib.ListN.{length, getD, take, drop}
 use lib.Seq.{take-add, take-all}
 use Rattle.model.specs.Limits.{maxChildren}
 use Rattle.model.specs.Lists.{concatMap, tab}
-use Rattle.model.specs.Automaton.{State}
 use Rattle.model.specs.Order.{place}
 use Rattle.automaton.specs.Form.{headerWidth, stateWidth, ruleWidth, statesOffset, rulesOffset, totalLength}
 use Rattle.automaton.specs.Stored.{word, symbolCount, stateCount, tagCount, ruleCount, symbolsAt, statesAt, rulesAt, symbolByte, stateByte, ruleWord, placeWord, stateOf, ruleOf, decode}

@@ -2,20 +2,19 @@
 use mathlib.Core.Path.{_≡_, refl, sym, ap, _∙_}
 use mathlib.Core.Bool.{Bool, true, false, cond}
 use mathlib.Core.List.{List}
-use Prim.Native.Nat.{ℕ, _+_, _≤_, _<_}
-use native.Mathlib.Omega.{arith}
+use Prim.Native.Nat.{ℕ, _≤_, _<_}
 use lib.Dec.{eqb, ltb}
 use lib.ListN.{length, getD}
 use borrow.Author.Needs.{needs}
 use borrow.Author.Tests.{ltb-true, ltb-false}
 use Rattle.model.specs.Limits.{maxChildren, unused}
 use Rattle.model.specs.Lists.{tab}
-use Rattle.model.specs.Automaton.{Rule, State, Automaton, noState, stateAt, arityOf, final?}
+use Rattle.model.specs.Automaton.{Rule, State, noState, stateAt, arityOf, final?}
 use Rattle.model.specs.Order.{place}
 use Rattle.model.specs.Written.{noRule, ruleAt}
 use Rattle.model.proofs.Tab.{tab-at, tab-past, length-tab}
 use Rattle.automaton.proofs.Parts.{tab-same}
-use Rattle.automaton.specs.Stored.{word, symbolCount, stateCount, tagCount, ruleCount, symbolByte, stateByte, ruleWord, placeWord, placeOf, stateOf, ruleOf, decode}
+use Rattle.automaton.specs.Stored.{symbolCount, stateCount, tagCount, ruleCount, symbolByte, stateByte, ruleWord, placeWord, placeOf, stateOf, ruleOf, decode}
 
 module _ (s : List ℕ) where
   pub symbols-are : length ((decode s) .arities) ≡ symbolCount s

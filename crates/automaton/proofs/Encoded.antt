@@ -1,13 +1,12 @@
 -- What stands where in the stored form of a sound automaton. Assumes nothing.
 use mathlib.Core.Path.{_≡_, refl, sym, ap, _∙_}
-use mathlib.Core.Bool.{Bool, true, false, cond}
+use mathlib.Core.Bool.{cond}
 use mathlib.Core.Logic.{⊎-elim}
-use mathlib.Core.List.{List, [], _∷_, _++_, List·Memᴰ as In}
-use Prim.Native.Nat.{ℕ, zero, suc, _+_, _*_, _^_, _/_, _%_, _≤_, _<_}
+use mathlib.Core.List.{List, _∷_, _++_, append-assoc, List·Memᴰ as In}
+use Prim.Native.Nat.{ℕ, zero, suc, _+_, _*_, _/_, _%_, _≤_, _<_}
 use native.Mathlib.Nat.{mod-eq-of-lt, add-assoc, lt-of-lt-of-le}
 use native.Mathlib.Numerals.{add-two}
 use native.Mathlib.Omega.{arith}
-use lib.Dec.{eqb}
 use lib.ListN.{length, getD, length-append, List·getD-append, List·getD-eq-default}
 use lib.Pow.{pow-mono}
 use lib.Seq.{getD-append-add}
@@ -19,13 +18,13 @@ use Rattle.model.specs.Sound.{Sound}
 use Rattle.model.specs.Written.{noRule, ruleAt}
 use Rattle.model.proofs.Rows.{in-getD}
 use Rattle.model.proofs.Tab.{tab-at, length-tab}
-use Rattle.automaton.specs.Form.{headerWidth, stateWidth, ruleWidth, statesOffset, rulesOffset, totalLength}
+use Rattle.automaton.specs.Form.{headerWidth, stateWidth, ruleWidth, statesOffset, rulesOffset}
 use Rattle.automaton.specs.Stored.{word, symbolCount, stateCount, tagCount, ruleCount, symbolsAt, statesAt, rulesAt, statedTotal, symbolByte, stateByte, ruleWord, placeWord}
-use Rattle.automaton.specs.Encode.{encodeByte, encodeWord, encodeHeader, encodeSymbol, encodeState, encodePlaces, encodeRule, encode, encodedLength}
+use Rattle.automaton.specs.Encode.{encodeHeader, encodeSymbol, encodeState, encodePlaces, encodeRule, encode, encodedLength}
 use Rattle.automaton.proofs.Parts.{below-or, length-concat, concat-at}
 use Rattle.automaton.proofs.Words.{length-words, low-at, high-at, word-back}
 
-abbrev header : Automaton → List ℕ
+abbrev pub header : Automaton → List ℕ
 header A = encodeHeader (length (A .arities)) (length (A .states)) (A .tags) (length (A .rules))
 
 abbrev pub encodeOf : State → List ℕ
@@ -64,6 +63,13 @@ module _ (A : Automaton) where
   encode-length =
       let h = states-end in let l = length-concat encodeRule ruleWidth rule-width (A .rules) in
       let a = length-append (header A ++ concatMap encodeSymbol (A .arities) ++ concatMap encodeOf (A .states)) (concatMap encodeRule (A .rules)) in omega arith
+
+  -- the stored form, part after part
+  pub encode-parts : encode A ≡ header A ++ (concatMap encodeSymbol (A .arities) ++ (concatMap encodeOf (A .states) ++ concatMap encodeRule (A .rules)))
+  unfolding encode
+  encode-parts =
+      append-assoc (header A ++ concatMap encodeSymbol (A .arities)) (concatMap encodeOf (A .states)) (concatMap encodeRule (A .rules))
+      ∙ append-assoc (header A) (concatMap encodeSymbol (A .arities)) (concatMap encodeOf (A .states) ++ concatMap encodeRule (A .rules))
 
   -- the byte of a symbol, a byte of a state, a byte of a rule, wherever the tables begin
   symbol-at : (i : ℕ) → i < length (A .arities) → getD (encode A) (headerWidth + i) 0 ≡ getD (A .arities) i 0 % 256

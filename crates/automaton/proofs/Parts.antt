@@ -1,15 +1,16 @@
 -- Lists put together of parts of one width, read by index; and tests at every index. Assumes nothing.
 use mathlib.Core.Path.{_≡_, refl, sym, ap, _∙_}
-use mathlib.Core.Bool.{Bool, true, false, _&&_}
+use mathlib.Core.Bool.{Bool, true, false}
 use mathlib.Core.Logic.{_⊎_, inl, inr}
 use mathlib.Core.List.{List, [], _∷_, _++_}
 use Prim.Native.Nat.{ℕ, zero, suc, _+_, _*_, _≤_, _<_}
-use native.Mathlib.Nat.{mul-suc, add-assoc, add-zero, mul-zero}
+use native.Mathlib.Nat.{mul-suc, mul-zero}
+use native.Mathlib.Numerals.{add-one}
 use native.Mathlib.Omega.{arith}
 use borrow.Author.Tests.{ltb-true, ltb-false}
 use lib.Dec.{ltb}
 use lib.ListN.{length, getD, take, drop, length-append, length-drop, List·getD-append}
-use lib.Seq.{getD-append-add, take-add, drop-drop, ext-getD, getD-take, getD-drop, length-take-le}
+use lib.Seq.{getD-append-add, take-add, drop-drop, ext-getD, getD-take, getD-drop, length-take-le, drop-cons}
 use Rattle.model.specs.Lists.{concatMap, tab, allBelow}
 use Rattle.model.proofs.Tab.{tab-at, length-tab}
 
@@ -78,3 +79,7 @@ part-tab w q s h =
     ext-getD 0 (take w (drop q s)) (tab w (λ b. getD s (q + b) 0)) (e ∙ sym (length-tab w (λ b. getD s (q + b) 0)))
     (λ i l. let m : i < w = rw e at l in
     getD-take w (drop q s) i 0 m ∙ getD-drop q s i 0 ∙ sym (tab-at 0 w (λ b. getD s (q + b) 0) i m))
+
+-- the parts from i on: part i, then those from i + 1 on
+pub concat-drop : {A : Type 0} (f : A → List ℕ) (d : A) (xs : List A) (i : ℕ) → i < length xs → concatMap f (drop i xs) ≡ f (getD xs i d) ++ concatMap f (drop (i + 1) xs)
+concat-drop f d xs i l = ap (concatMap f) (drop-cons xs i d l) ∙ ap (λ (n : ℕ). f (getD xs i d) ++ concatMap f (drop n xs)) (sym (add-one i))

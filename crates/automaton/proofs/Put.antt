@@ -1,7 +1,7 @@
 -- Bytes put into a lent space, part after part: what the front holds afterwards. Assumes nothing.
 use mathlib.Core.Path.{_≡_, refl, sym, ap, _∙_}
-use mathlib.Core.Bool.{Bool, true, false, cond}
-use mathlib.Core.List.{List, [], _∷_, _++_}
+use mathlib.Core.Bool.{Bool, true, false}
+use mathlib.Core.List.{List, [], _++_, append-assoc, append-nil}
 use Prim.Native.Nat.{ℕ, suc, _+_, _-_, _*_, _/_, _%_, _≤_, _<_}
 use native.Mathlib.Nat.{le-antisymm, le-of-eq}
 use native.Mathlib.Numerals.{add-one, add-one-le}
@@ -9,8 +9,8 @@ use native.Mathlib.Omega.{arith}
 use borrow.Author.Needs.{needs}
 use borrow.Author.Tests.{le-leb, lt-leb, leb-true, leb-false}
 use lib.Dec.{leb}
-use lib.ListN.{length, take, drop, getD, set, length-append, length-take, length-drop, length-set}
-use lib.Seq.{sets, sets-eq, take-at, drop-at, length-take-le, paste, paste-zero, paste-suc, take-all}
+use lib.ListN.{length, take, drop, getD, set, length-append, length-drop, length-set, take-append-drop}
+use lib.Seq.{sets, sets-eq, take-at, drop-at, length-take-le, paste, paste-zero, paste-suc, take-all, drop-drop}
 use Rattle.model.specs.Lists.{concatMap}
 use Rattle.automaton.specs.Encode.{encodeWord, putAt, placeAfter, Put}
 use Rattle.automaton.proofs.Words.{length-words, low-at, high-at}
@@ -54,8 +54,8 @@ module _ (out : List ℕ) (at : ℕ) (bytes : List ℕ) where
     pub put-back : drop (placeAfter out at bytes) (putAt out at bytes) ≡ drop (placeAfter out at bytes) out
     put-back = rw (put-fits, after-fits) (drop-at (take at out ++ bytes) (drop (at + length bytes) out) (at + length bytes) front)
 
-    put-length-fits : length (putAt out at bytes) ≡ length out
-    put-length-fits = rw put-fits (length-append (take at out ++ bytes) (drop (at + length bytes) out) ∙ (let e = front in let d = length-drop (at + length bytes) out in omega arith))
+    pub put-length : length (putAt out at bytes) ≡ length out
+    put-length = rw put-fits (length-append (take at out ++ bytes) (drop (at + length bytes) out) ∙ (let e = front in let d = length-drop (at + length bytes) out in omega arith))
 
     pub put-done : (n : ℕ) (out′ : List ℕ) → n ≡ length bytes → out′ ≡ take at out ++ bytes ++ drop (at + n) out → Put out at bytes out′ (at + n)
     put-done n out′ e h = record { space = rw (put-fits, ← e) h; place = rw (after-fits, e) }
@@ -106,3 +106,58 @@ module _ (d : List ℕ) (at : ℕ) (ws : List ℕ) (h : at + 2 * length ws ≤ l
       p .told ∙ ap (λ (k : ℕ). paste d at B (2 * k)) e ∙ ap (λ (b : List ℕ). take at d ++ b ++ drop (at + 2 * length ws) d) (take-all (2 * length ws) B (le-of-eq (length-words ws)))
 
 pub ruleset pastes = (pasted-none, pasted-more, pasted-all, needs)
+
+-- A whole written part after part: it is what the front holds and what is left to put; behind the front the space is as it was lent.
+pub record Writing (space whole out : List ℕ) (at : ℕ) (left : List ℕ) : Type 0 where
+  pub room : length whole ≤ length space
+  pub long : length out ≡ length space
+  pub inside : at ≤ length out
+  pub done : whole ≡ take at out ++ left
+  pub behind : drop at out ≡ drop at space
+
+module _ (space whole : List ℕ) where
+  pub writing-none : length whole ≤ length space → Writing space whole space 0 whole
+  writing-none h = record { room = h; long = refl; inside = omega arith; done = refl; behind = refl }
+
+  module _ (out out′ : List ℕ) (at at′ : ℕ) (bytes left : List ℕ) (w : Writing space whole out at (bytes ++ left)) (p : Put out at bytes out′ at′) where
+    -- what is put is a part of the whole, so it fits
+    fits-whole : at + length bytes ≤ length out
+    fits-whole =
+        let e = ap (λ (l : List ℕ). length l) (w .done) in
+        let a = length-append (take at out) (bytes ++ left) in
+        let b = length-append bytes left in
+        let t = length-take-le at out (w .inside) in
+        omega (arith, w .room, w .long)
+
+    pub writing-more : Writing space whole out′ at′ left
+    writing-more =
+        let h = fits-whole in
+        let r : at′ ≡ at + length bytes = p .place ∙ after-fits out at bytes h in
+        let n : length out′ ≡ length out = ap (λ (l : List ℕ). length l) (p .space) ∙ put-length out at bytes h in
+        let front : take at′ out′ ≡ take at out ++ bytes = rw (p .place, p .space) (put-front out at bytes h) in
+        let same : drop at′ out′ ≡ drop at′ out = rw (p .place, p .space) (put-back out at bytes h) in
+        let here : drop at′ out ≡ drop at′ space =
+        ap (λ (k : ℕ). drop k out) r ∙ sym (drop-drop (length bytes) at out) ∙ ap (λ (l : List ℕ). drop (length bytes) l) (w .behind) ∙ drop-drop (length bytes) at space ∙ ap (λ (k : ℕ). drop k space) (sym r) in
+        record {
+          room = w .room;
+          long = n ∙ w .long;
+          inside = omega arith;
+          done = w .done ∙ sym (append-assoc (take at out) bytes left) ∙ ap (λ (l : List ℕ). l ++ left) (sym front);
+          behind = same ∙ here;
+        }
+
+  module _ (out : List ℕ) (at : ℕ) (w : Writing space whole out at []) where
+    pub writing-length : at ≡ length whole
+    writing-length =
+        let e = ap (λ (l : List ℕ). length l) (w .done) in
+        let a = length-append (take at out) [] in
+        let t = length-take-le at out (w .inside) in
+        omega arith
+
+    -- At the end the space holds the whole, and behind it what it held.
+    pub writing-all : out ≡ whole ++ drop (length whole) space
+    writing-all =
+        let front : take at out ≡ whole = sym (w .done ∙ append-nil (take at out)) in
+        sym (take-append-drop at out) ∙ ap (λ (l : List ℕ). l ++ drop at out) front ∙ ap (λ (l : List ℕ). whole ++ l) (w .behind ∙ ap (λ (n : ℕ). drop n space) writing-length)
+
+pub ruleset writes = (writing-none, writing-more, writing-length, writing-all)

@@ -11,17 +11,17 @@ use lib.ListN.{length, getD}
 use borrow.Author.Tests.{lt-ltb, le-ltb, eq-eqb}
 use Rattle.model.specs.Limits.{maxChildren, unused}
 use Rattle.model.specs.Lists.{tab}
-use Rattle.model.specs.Automaton.{Rule, State, Automaton, noState, arityOf, stateAt}
+use Rattle.model.specs.Automaton.{Rule, Automaton, noState, arityOf, stateAt}
 use Rattle.model.specs.Order.{place, key, lower?, before?, Ascending}
 use Rattle.model.specs.Sound.{Sound}
 use Rattle.model.specs.Written.{noRule, ruleAt}
 use Rattle.model.proofs.Members.{T-true}
 use Rattle.model.proofs.Rows.{in-getD}
-use Rattle.automaton.specs.Stored.{symbolCount, stateCount, tagCount, ruleCount, symbolByte, stateByte, ruleWord, placeWord, aritiesOf, stateOf, ruleOf, decode}
-use Rattle.automaton.specs.Encode.{encode, encodedLength}
+use Rattle.automaton.specs.Stored.{symbolCount, stateCount, ruleCount, symbolByte, stateByte, ruleWord, placeWord, aritiesOf, stateOf, ruleOf, decode}
+use Rattle.automaton.specs.Encode.{encode}
 use Rattle.automaton.specs.Check.{placeOk, keyWord, ascendsAt, checkOf}
 use Rattle.automaton.proofs.Parts.{below-or, tab-same, tab-is}
-use Rattle.automaton.proofs.Passes.{Counted, Placed, Passes, passing}
+use Rattle.automaton.proofs.Passes.{Counted, Placed, passing}
 use Rattle.automaton.proofs.Encoded.{encode-length, symbol-count, state-count, tag-count, rule-count, symbols-place, states-place, rules-place, total-place, symbol-byte, final-byte, mask-byte, few-places, place-child, place-none, rule-symbol-word, rule-target-word, rule-place-word}
 
 one-bit : (b : Bool) → eqb (cond b 1 0) 1 ≡ b

@@ -1,26 +1,25 @@
 -- A set that no test turns away stands for a sound automaton. Assumes nothing.
-use mathlib.Core.Path.{_≡_, refl, sym, ap, _∙_, subst}
-use mathlib.Core.Bool.{Bool, true, false, _&&_, cond}
-use mathlib.Core.Logic.{_⊎_, inl, inr, ⊎-elim}
+use mathlib.Core.Path.{_≡_, sym, ap, _∙_, subst}
+use mathlib.Core.Bool.{true}
+use mathlib.Core.Logic.{⊎-elim}
 use mathlib.Core.List.{List, [], _∷_, _++_, List·Memᴰ as In}
-use Prim.Native.Nat.{ℕ, zero, suc, _+_, _^_, _≤_, _<_}
+use Prim.Native.Nat.{ℕ, zero, suc, _+_, _≤_, _<_}
 use native.Mathlib.Omega.{arith}
 use native.Mathlib.Numerals.{add-one}
-use lib.Dec.{T, eqb, ltb}
-use lib.ListN.{length, getD}
+use lib.Dec.{T}
 use lib.Pow.{pow-pos}
 use borrow.Author.Tests.{lt-ltb, le-ltb, ltb-true, eqb-true}
 use Rattle.model.specs.Limits.{maxChildren, unused}
 use Rattle.model.specs.Lists.{tab}
-use Rattle.model.specs.Automaton.{Rule, State, Automaton, Wellformed, arityOf, stateAt}
+use Rattle.model.specs.Automaton.{Rule, Wellformed, arityOf}
 use Rattle.model.specs.Order.{place, key, lower?, before?, Ascending}
 use Rattle.model.specs.Sound.{Sound}
 use Rattle.model.proofs.Members.{T-true}
 use Rattle.model.proofs.Tab.{tab-at, tab-past, length-tab, in-tab}
-use Rattle.automaton.specs.Stored.{symbolCount, stateCount, tagCount, ruleCount, symbolByte, stateByte, ruleWord, placeWord, aritiesOf, stateOf, ruleOf, decode}
+use Rattle.automaton.specs.Stored.{symbolCount, stateCount, tagCount, ruleCount, symbolByte, ruleWord, placeWord, ruleOf, decode}
 use Rattle.automaton.specs.Check.{placeOk, keyWord, ascendsAt, checkOf}
 use Rattle.automaton.proofs.Parts.{below-or, tab-same}
-use Rattle.automaton.proofs.Decode.{symbols-are, states-are, tags-are, rules-are, arity-known, arity-unknown, state-known, state-unknown, rule-known}
+use Rattle.automaton.proofs.Decode.{symbols-are, states-are, rules-are, arity-known, arity-unknown, state-known, state-unknown}
 use Rattle.automaton.proofs.Passes.{Passes, passes}
 
 pub ascending-tab : (n : ℕ) (f : ℕ → Rule) → ((i : ℕ) → suc i < n → T (before? (f i) (f (suc i)))) → Ascending (tab n f)

@@ -5,15 +5,13 @@ use mathlib.Core.List.{List}
 use Prim.Native.Nat.{ℕ, zero, suc, _≤_, _<_}
 use native.Mathlib.Omega.{arith}
 use lib.Dec.{leb}
-use lib.ListN.{length}
 use borrow.Author.Tests.{le-leb, lt-leb, not-true, not-false}
 use Rattle.model.specs.Refusal.{demand, andAfter}
 use Rattle.automaton.specs.declared.Checked.{Checked}
 use Rattle.automaton.specs.declared.Checked.the-variants.{Sound, Refused}
-use Rattle.automaton.specs.Form.{headerWidth}
 use Rattle.automaton.specs.Stored.{tagCount}
 use Rattle.automaton.specs.Check.{countsOk}
-use Rattle.automaton.specs.Answer.{refusalOf, checkedOf}
+use Rattle.automaton.specs.Answer.{checkedOf}
 use Rattle.automaton.proofs.Passes.{counted}
 
 -- a flag f of the test t: the demand passes, and the rest decides; or it stops

@@ -1,11 +1,10 @@
 -- Numbers as bytes: what stands where in a list of encoded words, and a word read back. Assumes nothing.
 use mathlib.Core.Path.{_≡_, refl, sym, ap, _∙_}
 use mathlib.Core.List.{List, [], _∷_, _++_}
-use Prim.Native.Nat.{ℕ, zero, suc, _+_, _*_, _/_, _%_, _<_, _≤_}
+use Prim.Native.Nat.{ℕ, zero, suc, _+_, _*_, _/_, _%_, _<_}
 use native.Mathlib.Nat.{zero-add, mod-eq-of-lt, div-eq-of-lt, add-mul-mod-self-left, add-mul-div-left}
 use native.Mathlib.Omega.{arith}
-use native.Mathlib.Numerals.{add-one}
-use lib.ListN.{length, getD, length-append}
+use lib.ListN.{length, getD}
 use Rattle.model.specs.Lists.{concatMap, tab}
 use Rattle.automaton.proofs.Parts.{tab-of}
 use Rattle.automaton.specs.Form.{headerWidth, statesOffset, rulesOffset, totalLength}

@@ -5,7 +5,7 @@ use Prim.Native.Nat.{ℕ, zero, suc}
 use lib.ListN.{length}
 use Rattle.model.specs.Limits.{maxChildren}
 use Rattle.model.specs.Lists.{tab}
-use Rattle.model.specs.Automaton.{Rule, Automaton}
+use Rattle.model.specs.Automaton.{Rule}
 use Rattle.model.specs.Order.{place}
 use Rattle.automaton.specs.Stored.{decode, statedTotal}
 use Rattle.automaton.specs.declared.Checked.{Checked}

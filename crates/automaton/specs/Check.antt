@@ -1,7 +1,7 @@
 -- Which number turns stored bytes away (document 01, section "Turned away, by place", place "set"); 0 for none. Assumes nothing.
-use mathlib.Core.List.{List, [], _∷_, map}
+use mathlib.Core.List.{List}
 use mathlib.Core.Bool.{Bool, _&&_, cond}
-use Prim.Native.Nat.{ℕ, suc, _+_, _-_, _^_}
+use Prim.Native.Nat.{ℕ, _+_, _-_, _^_}
 use lib.Dec.{leb, ltb, eqb}
 use lib.ListN.{length}
 use Rattle.model.specs.Limits.{maxSymbols, maxChildren, maxStates, maxTags, maxRules, unused}
@@ -43,17 +43,19 @@ unfoldable pub placeOk : List ℕ → ℕ → ℕ → Bool
 placeOk s i k =
     cond (ltb k (symbolByte s (ruleWord s i 0))) (ltb (placeWord s i k) (stateCount s)) (eqb (placeWord s i k) unused)
 
+-- and rule i has a symbol and a target that the set has
 unfoldable pub ruleOk : List ℕ → ℕ → Bool
 ruleOk s i = ltb (ruleWord s i 0) (symbolCount s) && ltb (ruleWord s i 1) (stateCount s) && allBelow maxChildren (placeOk s i)
 
--- 7: rule i stands before the next, by symbol, child places left to right, target
+-- what rules are sorted by, number k: the symbol, the child places left to right, the target
 unfoldable pub keyWord : List ℕ → ℕ → ℕ → ℕ
 keyWord s i k = cond (eqb k 0) (ruleWord s i 0) (cond (leb k maxChildren) (placeWord s i (k - 1)) (ruleWord s i 1))
 
+-- 7: rule i stands before the next
 unfoldable pub ascendsAt : List ℕ → ℕ → Bool
 ascendsAt s i = lower? (tab (maxChildren + 2) (keyWord s i)) (tab (maxChildren + 2) (keyWord s (i + 1)))
 
--- The number: each test over the whole input before the next.
+-- The number, each test over the whole input before the next; 1 is fewer bytes than a header has.
 unfoldable pub checkOf : List ℕ → ℕ
 checkOf s =
     demand (leb headerWidth (length s)) 1

@@ -1,13 +1,13 @@
 -- The stored form of an automaton, and bytes put into a lent space (document 01, section "Sets"). Assumes nothing.
 use mathlib.Core.Path.{_≡_}
 use mathlib.Core.List.{List, [], _∷_, _++_}
-use mathlib.Core.Bool.{Bool, true, false, cond}
+use mathlib.Core.Bool.{Bool, cond}
 use Prim.Native.Nat.{ℕ, _+_, _/_, _%_}
 use lib.Dec.{leb}
 use lib.ListN.{length, take, drop}
 use Rattle.model.specs.Limits.{maxChildren}
 use Rattle.model.specs.Lists.{concatMap, tab}
-use Rattle.model.specs.Automaton.{Rule, State, Automaton}
+use Rattle.model.specs.Automaton.{Rule, Automaton}
 use Rattle.model.specs.Order.{place}
 use Rattle.automaton.specs.Form.{headerWidth, statesOffset, rulesOffset, totalLength}
 
@@ -32,10 +32,11 @@ encodeSymbol arity = encodeByte arity
 unfoldable pub encodeState : Bool → ℕ → List ℕ
 encodeState final mask = cond final 1 0 ∷ encodeByte mask
 
--- a rule: its symbol, its target, its child places
+-- a rule with these child places: its symbol, its target, the places
 unfoldable pub encodePlaces : ℕ → ℕ → List ℕ → List ℕ
 encodePlaces symbol target places = concatMap encodeWord (symbol ∷ target ∷ places)
 
+-- the same of a rule
 abbrev pub encodeRule : Rule → List ℕ
 encodeRule r = encodePlaces (r .symbol) (r .target) (tab maxChildren (place r))
 
@@ -47,6 +48,7 @@ encode A =
     ++ concatMap (λ q. encodeState (q .final) (q .mask)) (A .states)
     ++ concatMap encodeRule (A .rules)
 
+-- how many bytes that is
 abbrev pub encodedLength : Automaton → ℕ
 encodedLength A = totalLength (length (A .arities)) (length (A .states)) (length (A .rules))
 

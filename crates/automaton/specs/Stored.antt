@@ -56,6 +56,7 @@ placeWord s i k = ruleWord s i (k + 2)
 unfoldable pub placeOf : List ℕ → ℕ → ℕ → ℕ → ℕ
 placeOf s i n k = cond (ltb k n) (placeWord s i k) unused
 
+-- the number of children of each symbol
 abbrev pub aritiesOf : List ℕ → List ℕ
 aritiesOf s = tab (symbolCount s) (symbolByte s)
 

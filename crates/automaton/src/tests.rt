@@ -1,10 +1,9 @@
 // The check's tests 2 to 7, each over the whole input.
 ghost use mathlib.Core.Path.{_≡_};
-ghost use Prim.Native.Nat.{_+_, _-_, _^_, _<_, _≤_};
+ghost use Prim.Native.Nat.{_+_, _-_, _^_, _<_};
 ghost use lib.Dec.{eqb};
 ghost use Rattle.model.specs.Limits.{maxChildren};
 ghost use Rattle.model.specs.Lists.{allBelow};
-ghost use Rattle.automaton.specs.Form.{statesOffset, rulesOffset, totalLength};
 ghost use Rattle.automaton.specs.Stored.{word, symbolCount, stateCount, tagCount, ruleCount};
 ghost use Rattle.automaton.specs.Check.{countsOk, offsetsOk, symbolOk, stateOk, placeOk, ruleOk, keyWord, ascendsAt};
 use super::HEADER_WIDTH;

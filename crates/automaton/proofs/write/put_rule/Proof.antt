@@ -1,6 +1,5 @@
 -- `automaton::write::put_rule` meets its contract: a rule is its numbers in their order. Assumes nothing.
 use Rattle.model.specs.Limits.{maxChildren}
-use native.Mathlib.Omega.{arith}
 use Rattle.automaton.proofs.Words.{rule-words}
 use borrow.Author.Needs.{needs}
 use Rattle.automaton.proofs.write.put_rule.Statement.{statement}

@@ -1,7 +1,6 @@
 -- `automaton::write::put_words` meets its contract: numbers that fit are pasted. Assumes nothing.
-use Prim.Native.Nat.{_+_, _*_, _≤_, _<_}
+use Prim.Native.Nat.{_+_, _*_, _≤_}
 use lib.ListN.{length}
-use native.Mathlib.Omega.{arith}
 use mathlib.Core.Path.{sym}
 use Rattle.model.specs.Lists.{concatMap}
 use Rattle.automaton.specs.Encode.{encodeWord}

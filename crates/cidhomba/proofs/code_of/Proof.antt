@@ -1,0 +1,18 @@
+-- `cidhomba::code_of` meets its contract: a refusal's number is added to the highest bit. Assumes nothing.
+use mathlib.Core.Path.{ap}
+use native.Mathlib.Omega.{arith}
+use borrow.Author.Needs.{needs}
+use Rattle.cidhomba.specs.Code.{checkCode}
+use Rattle.cidhomba.proofs.code_of.Statement.{statement}
+use Rattle.cidhomba.proofs.code_of.Tie as tie
+
+pub code-of-spec : {M : Type 1} → statement M
+code-of-spec =
+    tie.close
+    (tie.spec
+    (λ c. search needs)
+    (λ c. search needs)
+    (λ c. search needs)
+    (λ c. search needs)
+    (λ c. search needs)
+    (λ c. omega (arith, ap checkCode (c .before .c .given .1))))

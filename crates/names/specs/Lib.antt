@@ -1,0 +1,5 @@
+pub mod Lines
+pub mod Names
+pub mod Places
+pub mod Table
+pub mod Check

@@ -1,0 +1,33 @@
+-- A table of the names shown, in cells of one width: a name's length, then its bytes. Assumes nothing.
+use mathlib.Core.List.{List, _∷_, _++_}
+use mathlib.Core.Bool.{cond}
+use Prim.Native.Nat.{ℕ, zero, suc, _+_, _*_}
+use lib.Dec.{leb}
+use lib.ListN.{length, getD, take, drop}
+use Rattle.model.specs.Limits.{maxSymbols}
+use Rattle.names.specs.Names.{maxName, shownName}
+
+-- a list with these bytes at a place, where they fit; else as it was
+unfoldable pub putAt : List ℕ → ℕ → List ℕ → List ℕ
+putAt d at bytes = cond (leb (at + length bytes) (length d)) (take at d ++ bytes ++ drop (at + length bytes) d) d
+
+-- a cell's bytes
+abbrev pub cellBytes : ℕ
+cellBytes = 17
+
+-- what a cell holds of a name: the length and the bytes, as far as a name may go
+abbrev pub cellOf : List ℕ → List ℕ
+cellOf l = length (take maxName l) ∷ take maxName l
+
+-- the name in cell i
+unfoldable pub nameIn : List ℕ → ℕ → List ℕ
+nameIn t i = take (getD t (i * cellBytes) 0) (drop (i * cellBytes + 1) t)
+
+-- a space with the first n names shown in its cells
+unfoldable pub withNames : ℕ → List ℕ → List ℕ → List ℕ → List ℕ
+withNames zero site builtIn t = t
+withNames (suc i) site builtIn t = putAt (withNames i site builtIn t) (i * cellBytes) (cellOf (shownName site builtIn i))
+
+-- the whole table
+abbrev pub tableOf : List ℕ → List ℕ → List ℕ → List ℕ
+tableOf = withNames maxSymbols

@@ -1,0 +1,155 @@
+use crate::bytes::is_digit;
+use crate::bytes::is_letter;
+ghost use mathlib.Core.Path.{_≡_};
+ghost use Prim.Native.Nat.{ℕ, _+_, _≤_, min};
+ghost use lib.ListN.{length, getD};
+ghost use Rattle.model.specs.Lists.{allBelow};
+ghost use Rattle.names.specs.Places.{Ended, Starts, NamedFrom};
+ghost use Rattle.names.specs.Names.{nameByte?, name?, nameOf};
+ghost use Rattle.names.specs.Check.{lineFits?, listFits?};
+
+// The most lines of a list: as many as a set has symbols.
+pub const MAX_LINES: usize = 64;
+
+// The most bytes of a name.
+pub const MAX_NAME: usize = 16;
+
+// Where the line that starts at place `a` ends.
+fn line_end(s: &[u8], a: usize) -> usize
+    requires { ⌜ a ≤ length (now s) ⌝ }
+    ensures { λ r. ⌜ Ended (now (s .entry)) a r ⌝ }
+{
+    let mut i = a;
+    while i < s.len() {
+        if s[i] == 10 {
+            return i;
+        }
+        i += 1;
+    }
+    i
+}
+
+// Behind a line's end; the list's end where no line follows.
+fn after(s: &[u8], e: usize) -> usize
+    ensures { λ r. ⌜ r ≡ min (e + 1) (length (now (s .entry))) ⌝ }
+{
+    if e < s.len() { e + 1 } else { s.len() }
+}
+
+// Where the line after the one at place `a` starts.
+pub(crate) fn next_line(s: &[u8], a: usize) -> usize
+    requires { ⌜ a ≤ length (now s) ⌝ }
+    ensures inside { λ r. ⌜ r ≤ length (now (s .entry)) ⌝ }
+    ensures next { λ r. ⌜ ((i : ℕ) → Starts (now (s .entry)) i a → Starts (now (s .entry)) (i + 1) r) ⌝ }
+{
+    let e = line_end(s, a);
+    after(s, e)
+}
+
+// Where line `i` starts; the list's end where there is none.
+fn line_start(s: &[u8], i: usize) -> usize
+    ensures { λ r. ⌜ Starts (now (s .entry)) i r ⌝ }
+{
+    let mut a = 0;
+    let mut k = 0;
+    while k < i {
+        if a >= s.len() {
+            return a;
+        }
+        a = next_line(s, a);
+        k += 1;
+    }
+    a
+}
+
+// Whether a byte may stand in a name.
+fn in_name(b: u8) -> bool
+    ensures { λ r. ⌜ r ≡ nameByte? b ⌝ }
+{
+    is_letter(b) | is_digit(b)
+}
+
+// Whether each byte may stand in a name.
+fn all_in_name(s: &[u8]) -> bool
+    ensures { λ r. ⌜ r ≡ allBelow (length (now (s .entry))) (λ k. nameByte? (getD (now (s .entry)) k 0)) ⌝ }
+{
+    let n = s.len();
+    let mut i = 0;
+    while i < n {
+        if in_name(s[i]) {
+            i += 1;
+        } else {
+            return false;
+        }
+    }
+    true
+}
+
+// Whether some bytes are a name.
+pub fn is_name(s: &[u8]) -> bool
+    ensures { λ r. ⌜ r ≡ name? (now (s .entry)) ⌝ }
+{
+    if s.len() == 0 {
+        return false;
+    }
+    if s.len() > MAX_NAME {
+        return false;
+    }
+    if is_letter(s[0]) {
+        return all_in_name(s);
+    }
+    false
+}
+
+// Whether a line is empty or a name.
+fn line_fits(s: &[u8]) -> bool
+    ensures { λ r. ⌜ r ≡ lineFits? (now (s .entry)) ⌝ }
+{
+    if s.len() == 0 {
+        return true;
+    }
+    is_name(s)
+}
+
+// Whether a list has at most 64 lines, each empty or a name.
+pub fn list_fits(s: &[u8]) -> bool
+    ensures { λ r. ⌜ r ≡ listFits? (now (s .entry)) ⌝ }
+{
+    let mut a = 0;
+    let mut k = 0;
+    while a < s.len() {
+        if k == MAX_LINES {
+            return false;
+        }
+        let e = line_end(s, a);
+        if line_fits(&s[a..e]) {
+            a = after(s, e);
+            k += 1;
+        } else {
+            return false;
+        }
+    }
+    true
+}
+
+// The line at place `a` of the site's list, else the one at place `b` of the built-in list.
+pub(crate) fn name_from<'a>(site: &'a [u8], built_in: &'a [u8], a: usize, b: usize) -> &'a [u8]
+    requires { ⌜ (a ≤ length (now site)) × (b ≤ length (now «built_in»)) ⌝ }
+    ensures { λ r. ⌜ NamedFrom (now (site .entry)) (now («built_in» .entry)) a b (now r) ⌝ }
+{
+    let e = line_end(site, a);
+    if a < e {
+        return &site[a..e];
+    }
+    let f = line_end(built_in, b);
+    &built_in[b..f]
+}
+
+// The name that the lists have for symbol `i`: the part of the site's list, else of the built-in list; empty where neither has one.
+pub fn name<'a>(site: &'a [u8], built_in: &'a [u8], i: usize) -> &'a [u8]
+    ensures { λ r. ⌜ now r ≡ nameOf (now (site .entry)) (now («built_in» .entry)) i ⌝ }
+{
+    let a = line_start(site, i);
+    let b = line_start(built_in, i);
+    name_from(site, built_in, a, b)
+}
