@@ -112,12 +112,13 @@ module _ (A : Automaton) (rows : List Row) (cells : List ℕ) where
       step-fits : T (stepFits? A rows run i)
       step-fits =
           let one-each : length ((stepAt run i) .steps) ≡ length (kids i) = ap length steps-are ∙ length-tab (length (kids i)) (placeIn cells i) in
-          and-T _ _ (T-true (eqb ((ruleOf A run i) .symbol) ((rowOf rows run i) .symbol)) .1 (symbols .0))
-          (and-T _ _ (T-true (eqb (length ((ruleOf A run i) .children)) (length (kids i))) .1 (eq-eqb _ _ as-many))
-          (and-T _ _ (T-true (eqb (length ((stepAt run i) .steps)) (length (kids i))) .1 (eq-eqb _ _ one-each))
-          (all-of (length (kids i)) (childFits? A rows run i)
-          (λ k m. T-true (childFits? A rows run i k) .1
-          (child-same i k m as-many (ap (λ (xs : List ℕ). getD xs k 0) steps-are ∙ tab-at 0 (length (kids i)) (placeIn cells i) k m) ∙ child-true k m)))))
+          let same : eqb ((ruleOf A run i) .symbol) ((rowOf rows run i) .symbol) ≡ true = symbols .0 in
+          let rule : eqb (length ((ruleOf A run i) .children)) (length (kids i)) ≡ true = eq-eqb (length ((ruleOf A run i) .children)) (length (kids i)) as-many in
+          let steps : eqb (length ((stepAt run i) .steps)) (length (kids i)) ≡ true = eq-eqb (length ((stepAt run i) .steps)) (length (kids i)) one-each in
+          let each : allBelow (length (kids i)) (childFits? A rows run i) ≡ true =
+          all-true (length (kids i)) (childFits? A rows run i)
+          (λ k m. child-same i k m as-many (ap (λ (xs : List ℕ). getD xs k 0) steps-are ∙ tab-at 0 (length (kids i)) (placeIn cells i) k m) ∙ child-true k m) in
+          T-true (stepFits? A rows run i) .1 (λ z. same z && (rule z && (steps z && each z)))
 
     -- What the run check does not turn away is a written run.
     pub written-run : runCheckOf A rows cells ≡ 0 → WrittenRun A rows (decodeSteps cells)
@@ -221,9 +222,9 @@ module _ (A : Automaton) (rows : List Row) (sound : Sound A) (table : SoundTable
   counted-encoded =
       let n = ap length back in
       let e = length-encode run in
-      let some : leb 1 (length (decodeSteps (encodeSteps run))) ≡ true = le-leb _ _ (omega (arith, w .some-step)) in
-      let most : leb (length (decodeSteps (encodeSteps run))) maxSteps ≡ true = le-leb _ _ (omega arith) in
-      let whole : eqb (length (encodeSteps run) % stepCells) 0 ≡ true = eq-eqb _ _ (omega arith) in
+      let some : leb 1 (length (decodeSteps (encodeSteps run))) ≡ true = le-leb 1 (length (decodeSteps (encodeSteps run))) (omega (arith, w .some-step)) in
+      let most : leb (length (decodeSteps (encodeSteps run))) maxSteps ≡ true = le-leb (length (decodeSteps (encodeSteps run))) maxSteps (omega arith) in
+      let whole : eqb (length (encodeSteps run) % stepCells) 0 ≡ true = eq-eqb (length (encodeSteps run) % stepCells) 0 (omega arith) in
       λ z. some z && (most z && whole z)
 
   -- Every written run of at most 4,096 steps, on a sound table of a sound set, passes the run check.

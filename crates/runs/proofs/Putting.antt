@@ -1,5 +1,5 @@
 -- Cells put into a space, one after the other. Assumes nothing.
-use mathlib.Core.Path.{_≡_, sym, ap, _∙_}
+use mathlib.Core.Path.{_≡_, refl, sym, ap, _∙_}
 use mathlib.Core.List.{List, [], _∷_, _++_}
 use Prim.Native.Nat.{ℕ, _+_, _*_, _<_, _≤_}
 use native.Mathlib.Numerals.{add-one}
@@ -11,7 +11,6 @@ use lib.Seq.{paste, paste-zero, paste-suc, take-all}
 use Rattle.model.specs.Lists.{tab}
 use Rattle.automaton.specs.Encode.{putAt}
 use Rattle.automaton.proofs.Parts.{tab-of}
-use Rattle.runs.specs.Steps.{stepCells}
 
 module _ (out cells : List ℕ) (at : ℕ) where
   pub put-fits : at + length cells ≤ length out → putAt out at cells ≡ take at out ++ cells ++ drop (at + length cells) out
@@ -32,10 +31,7 @@ pub record Copied (w : ℕ) (before cells : List ℕ) (at : ℕ) (out : List ℕ
 
 module _ (w : ℕ) (before cells : List ℕ) (at : ℕ) where
   pub copied-none : length cells ≡ w → at + w ≤ length before → Copied w before cells at before 0
-  copied-none t f = record { wide = t; fits = f; long = refl-length; inside = omega arith; so-far = paste-zero before at cells }
-    where
-      refl-length : length before ≡ length before
-      refl-length = omega arith
+  copied-none t f = record { wide = t; fits = f; long = refl; inside = omega arith; so-far = paste-zero before at cells }
 
   pub copied-more : (out : List ℕ) (k : ℕ) → Copied w before cells at out k → k < w → Copied w before cells at (set out (at + k) (getD cells k 0)) (k + 1)
   copied-more out k h l =
@@ -61,8 +57,12 @@ module _ (w : ℕ) (before cells : List ℕ) (at : ℕ) where
   copied-short i a t e f l =
       sym (put-nothing before cells at (omega arith)) ∙ ap (λ (n : ℕ). putAt before n cells) (f ∙ ap (λ (n : ℕ). n * w) e)
 
-pub ruleset putting = (copied-none, copied-more, copied-all, copied-short, needs)
-
 -- four places, element by element
-pub four : (ps : List ℕ) → length ps ≡ 4 → getD ps 0 0 ∷ getD ps 1 0 ∷ getD ps 2 0 ∷ getD ps 3 0 ∷ [] ≡ ps
+four : (ps : List ℕ) → length ps ≡ 4 → getD ps 0 0 ∷ getD ps 1 0 ∷ getD ps 2 0 ∷ getD ps 3 0 ∷ [] ≡ ps
 four ps e = ap (λ (n : ℕ). tab n (λ k. getD ps k 0)) (sym e) ∙ tab-of 0 ps
+
+-- six cells, the last four of which were read off the places
+pub put-fields : (out out′ places : List ℕ) (at rule row : ℕ) → length places ≡ 4 → out′ ≡ putAt out at (rule ∷ row ∷ getD places 0 0 ∷ getD places 1 0 ∷ getD places 2 0 ∷ getD places 3 0 ∷ []) → out′ ≡ putAt out at (rule ∷ row ∷ places)
+put-fields out out′ places at rule row l e = e ∙ ap (λ (ps : List ℕ). putAt out at (rule ∷ row ∷ ps)) (four places l)
+
+pub ruleset putting = (copied-none, copied-more, copied-all, copied-short, put-fields, needs)

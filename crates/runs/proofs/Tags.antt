@@ -173,7 +173,7 @@ module _ (A : Automaton) (run : List Step) where
       unfolding mayGo?
       two-rows a e y =
           let (k, m, q) = fails-at tags (mayGo? held mask r) (sym e ∙ y) in
-          let (b, u, d) = may-not (bit? mask k) (getD held k 0) r q in
+          let (b, (u, d)) = may-not (bit? mask k) (getD held k 0) r q in
           let (j, lj, c, ej) = h .from k m u in
           let s = h .steps in let w = h .count in
           let ji : sameRow? A run k i j ≡ false = on-two (has i k) (has j k) ((stepAt run i) .row) ((stepAt run j) .row) (sym (has-bit k) ∙ b) c (λ o. d (sym ej ∙ sym o ∙ sym er)) in

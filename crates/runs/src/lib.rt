@@ -16,7 +16,7 @@ pub use steps::Step;
 // The tests of the run, in their order, where the set and the table are sound.
 fn tried(set: &[u8], rows: &[u16], run: &[u16]) -> Checked
     requires { ⌜ documentCheckOf (now set) (now rows) ≡ 0 ⌝ }
-    ensures { λ r. ⌜ r ≡ checkedOf (runCheckOf (decode (now (set .entry))) (decodeRows (now (rows .entry))) (now (run .entry))) ⌝ }
+    ensures { λ r. ⌜ (refusalOf r ≡ runCheckOf (decode (now (set .entry))) (decodeRows (now (rows .entry))) (now (run .entry))) × (r ≡ checkedOf (runCheckOf (decode (now (set .entry))) (decodeRows (now (rows .entry))) (now (run .entry)))) ⌝ }
 {
     if !tests::counted(run) {
         return Checked::Refused(21);

@@ -1,0 +1,29 @@
+-- `runs::tried` meets its contract: each test is the definition's, in its order. Assumes nothing.
+use borrow.Author.Needs.{needs}
+use borrow.Author.Tests.{not-false}
+use Rattle.automaton.proofs.Verdict.{verdicts, answered}
+use Rattle.runs.specs.Check.{runCheckOf}
+use Rattle.runs.proofs.Verdict.{counted, count-fits, ready, ready-tagged}
+use Rattle.runs.proofs.tried.Statement.{statement}
+use Rattle.runs.proofs.tried.Tie as tie
+
+pub tried-spec : {M : Type 1} → statement M
+unfolding runCheckOf
+tried-spec =
+    tie.close
+    (tie.spec
+    (λ c κs. search needs)
+    (λ c. answered 21 _ (search verdicts depth 9))
+    (λ c κs. search needs)
+    (λ c. search (count-fits, not-false))
+    (λ c κs. search needs)
+    (λ c. answered 22 _ (search verdicts depth 9))
+    (λ c κs. search (ready, not-false))
+    (λ c. answered 23 _ (search verdicts depth 9))
+    (λ c κs. search (ready-tagged, ready, not-false))
+    (λ c. answered 24 _ (search verdicts depth 9))
+    (λ c κs. search (ready, not-false))
+    (λ c. answered 25 _ (search verdicts depth 9))
+    (λ c κs. search (counted, not-false))
+    (λ c. answered 26 _ (search verdicts depth 9))
+    (λ c. answered 0 _ (search verdicts depth 9)))
