@@ -14,11 +14,11 @@ use Rattle.model.specs.Lists.{tab}
 use Rattle.model.specs.Table.{Row, noRow, rowAt}
 use Rattle.model.proofs.Tab.{tab-at, length-tab}
 use Rattle.model.proofs.Rows.{in-getD}
-use Rattle.document.specs.Rows.{rowCells, cellIn, used, placesIn, joinCells, payloadIn, rowIn, rowsBelow, decodeRows, placesOf, splitCells, encodeRow, encodeRows, Fits}
-
-pub tab-same : {A : Type 0} (n : ℕ) (f g : ℕ → A) → ((k : ℕ) → k < n → f k ≡ g k) → tab n f ≡ tab n g
-tab-same zero f g h = refl
-tab-same {A} (suc n) f g h = λ i. h 0 (omega arith) i ∷ tab-same n (λ k. f (suc k)) (λ k. g (suc k)) (λ k l. h (suc k) (omega arith)) i
+use Rattle.automaton.proofs.Parts.{tab-same}
+use Rattle.document.specs.declared.fields.RowFields.{RowFields}
+use Rattle.document.specs.Scalars.{payloadOf}
+use Rattle.document.specs.Fields.{fieldsRow}
+use Rattle.document.specs.Rows.{rowCells, cellIn, used, placesIn, joinCells, payloadIn, rowIn, rowsBelow, decodeRows, placesOf, splitCells, encodeRow, encodeRows, Fits, Kept}
 
 -- ---- child places
 
@@ -64,14 +64,17 @@ join-split (suc n) x h =
 
 -- ---- a row, then rows
 
--- What a row needs for its cells to hold it.
-pub record Kept (r : Row) : Type 0 where
-  pub few : length (r .children) ≤ maxChildren
-  pub used-all : used (r .children) ≡ r .children
-  pub payload : r .payload < 2 ^ 64
-
 pub kept : {r : Row} → Fits r → Kept r
 kept {r} f = record { few = f .few; used-all = all-used (r .children) (f .places); payload = f .payload }
+
+-- A row by value is kept: its places are four, and its payload x fits.
+pub kept-fields : (f : RowFields) (x : ℕ) → x ≡ payloadOf (f .scalar) → x < 2 ^ 64 → length (f .places) ≡ maxChildren → Kept (fieldsRow f)
+kept-fields f x e h l =
+    record {
+      few = let m = length-used (f .places) in omega arith;
+      used-all = used-used (f .places);
+      payload = rw (← e) h;
+    }
 
 module _ (r : Row) where
   pub place-cell : (k : ℕ) → k < maxChildren → getD (encodeRow r) (suc k) 0 ≡ getD (r .children) k unused

@@ -1,10 +1,9 @@
 -- Rows entered into the index one after the other: a row is found exactly where an earlier one equals it. Assumes nothing.
 use mathlib.Core.Path.{_≡_, refl, sym, ap, _∙_, subst}
 use mathlib.Core.Bool.{Bool, true, false, not, cond}
-use mathlib.Core.Option.{Option, none, some, Option·map}
-use mathlib.Core.Logic.{_⊎_, inl, inr, ⊎-elim}
+use mathlib.Core.Logic.{⊎-elim}
 use mathlib.Core.List.{List}
-use Prim.Native.Nat.{ℕ, zero, suc, _+_, _*_, _%_, _<_, _≤_}
+use Prim.Native.Nat.{ℕ, _+_, _*_, _%_, _<_, _≤_}
 use native.Mathlib.Nat.{mod-lt}
 use native.Mathlib.Numerals.{add-one}
 use native.Mathlib.Omega.{arith}
@@ -18,14 +17,14 @@ use Rattle.model.specs.Table.{Row, rowAt, scalar?}
 use Rattle.model.specs.Build.{eqRow}
 use Rattle.model.proofs.Members.{T-true}
 use Rattle.model.proofs.Below.{Passed, passed-none, passed-more, passed-all, stopped, at, fails}
-use Rattle.model.proofs.Build.{eqRow→eq, eqRow-refl}
+use Rattle.model.proofs.Build.{eqRow→eq}
 use Rattle.automaton.proofs.Parts.{all-of}
 use Rattle.document.specs.declared.scalar.Decoded.the-variants.{Is, Not}
 use Rattle.document.specs.declared.rows.Row as number
 use Rattle.document.specs.declared.index.Probed.{Probed}
 use Rattle.document.specs.declared.index.Probed.the-variants.{Found, Free, Crowded}
 use Rattle.document.specs.declared.fields.RowFields.{RowFields}
-use Rattle.document.specs.Rows.{rowCells, rowIn, decodeRows, encodeRow}
+use Rattle.document.specs.Rows.{rowIn, decodeRows, encodeRow}
 use Rattle.document.specs.Hash.{rowHash}
 use Rattle.document.specs.Scalars.{kindOf, payloadOf, decodeScalar, scalarAt}
 use Rattle.document.specs.Fields.{fieldsRow}
@@ -35,7 +34,7 @@ use Rattle.document.specs.Check.{fresh?}
 use Rattle.document.specs.Marks.{Counted, sameAs, startOf}
 use Rattle.document.proofs.Places.{row-at, rows-length}
 use Rattle.document.proofs.Scalars.{there-and-back}
-use Rattle.document.proofs.Probing.{scan, indexed-none, Opens, Answers, known, free, answers, indexed-more}
+use Rattle.document.proofs.Probing.{indexed-none, Opens, Answers, known, free, answers, indexed-more}
 use Rattle.document.proofs.Whole.{order, not-fresh}
 
 -- a row by value is the row, where its kind and payload are a scalar
@@ -56,33 +55,19 @@ probed-row cells slots j f ten s p t e g h q =
     ∙ ap (λ x. probe slots (λ i. eqRow (fieldsRow f) (rowIn cells i)) x) (h ∙ ap (λ x. rowHash x % slotCount) g)
     ∙ ap (λ r. probe slots (λ i. eqRow r (rowIn cells i)) (startSlot r)) (ap fieldsRow e ∙ fields-row cells j t)
 
--- a scan that finds none has passed every row
-none-under : (o : Option ℕ) → Option·map suc o ≡ none → o ≡ none
-none-under none e = refl
-none-under (some i) e = let z : _≡_ {A = ℕ} 0 1 = cc in absurd (omega arith)
-
-scan-first : (b : Bool) (o : Option ℕ) → cond b (some 0) (Option·map suc o) ≡ none → (b ≡ false) × (o ≡ none)
-scan-first true o e = let z : _≡_ {A = ℕ} 0 1 = cc in absurd (omega arith)
-scan-first false o e = (refl, none-under o e)
-
-scan-all : (n : ℕ) (p : ℕ → Bool) → scan n p ≡ none → (i : ℕ) → i < n → p i ≡ false
-scan-all zero p e i l = let z : ⊥ = omega arith in absurd z
-scan-all (suc n) p e zero l = scan-first (p 0) (scan n (λ k. p (suc k))) e .0
-scan-all (suc n) p e (suc i) l = scan-all n (λ k. p (suc k)) (scan-first (p 0) (scan n (λ k. p (suc k))) e .1) i (omega arith)
-
 -- what a probe answers
 module _ (slots : List ℕ) (n : ℕ) (same? : ℕ → Bool) (s : ℕ) where
   when-found : {q : Probed} → Answers slots n same? s q → (x : number.Row) → q ≡ Found x → (i : ℕ) × (i < n) × (same? i ≡ true)
   when-found (known i l t e) x h = (i, l, t)
-  when-found (free t e o) x h = let z : _≡_ {A = ℕ} 0 1 = cc in absurd (omega arith)
+  when-found (free t f e o) x h = let z : _≡_ {A = ℕ} 0 1 = cc in absurd (omega arith)
 
   when-free : {q : Probed} → Answers slots n same? s q → (u : ℕ) → q ≡ Free u → ((i : ℕ) → i < n → same? i ≡ false) × Opens slots s u
   when-free (known i l t e) u h = let z : _≡_ {A = ℕ} 0 1 = cc in absurd (omega arith)
-  when-free (free t e o) u h = let q : t ≡ u = cc in (scan-all n same? e, subst (Opens slots s) q o)
+  when-free (free t f e o) u h = let q : t ≡ u = cc in (f, subst (Opens slots s) q o)
 
   when-crowded : {q : Probed} → Answers slots n same? s q → q ≡ Crowded → ⊥
   when-crowded (known i l t e) h = let z : _≡_ {A = ℕ} 0 1 = cc in omega arith
-  when-crowded (free t e o) h = let z : _≡_ {A = ℕ} 0 1 = cc in omega arith
+  when-crowded (free t f e o) h = let z : _≡_ {A = ℕ} 0 1 = cc in omega arith
 
 -- at the head of the loop over the rows: those below j equal no earlier row, and the slots index them
 pub record Entered (cells : List ℕ) (n : ℕ) (slots : List ℕ) (j : ℕ) : Type 0 where

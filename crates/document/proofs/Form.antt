@@ -1,27 +1,25 @@
 -- A table that 11 to 14 let pass: each row has the children that its symbol asks, all of them lower, and the scalar that fits. Assumes nothing.
 use mathlib.Core.Path.{_≡_, refl, sym, ap, _∙_, subst}
-use mathlib.Core.List.{List, [], _∷_, List·Memᴰ as In}
-use mathlib.Core.Bool.{Bool, true, false, _&&_, cond}
-use Prim.Native.Nat.{ℕ, zero, suc, _+_, _/_, _%_, _<_, _≤_}
+use mathlib.Core.List.{List, _∷_, List·Memᴰ as In}
+use mathlib.Core.Bool.{Bool, true, false, _&&_}
+use Prim.Native.Nat.{ℕ, zero, suc, _+_, _%_, _<_, _≤_}
 use native.Mathlib.Omega.{arith}
-use borrow.Author.Tests.{ltb-true, ltb-false, leb-true, eqb-true, lt-ltb, le-ltb, le-leb, eq-eqb, ne-eqb}
+use borrow.Author.Tests.{ltb-true, leb-true, eqb-true, lt-ltb, le-ltb, le-leb, eq-eqb, ne-eqb}
 use mir.Syntax.{w16}
 use mir.Val.{Fits}
 use lib.Dec.{T, eqb, leb, ltb}
-use lib.ListN.{length, getD}
+use lib.ListN.{length}
 use Rattle.model.specs.Limits.{maxChildren, maxRows, unused}
 use Rattle.model.specs.Lists.{tab, allBelow}
-use Rattle.model.specs.Refusal.{demand}
 use Rattle.model.specs.Automaton.{Automaton, arityOf}
-use Rattle.model.specs.Table.{Row, rowAt, scalar?, Lower, SoundRow}
-use Rattle.model.proofs.Tab.{tab-at, length-tab, in-tab}
+use Rattle.model.specs.Table.{rowAt, scalar?, Lower, SoundRow}
+use Rattle.model.proofs.Tab.{length-tab, in-tab}
 use Rattle.model.proofs.Below.{at}
-use Rattle.automaton.proofs.Parts.{all-of}
-use Rattle.document.specs.Rows.{rowCells, cellIn, used, placesIn, rowIn, decodeRows}
+use Rattle.automaton.proofs.Parts.{all-of, tab-same}
+use Rattle.document.specs.Rows.{rowCells, cellIn, used, rowIn, decodeRows}
 use Rattle.document.specs.Check.{rowCount, counted?, known?, placeIn, place?, child?, arityIn, children?, fits?, scalarFits?, formCheckOf}
 use Rattle.document.specs.Marks.{Counted}
 use Rattle.document.proofs.Places.{row-at, rows-length, place-cell}
-use Rattle.document.proofs.Encoding.{tab-same}
 use Rattle.document.proofs.Refusals.{passed, pass, true-and}
 
 -- the places up to the first unused one, where the first a are in use and the others not

@@ -1,19 +1,19 @@
 -- What callers read of a lent table by index, in terms of the rows that it holds; of one that passed the check, that children are lower and where they stand. Assumes nothing.
-use mathlib.Core.Path.{_≡_, refl, sym, ap, _∙_}
+use mathlib.Core.Path.{_≡_, sym, ap, _∙_}
 use mathlib.Core.List.{List}
-use Prim.Native.Nat.{ℕ, _/_, _<_, _≤_}
+use Prim.Native.Nat.{ℕ, _<_, _≤_}
 use native.Mathlib.Omega.{arith}
 use lib.ListN.{length, getD}
-use Rattle.model.specs.Limits.{maxRows, unused}
+use Rattle.model.specs.Limits.{maxRows}
 use Rattle.model.specs.Automaton.{arityOf}
-use Rattle.model.specs.Table.{Row, rowAt}
+use Rattle.model.specs.Table.{rowAt}
 use Rattle.model.proofs.Tab.{tab-at}
 use Rattle.automaton.specs.Stored.{decode}
 use Rattle.automaton.specs.Check.{checkOf}
 use Rattle.automaton.proofs.Sound.{sound-decode}
-use Rattle.document.specs.Rows.{rowCells, rowIn, decodeRows}
+use Rattle.document.specs.Rows.{rowIn, decodeRows}
 use Rattle.document.specs.Check.{rowCount, placeIn, arityIn, formCheckOf, tableCheckOf, documentCheckOf}
-use Rattle.document.proofs.Places.{row-at, rows-length}
+use Rattle.document.proofs.Places.{row-at}
 use Rattle.document.proofs.Refusals.{both-passed}
 use Rattle.document.proofs.Form.{Formed, formed, children-are, place-lower}
 

@@ -7,6 +7,7 @@ pub mod Children
 pub mod Equality
 pub mod Encoding
 pub mod Probing
+pub mod Placement
 pub mod Encoded
 pub mod Putting
 pub mod Marking
@@ -19,3 +20,4 @@ pub mod Entering
 pub mod Verdicts
 pub mod Sound
 pub mod Lent
+pub mod Building

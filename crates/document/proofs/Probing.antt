@@ -139,7 +139,7 @@ pub record Opens (slots : List ℕ) (s t : ℕ) : Type 0 where
 -- what a probe answers for rows below n: the one that a scan finds, or the slot for a row that no scan finds
 pub data Answers (slots : List ℕ) (n : ℕ) (same? : ℕ → Bool) (s : ℕ) : Probed → Type 0 where
   known : (i : ℕ) → i < n → same? i ≡ true → scan n same? ≡ some i → Answers slots n same? s (Found (numbered i))
-  free : (t : ℕ) → scan n same? ≡ none → Opens slots s t → Answers slots n same? s (Free t)
+  free : (t : ℕ) → ((i : ℕ) → i < n → same? i ≡ false) → scan n same? ≡ none → Opens slots s t → Answers slots n same? s (Free t)
 
 module _ (slots : List ℕ) (n : ℕ) (start : ℕ → ℕ) (same? : ℕ → Bool) (s : ℕ) (x : Indexed slots n start) (starts : (i : ℕ) → i < n → same? i ≡ true → start i ≡ s) where
   below : (e i : ℕ) → getD slots (slotAfter s e) 0 ≡ suc i → i < n
@@ -179,8 +179,8 @@ module _ (slots : List ℕ) (n : ℕ) (start : ℕ → ℕ) (same? : ℕ → Boo
       known i (below e i h) t
       (scan-some n same? i (below e i h) t (λ j l. not-true (same? j) (λ u. let q = one j i (omega (arith, below e i h)) (below e i h) u t in omega arith)))
   answered few one (opened e a m z h) =
-      free (slotAfter s e)
-      (scan-none n same? (λ i l. not-true (same? i) (unmet e (omega arith) (λ b. z) (λ d. h d zero-le) i l)))
+      let none-same : (i : ℕ) → i < n → same? i ≡ false = λ i l. not-true (same? i) (unmet e (omega arith) (λ b. z) (λ d. h d zero-le) i l) in
+      free (slotAfter s e) none-same (scan-none n same? none-same)
       (record { steps = e; few = m; here = refl; empty = z; before = λ d l q. let (j, g, f) = h d zero-le l in omega arith })
   answered few one (crowded h) = absurd (crowded-not few h)
 
@@ -270,3 +270,12 @@ module _ (slots : List ℕ) (same? : ℕ → Bool) (s : ℕ) where
 
       pub searched-more : r ≡ false → Searched slots same? s (d + 1)
       searched-more f = record { within = omega arith; rest = rw add-one (rw (sym er ∙ f) at (turn-row (v - 1) before)) }
+
+-- a free slot is one of the slots
+free-inside : {slots : List ℕ} {same? : ℕ → Bool} {s : ℕ} {q : Probed} → Walk slots same? s 0 q → (t : ℕ) → q ≡ Free t → t < slotCount
+free-inside (met e i h g) t f = let z : _≡_ {A = ℕ} 0 1 = cc in omega arith
+free-inside {s = s} (opened e a m z h) t f = let q : slotAfter s e ≡ t = cc in let l = mod-lt (s + e) {m = slotCount} (omega arith) in omega arith
+free-inside (crowded h) t f = let z : _≡_ {A = ℕ} 0 1 = cc in omega arith
+
+pub slot-inside : (slots : List ℕ) (same? : ℕ → Bool) (s t : ℕ) → probe slots same? s ≡ Free t → t < slotCount
+slot-inside slots same? s t = free-inside (walk slots same? s 0 slotCount refl) t

@@ -1,21 +1,20 @@
 -- A row put into a space of rows: the rows before it stay, and it is read back. Assumes nothing.
 use mathlib.Core.Path.{_≡_, refl, sym, ap, _∙_}
 use mathlib.Core.List.{List, [], _∷_, _++_, append-assoc}
-use mathlib.Core.Bool.{Bool, true, false, cond}
 use Prim.Native.Nat.{ℕ, zero, suc, _+_, _*_, _<_, _≤_}
 use native.Mathlib.Numerals.{add-one}
 use native.Mathlib.Omega.{arith}
 use borrow.Author.Needs.{needs}
 use borrow.Author.Tests.{le-leb, lt-leb}
-use lib.Dec.{leb}
-use lib.ListN.{length, getD, take, drop, set, length-set, List·getD-append}
-use lib.Seq.{paste, paste-zero, paste-suc, take-all, getD-take, getD-append-add, length-take-le}
+use lib.ListN.{length, getD, take, drop, set, length-set, length-append, length-drop, List·getD-append}
+use lib.Seq.{paste, paste-zero, paste-suc, take-all, getD-take, getD-append-add, length-take-le, take-at}
 use Rattle.model.specs.Limits.{maxChildren}
 use Rattle.model.specs.Lists.{tab}
 use Rattle.model.specs.Table.{Row}
-use Rattle.document.specs.Rows.{rowCells, cellIn, used, joinCells, rowIn, rowsBelow, encodeRow, Fits}
+use Rattle.automaton.proofs.Parts.{tab-same}
+use Rattle.document.specs.Rows.{rowCells, cellIn, used, joinCells, rowIn, rowsBelow, encodeRow, Kept}
 use Rattle.document.specs.Put.{putCells}
-use Rattle.document.proofs.Encoding.{tab-same, kept, decoded}
+use Rattle.document.proofs.Encoding.{decoded}
 
 module _ (before cells : List ℕ) (i : ℕ) where
   pub put-fits : i * rowCells + rowCells ≤ length before → putCells before i cells ≡ take (i * rowCells) before ++ cells ++ drop (i * rowCells + rowCells) before
@@ -83,7 +82,7 @@ module _ (out : List ℕ) (i : ℕ) (r : Row) (h : i * rowCells + rowCells ≤ l
       ∙ getD-append-add (take (i * rowCells) out) (encodeRow r ++ drop (i * rowCells + rowCells) out) k 0
       ∙ List·getD-append (encodeRow r) (drop (i * rowCells + rowCells) out) 0 k m
 
-  row-kept : (j : ℕ) → j < i → rowIn (putCells out i (encodeRow r)) j ≡ rowIn out j
+  pub row-kept : (j : ℕ) → j < i → rowIn (putCells out i (encodeRow r)) j ≡ rowIn out j
   row-kept j l =
       λ x. record {
         symbol = cell-kept j 0 l (omega arith) x;
@@ -92,11 +91,24 @@ module _ (out : List ℕ) (i : ℕ) (r : Row) (h : i * rowCells + rowCells ≤ l
         children = ap used (tab-same maxChildren (λ k. cellIn (putCells out i (encodeRow r)) j (1 + k)) (λ k. cellIn out j (1 + k)) (λ k m. cell-kept j (1 + k) l (omega arith))) x;
       }
 
+  -- the cells before it, and the length of the space, stay
+  pub put-front : take (i * rowCells) (putCells out i (encodeRow r)) ≡ take (i * rowCells) out
+  put-front = ap (take (i * rowCells)) put-here ∙ take-at (take (i * rowCells) out) (encodeRow r ++ drop (i * rowCells + rowCells) out) (i * rowCells) front
+
+  pub length-put : length (putCells out i (encodeRow r)) ≡ length out
+  length-put =
+      ap length put-here
+      ∙ length-append (take (i * rowCells) out) (encodeRow r ++ drop (i * rowCells + rowCells) out)
+      ∙ rw (front, length-append (encodeRow r) (drop (i * rowCells + rowCells) out), length-drop) (omega arith)
+
+  pub row-put : Kept r → rowIn (putCells out i (encodeRow r)) i ≡ r
+  row-put f = decoded r (putCells out i (encodeRow r)) i f cell-put
+
   -- The first rows of the space are those that were there, and the one that was put behind them.
-  pub rows-put : Fits r → rowsBelow (putCells out i (encodeRow r)) (suc i) ≡ rowsBelow out i ++ r ∷ []
+  pub rows-put : Kept r → rowsBelow (putCells out i (encodeRow r)) (suc i) ≡ rowsBelow out i ++ r ∷ []
   rows-put f =
       tab-more i (rowIn (putCells out i (encodeRow r)))
       ∙ ap (λ rows. rows ++ rowIn (putCells out i (encodeRow r)) i ∷ []) (tab-same i (rowIn (putCells out i (encodeRow r))) (rowIn out) row-kept)
-      ∙ ap (λ x. rowsBelow out i ++ x ∷ []) (decoded r (putCells out i (encodeRow r)) i (kept f) cell-put)
+      ∙ ap (λ x. rowsBelow out i ++ x ∷ []) (row-put f)
 
 pub ruleset putting = (copied-none, copied-more, copied-all, put-nothing, needs)

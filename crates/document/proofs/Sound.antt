@@ -19,7 +19,7 @@ use Rattle.automaton.specs.Check.{checkOf}
 use Rattle.automaton.proofs.Parts.{all-of}
 use Rattle.automaton.proofs.Sound.{sound-decode}
 use Rattle.document.specs.Rows.{rowCells, rowIn, decodeRows, encodeRows, Fits}
-use Rattle.document.specs.Check.{rowCount, placeIn, place?, child?, arityIn, fits?, formCheckOf, distinctCheckOf, usedCheckOf, levelsCheckOf, tableCheckOf, documentCheckOf}
+use Rattle.document.specs.Check.{rowCount, placeIn, place?, child?, arityIn, fits?, formCheckOf, distinctCheckOf, usedCheckOf, tableCheckOf, documentCheckOf}
 use Rattle.document.proofs.Places.{rows-length}
 use Rattle.document.proofs.Scalars.{either}
 use Rattle.document.proofs.Refusals.{both-passed, both-pass}

@@ -1,10 +1,9 @@
 -- Tests one after the other: what the code's numbers make of the definition's, and what a passed test tells the next. Assumes nothing.
 use mathlib.Core.Path.{_≡_, refl, sym, ap, _∙_}
 use mathlib.Core.List.{List}
-use Prim.Native.Nat.{ℕ, zero, suc, _<_, _≤_}
+use Prim.Native.Nat.{ℕ, zero, suc, _≤_}
 use native.Mathlib.Omega.{arith}
 use borrow.Author.Needs.{needs}
-use lib.Dec.{T}
 use Rattle.model.specs.Limits.{maxRows}
 use Rattle.model.specs.Refusal.{andAfter}
 use Rattle.model.specs.Automaton.{Automaton}

@@ -1,16 +1,15 @@
 -- 15, 16 and 17 as facts: rows without equals, rows that are used, and levels. Assumes nothing.
-use mathlib.Core.Path.{_≡_, refl, sym, ap, _∙_, subst}
+use mathlib.Core.Path.{_≡_, refl, sym, subst}
 use mathlib.Core.Logic.{_⊎_, inl, inr, ⊎-elim}
-use mathlib.Core.List.{List, [], _∷_, List·Memᴰ as In}
-use mathlib.Core.Bool.{Bool, true, false, _&&_, _||_, not}
+use mathlib.Core.List.{List, List·Memᴰ as In}
+use mathlib.Core.Bool.{Bool, true, false, not, _||_}
 use Prim.Native.Nat.{ℕ, zero, suc, _-_, _<_, _≤_}
 use native.Mathlib.Omega.{arith}
-use borrow.Author.Tests.{ltb-true, ltb-false, leb-true, lt-ltb, le-leb, eq-eqb, not-true}
+use borrow.Author.Tests.{ltb-true, ltb-false, leb-true, lt-ltb, le-leb, not-true}
 use lib.Dec.{T, eqb, leb, ltb, eqb→eq, eqb-refl}
 use lib.ListN.{length}
 use Rattle.model.specs.Limits.{maxLevels}
 use Rattle.model.specs.Lists.{any, allBelow}
-use Rattle.model.specs.Refusal.{demand}
 use Rattle.model.specs.Tree.{levels}
 use Rattle.model.specs.Table.{Row, rowAt, treeOf, Distinct, AllUsed}
 use Rattle.model.specs.Build.{eqRow}

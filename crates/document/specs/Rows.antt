@@ -1,4 +1,5 @@
 -- Lent rows: ten 16-bit cells each, and the rows that they hold (document 01, section "Documents"). Assumes nothing.
+use mathlib.Core.Path.{_≡_}
 use mathlib.Core.List.{List, [], _∷_, _++_, List·Memᴰ as In}
 use mathlib.Core.Bool.{cond}
 use Prim.Native.Nat.{ℕ, zero, suc, _+_, _*_, _/_, _%_, _^_, _<_, _≤_}
@@ -68,4 +69,10 @@ pub record Fits (r : Row) : Type 0 where
   pub few : length (r .children) ≤ maxChildren
   pub places : (j : ℕ) → In j (r .children) → j < unused
   pub kind : r .kind < 65536
+  pub payload : r .payload < 2 ^ 64
+
+-- what is enough of that for the cells to hold the row
+pub record Kept (r : Row) : Type 0 where
+  pub few : length (r .children) ≤ maxChildren
+  pub used-all : used (r .children) ≡ r .children
   pub payload : r .payload < 2 ^ 64

@@ -11,7 +11,7 @@ ghost use mathlib.Core.Path.{_≡_};
 ghost use Prim.Native.Nat.{_/_, _%_};
 ghost use Rattle.model.specs.Lists.{eqList};
 ghost use Rattle.model.specs.Build.{eqRow};
-ghost use Rattle.document.specs.Rows.{used, placesOf, rowIn, encodeRow};
+ghost use Rattle.document.specs.Rows.{used, placesOf, rowIn, encodeRow, Kept};
 ghost use Rattle.document.specs.Fields.{fieldsRow, placeAfter};
 
 // Places after the first unused one do not count.
@@ -46,9 +46,10 @@ fn low_cell(x: u64) -> u16
     (x % 65536) as u16
 }
 
-// The ten cells of a row.
+// The ten cells of a row; they hold all of it.
 pub fn cells_of(f: RowFields) -> [u16; 10]
     ensures { λ r. ⌜ r ≡ encodeRow (fieldsRow f) ⌝ }
+    ensures kept { λ r. ⌜ Kept (fieldsRow f) ⌝ }
 {
     let places = f.places;
     let p = settled(places);

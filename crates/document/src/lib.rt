@@ -4,12 +4,12 @@ pub mod scalar; // scalar.rt: the five kinds of scalars
 pub mod hash; // hash.rt: the hash of a row
 pub mod fields; // fields.rt: a row by value
 pub mod index; // index.rt: the index of a table's rows
+pub mod builder; // builder.rt: the table builder
 mod tests; // tests.rt: the four tests of a table
 
 use automaton::Checked;
 pub use scalar::Scalar;
 ghost use mathlib.Core.Path.{_≡_};
-ghost use Prim.Native.Nat.{_≤_};
 ghost use Rattle.automaton.specs.Answer.{refusalOf, checkedOf};
 ghost use Rattle.document.specs.Check.{documentCheckOf};
 

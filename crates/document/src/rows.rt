@@ -22,13 +22,13 @@ pub const MAX_CHILDREN: u16 = 4;
 
 pub const UNUSED: u16 = 65535;
 
-pub fn size(x: u16) -> usize
+pub(crate) fn size(x: u16) -> usize
     ensures { λ r. ⌜ (r ≡ x) × (r < 65536) ⌝ }
 {
     x as usize
 }
 
-pub fn wide(x: u16) -> u64
+fn wide(x: u16) -> u64
     ensures { λ r. ⌜ (r ≡ x) × (r < 65536) ⌝ }
 {
     x as u64

@@ -21,7 +21,7 @@ use automaton::arity;
 use automaton::header;
 ghost use mathlib.Core.Path.{_≡_};
 ghost use mathlib.Core.Bool.{false};
-ghost use Prim.Native.Nat.{ℕ, _-_, _<_, _≤_};
+ghost use Prim.Native.Nat.{_-_, _<_, _≤_};
 ghost use lib.Dec.{T};
 ghost use lib.ListN.{length, getD};
 ghost use Rattle.model.specs.Limits.{maxChildren, maxRows};
@@ -163,7 +163,7 @@ fn all_scalars_fit(set: &[u8], rows: &[u16], n: u16) -> bool
 }
 
 // 11 to 14, or 0: the form of the rows, each by itself.
-pub fn form(set: &[u8], rows: &[u16]) -> u16
+pub(crate) fn form(set: &[u8], rows: &[u16]) -> u16
     ensures { λ r. ⌜ r ≡ formCheckOf (decode (now (set .entry))) (now (rows .entry)) ⌝ }
 {
     if !counted(rows) {
@@ -211,7 +211,7 @@ fn all_distinct(rows: &[u16], n: u16) -> bool
 }
 
 // 15, or 0.
-pub fn distinct(rows: &[u16], n: u16) -> u16
+pub(crate) fn distinct(rows: &[u16], n: u16) -> u16
     requires { ⌜ Counted (now rows) n × AllScalars (now rows) n ⌝ }
     ensures { λ r. ⌜ r ≡ distinctCheckOf (decodeRows (now (rows .entry))) ⌝ }
 {
@@ -328,7 +328,7 @@ fn levels_of(rows: &[u16], n: u16) -> u16
 }
 
 // 16, or 0.
-pub fn used(rows: &[u16], n: u16) -> u16
+pub(crate) fn used(rows: &[u16], n: u16) -> u16
     requires { ⌜ Counted (now rows) n ⌝ }
     ensures { λ r. ⌜ r ≡ usedCheckOf (decodeRows (now (rows .entry))) ⌝ }
 {
@@ -336,7 +336,7 @@ pub fn used(rows: &[u16], n: u16) -> u16
 }
 
 // 17, or 0: heights need lower children only.
-pub fn low(rows: &[u16], n: u16) -> u16
+pub(crate) fn low(rows: &[u16], n: u16) -> u16
     requires { ⌜ Counted (now rows) n × Lower (decodeRows (now rows)) ⌝ }
     ensures { λ r. ⌜ r ≡ levelsCheckOf (decodeRows (now (rows .entry))) ⌝ }
 {
@@ -356,7 +356,7 @@ fn row_count(rows: &[u16]) -> u16
 }
 
 // 11 to 17, or 0: each test over the whole table before the next.
-pub fn table(set: &[u8], rows: &[u16]) -> u16
+pub(crate) fn table(set: &[u8], rows: &[u16]) -> u16
     requires { ⌜ checkOf (now set) ≡ 0 ⌝ }
     ensures { λ r. ⌜ r ≡ tableCheckOf (decode (now (set .entry))) (now (rows .entry)) ⌝ }
 {
