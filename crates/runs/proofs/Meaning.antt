@@ -6,7 +6,7 @@ use mathlib.Core.Bool.{Bool, true, false, _&&_}
 use Prim.Native.Nat.{ℕ, zero, suc, _+_, _-_, _%_, _<_, _≤_}
 use native.Mathlib.Omega.{arith}
 use borrow.Author.Tests.{lt-ltb, le-leb, eq-eqb, ltb-true, leb-true, eqb-true}
-use lib.Dec.{T, eqb, leb, ltb, lt→ltb, eqb-refl}
+use lib.Dec.{eqb, leb, ltb, lt→ltb, eqb-refl}
 use lib.ListN.{length, getD, List·getD-eq-default}
 use Rattle.model.specs.Limits.{maxChildren, maxSteps, maxRows, maxRules, unused}
 use Rattle.model.specs.Lists.{any, tab, allBelow}
@@ -19,7 +19,7 @@ use Rattle.model.specs.Written.{Step, stepAt, noRule, ruleOf, rowOf, StepFits, 
 use Rattle.model.specs.WrittenTest.{known?, childFits?, fits? as stepFits?, sameRow?, oneRow?, ends?, uses?, used?, written?}
 use Rattle.model.proofs.Members.{T-true, and-T, any-in}
 use Rattle.model.proofs.Tab.{tab-at, tab-past, length-tab, in-tab}
-use Rattle.model.proofs.Below.{at, all-of, below-any}
+use Rattle.model.proofs.Below.{at, below-any}
 use Rattle.model.proofs.Rows.{in-getD}
 use Rattle.model.proofs.Count.{place-of}
 use Rattle.model.proofs.Written.{run-accepted}
@@ -109,7 +109,7 @@ module _ (A : Automaton) (rows : List Row) (cells : List ℕ) where
           (all-used (tab (length (kids i)) (placeIn cells i))
           (λ j m. let (k, o, e) = in-tab (length (kids i)) (placeIn cells i) m in let w = place-low k o in omega arith))
 
-      step-fits : T (stepFits? A rows run i)
+      step-fits : stepFits? A rows run i ≡ true
       step-fits =
           let one-each : length ((stepAt run i) .steps) ≡ length (kids i) = ap length steps-are ∙ length-tab (length (kids i)) (placeIn cells i) in
           let same : eqb ((ruleOf A run i) .symbol) ((rowOf rows run i) .symbol) ≡ true = symbols .0 in
@@ -118,7 +118,7 @@ module _ (A : Automaton) (rows : List Row) (cells : List ℕ) where
           let each : allBelow (length (kids i)) (childFits? A rows run i) ≡ true =
           all-true (length (kids i)) (childFits? A rows run i)
           (λ k m. child-same i k m as-many (ap (λ (xs : List ℕ). getD xs k 0) steps-are ∙ tab-at 0 (length (kids i)) (placeIn cells i) k m) ∙ child-true k m) in
-          T-true (stepFits? A rows run i) .1 (λ z. same z && (rule z && (steps z && each z)))
+          λ z. same z && (rule z && (steps z && each z))
 
     -- What the run check does not turn away is a written run.
     pub written-run : runCheckOf A rows cells ≡ 0 → WrittenRun A rows (decodeSteps cells)
@@ -132,12 +132,9 @@ module _ (A : Automaton) (rows : List Row) (cells : List ℕ) where
         let (u, h₆) = passed (allBelow (length run - 1) (used? run)) 26 0 (omega arith) h₅ in
         let (some, c′) = true-and (leb 1 (length run)) (leb (length run) maxSteps && eqb (length cells % stepCells) 0) c in
         let few = leb-true (length run) maxSteps (true-and (leb (length run) maxSteps) (eqb (length cells % stepCells) 0) c′ .0) in
-        tested-run A rows run
-        (and-T _ _ (lt→ltb 0 (length run) (leb-true 1 (length run) some))
-        (and-T _ _ (T-true (allBelow (length run) (known? A rows run)) .1 k)
-        (and-T _ _ (all-of (length run) (stepFits? A rows run) (λ i l. step-fits i l few (at (known? A rows run) (length run) i k l) (at (fits? A rows cells) (length run) i f l)))
-        (and-T _ _ (T-true (oneRow? A run) .1 o)
-        (and-T _ _ (T-true (ends? A rows run) .1 e) (T-true (allBelow (length run - 1) (used? run)) .1 u))))))
+        let begun : ltb 0 (length run) ≡ true = lt-ltb 0 (length run) (leb-true 1 (length run) some) in
+        let each : allBelow (length run) (stepFits? A rows run) ≡ true = all-true (length run) (stepFits? A rows run) (λ i l. step-fits i l few (at (known? A rows run) (length run) i k l) (at (fits? A rows cells) (length run) i f l)) in
+        tested-run A rows run (T-true (written? A rows run) .1 (λ z. begun z && (k z && (each z && (o z && (e z && u z))))))
 
     -- ---- a written run passes
 

@@ -124,10 +124,10 @@ module _ (A : Automaton) (run : List Step) where
       from = λ k l m. absurd (m (getD-replicate tagPlaces k unused 0 (omega (arith, t .few))));
     }
 
-    -- step i goes to row r by the mask of its state
-    module _ (held : List ℕ) (i r mask : ℕ) (h : Held n tags held i) (l : i < n) (er : r ≡ (stepAt run i) .row) (em : mask ≡ (stateAt A ((ruleOf A run i) .target)) .mask) where
+    -- step i, in state q, goes to row r by the mask of q
+    module _ (held : List ℕ) (i r q mask : ℕ) (h : Held n tags held i) (l : i < n) (er : r ≡ (stepAt run i) .row) (eq : q ≡ (ruleOf A run i) .target) (em : mask ≡ (stateAt A q) .mask) where
       has-bit : (k : ℕ) → bit? mask k ≡ has i k
-      has-bit k = ap (λ (m : ℕ). bit? m k) em
+      has-bit k = ap (λ (m : ℕ). bit? m k) (em ∙ ap (λ (p : ℕ). (stateAt A p) .mask) eq)
 
       module _ (held′ : List ℕ) (g : Gone tags mask r held held′) (f : (k : ℕ) → k < tags → mayGo? held mask r k ≡ true) where
         name : (k : ℕ) → k < tags → (b : Bool) → bit? mask k ≡ b → getD held′ k 0 ≡ cond b r (getD held k 0)
@@ -172,8 +172,8 @@ module _ (A : Automaton) (run : List Step) where
       pub two-rows : (a : Bool) → a ≡ allBelow tags (mayGo? held mask r) → a ≡ false → false ≡ oneRow? A run
       unfolding mayGo?
       two-rows a e y =
-          let (k, m, q) = fails-at tags (mayGo? held mask r) (sym e ∙ y) in
-          let (b, (u, d)) = may-not (bit? mask k) (getD held k 0) r q in
+          let (k, m, x) = fails-at tags (mayGo? held mask r) (sym e ∙ y) in
+          let (b, (u, d)) = may-not (bit? mask k) (getD held k 0) r x in
           let (j, lj, c, ej) = h .from k m u in
           let s = h .steps in let w = h .count in
           let ji : sameRow? A run k i j ≡ false = on-two (has i k) (has j k) ((stepAt run i) .row) ((stepAt run j) .row) (sym (has-bit k) ∙ b) c (λ o. d (sym ej ∙ sym o ∙ sym er)) in

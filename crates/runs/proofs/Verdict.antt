@@ -39,11 +39,6 @@ module _ (run : List ℕ) (f : Bool) (n : ℕ) (e : f ≡ counted? run) (y : f �
   pub count-fits : Fits w16 n
   count-fits = let c = counted .few in record { fits = omega arith }
 
--- and one that passed 22 has known rules and rows
-pub ready : (set doc run : List ℕ) (f g : Bool) (n : ℕ) → documentCheckOf set doc ≡ 0 → f ≡ counted? run → f ≡ true → n ≡ length (decodeSteps run) → g ≡ allBelow (length (decodeSteps run)) (known? (decode set) (decodeRows doc) (decodeSteps run)) → g ≡ true → Ready set doc run n
-ready set doc run f g n s e y m k z =
-    record { sound = s; counted = counted run f n e y m; known = ap (λ (j : ℕ). allBelow j (known? (decode set) (decodeRows doc) (decodeSteps run))) m ∙ sym k ∙ z }
-
 module _ (set doc run : List ℕ) (n : ℕ) (h : Ready set doc run n) where
   pub ready-known : (i : ℕ) → i < n → Known set doc run i
   ready-known i l = record { sound = h .sound; known = at (known? (decode set) (decodeRows doc) (decodeSteps run)) n i (h .known) l }
@@ -53,7 +48,7 @@ module _ (set doc run : List ℕ) (n : ℕ) (h : Ready set doc run n) where
       ltb-true ((stepAt (decodeSteps run) i) .row) (length (decodeRows doc))
       (true-and (ltb ((stepAt (decodeSteps run) i) .rule) (length ((decode set) .rules))) (ltb ((stepAt (decodeSteps run) i) .row) (length (decodeRows doc))) (ready-known i l .known) .1)
 
-  pub ready-tagged : Tagged (decode set) (decodeSteps run) n
+  ready-tagged : Tagged (decode set) (decodeSteps run) n
   ready-tagged =
       let few = sound-rows set doc (h .sound) .few-rows in
       record {
@@ -76,4 +71,12 @@ module _ (set doc run : List ℕ) (n : ℕ) (h : Ready set doc run n) where
       eb ∙ ap (final? (decode set)) (eq ∙ ap (λ (k : ℕ). (ruleOf (decode set) (decodeSteps run) k) .target) last) in
       λ j. eqb (es′ j) (em′ j) && eb′ j
 
-pub ruleset readies = (ready-known, ready-tagged, some-rows, ends-are, needs)
+-- and one that passed 22 has known rules and rows
+module _ (set doc run : List ℕ) (f g : Bool) (n : ℕ) (s : documentCheckOf set doc ≡ 0) (e : f ≡ counted? run) (y : f ≡ true) (m : n ≡ length (decodeSteps run)) (k : g ≡ allBelow (length (decodeSteps run)) (known? (decode set) (decodeRows doc) (decodeSteps run))) (z : g ≡ true) where
+  pub ready : Ready set doc run n
+  ready = record { sound = s; counted = counted run f n e y m; known = ap (λ (j : ℕ). allBelow j (known? (decode set) (decodeRows doc) (decodeSteps run))) m ∙ sym k ∙ z }
+
+  pub tagged : Tagged (decode set) (decodeSteps run) n
+  tagged = ready-tagged set doc run n ready
+
+pub ruleset readies = (ready-known, some-rows, ends-are, needs)

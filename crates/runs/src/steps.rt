@@ -1,8 +1,11 @@
 // Lent steps, by index: every function answers for every slice. A step past the last whole one has rule 0 and row 0.
-use automaton::{State, rule_target};
-use document::rows::{MAX_CHILDREN, Row, UNUSED, size};
+use automaton::State;
+use automaton::rule_target;
+use document::rows::MAX_CHILDREN;
+use document::rows::Row;
+use document::rows::UNUSED;
 ghost use mathlib.Core.Path.{_≡_};
-ghost use Prim.Native.Nat.{_*_};
+ghost use Prim.Native.Nat.{_*_, _<_};
 ghost use lib.ListN.{length};
 ghost use Rattle.model.specs.Written.{stepAt, ruleOf};
 ghost use Rattle.automaton.specs.Stored.{decode};
@@ -21,6 +24,12 @@ pub struct StepFields {
 }
 
 pub const STEP_CELLS: usize = 6;
+
+pub(crate) fn size(x: u16) -> usize
+    ensures { λ r. ⌜ (r ≡ x) × (r < 65536) ⌝ }
+{
+    x as usize
+}
 
 // As many steps as fit whole.
 pub fn count(run: &[u16]) -> usize

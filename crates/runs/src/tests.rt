@@ -1,8 +1,21 @@
 // The run check's tests 21 to 26, each over the whole run.
-use automaton::{header, is_final, rule_child, rule_symbol, tags_of};
+use crate::steps::STEP_CELLS;
+use crate::steps::Step;
+use crate::steps::count;
+use crate::steps::place;
+use crate::steps::row;
+use crate::steps::rule;
+use crate::steps::size;
+use crate::steps::target;
+use automaton::header;
+use automaton::is_final;
+use automaton::rule_child;
+use automaton::rule_symbol;
+use automaton::tags_of;
 use document::rows;
-use document::rows::{MAX_CHILDREN, Row, UNUSED, size};
-use crate::steps::{STEP_CELLS, Step, count, place, row, rule, target};
+use document::rows::MAX_CHILDREN;
+use document::rows::Row;
+use document::rows::UNUSED;
 ghost use mathlib.Core.Path.{_≡_};
 ghost use mathlib.Core.Bool.{false};
 ghost use Prim.Native.Nat.{ℕ, _-_, _<_, _≤_};
@@ -145,20 +158,22 @@ fn all_may_go(held: &[u16; TAG_PLACES], tags: u16, mask: u16, to: Row) -> bool
     true
 }
 
-// The tags that the mask has go to the row.
-fn go(held: &mut [u16; TAG_PLACES], tags: u16, mask: u16, to: Row)
+// The places after the tags that the mask has went to the row.
+fn went(held: [u16; TAG_PLACES], tags: u16, mask: u16, to: Row) -> [u16; TAG_PLACES]
     requires { ⌜ tags ≤ tagPlaces ⌝ }
-    ensures { λ r. ⌜ Gone tags mask (to .0) (now (held .entry)) (now (held .exit)) ⌝ }
+    ensures { λ r. ⌜ Gone tags mask (to .0) held r ⌝ }
 {
+    let mut out = held;
     let mut k = 0;
     while k < tags {
         let at = size(k);
         let has = has_tag(mask, k);
         k += 1;
         if has {
-            held[at] = to.0;
+            out[at] = to.0;
         }
     }
+    out
 }
 
 // 24: one pass holds the row of each tag, and stops at a tag that would go to a second one.
@@ -177,7 +192,7 @@ pub(crate) fn one_row(set: &[u8], run: &[u16], n: u16) -> bool
         if !all_may_go(&held, tags, mask, to) {
             return false;
         }
-        go(&mut held, tags, mask, to);
+        held = went(held, tags, mask, to);
     }
     true
 }

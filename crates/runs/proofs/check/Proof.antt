@@ -8,6 +8,8 @@ check-spec =
     tie.close
     (tie.spec
     (λ c κs. search answers)
+    (λ c. search answers)
     (λ c κs. search answers)
+    (λ c. search answers)
     (λ c. answered _ _ (search answers))
     (λ c. answered _ _ (search answers)))

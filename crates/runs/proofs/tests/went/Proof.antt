@@ -1,17 +1,17 @@
--- `runs::tests::go` meets its contract: the tags before the index went. Assumes nothing.
+-- `runs::tests::went` meets its contract: the tags before the index went. Assumes nothing.
 use Prim.Native.Nat.{_-_}
 use Rattle.runs.proofs.Tags.{Going, tagging}
-use Rattle.runs.proofs.tests.go.Statement.{statement}
-use Rattle.runs.proofs.tests.go.Tie as tie
+use Rattle.runs.proofs.tests.went.Statement.{statement}
+use Rattle.runs.proofs.tests.went.Tie as tie
 
 abbrev Inv-loop : tie.InvT-loop
-Inv-loop held₀ tags mask to k₀ held k = Going tags mask (to .0) held₀ held k
+Inv-loop tags mask to out₀ k₀ out k = Going tags mask (to .0) out₀ out k
 
 abbrev μ-loop : tie.MeasureT-loop
-μ-loop held₀ tags mask to k₀ held k = tags - k
+μ-loop tags mask to out₀ k₀ out k = tags - k
 
-pub go-spec : {M : Type 1} → statement M
-go-spec =
+pub went-spec : {M : Type 1} → statement M
+went-spec =
     tie.close
     (tie.spec
     Inv-loop
