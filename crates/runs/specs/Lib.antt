@@ -1,0 +1,4 @@
+pub mod Steps
+pub mod Check
+pub mod Passes
+pub mod Fields

@@ -1,0 +1,55 @@
+-- What the passes of the run check ask, and what they leave in their scratch. Assumes nothing.
+use mathlib.Core.Path.{_≡_}
+use mathlib.Core.List.{List}
+use mathlib.Core.Bool.{Bool, true, false, _||_, not, cond}
+use Prim.Native.Nat.{ℕ, _<_, _≤_}
+use lib.Dec.{eqb}
+use lib.ListN.{length, getD}
+use Rattle.model.specs.Limits.{maxSteps, unused}
+use Rattle.model.specs.Lists.{allBelow}
+use Rattle.model.specs.Automaton.{Automaton, bit?}
+use Rattle.model.specs.Written.{Step, stepAt}
+use Rattle.model.specs.WrittenTest.{known?, uses?}
+use Rattle.automaton.specs.Stored.{decode}
+use Rattle.document.specs.Rows.{decodeRows}
+use Rattle.document.specs.Check.{documentCheckOf}
+use Rattle.runs.specs.Steps.{decodeSteps}
+
+-- n is the number of steps, and 21 does not turn them away for it
+pub record Counted (run : List Step) (n : ℕ) : Type 0 where
+  pub steps : n ≡ length run
+  pub some : 0 < n
+  pub few : n ≤ maxSteps
+
+-- the set and the table are sound, and the rule and the row of step i are known
+pub record Known (set rows run : List ℕ) (i : ℕ) : Type 0 where
+  pub sound : documentCheckOf set rows ≡ 0
+  pub known : known? (decode set) (decodeRows rows) (decodeSteps run) i ≡ true
+
+-- the same at each of the n steps
+pub record Ready (set rows run : List ℕ) (n : ℕ) : Type 0 where
+  pub sound : documentCheckOf set rows ≡ 0
+  pub counted : Counted (decodeSteps run) n
+  pub known : allBelow n (known? (decode set) (decodeRows rows) (decodeSteps run)) ≡ true
+
+-- the places of tags: how many a pass has
+abbrev pub tagPlaces : ℕ
+tagPlaces = 16
+
+-- the tags have places, and each of the n steps has a row
+pub record Tagged (A : Automaton) (run : List Step) (n : ℕ) : Type 0 where
+  pub steps : n ≡ length run
+  pub few : A .tags ≤ tagPlaces
+  pub rows : (i : ℕ) → i < n → (stepAt run i) .row < unused
+
+-- tag k, if the mask has it, may go to row i: its place names no row yet, or this one
+unfoldable pub mayGo? : List ℕ → ℕ → ℕ → ℕ → Bool
+mayGo? held mask i k = not (bit? mask k) || (eqb (getD held k 0) unused || eqb (getD held k 0) i)
+
+-- after the tags below n that the mask has went to row i
+abbrev pub Gone : ℕ → ℕ → ℕ → List ℕ → List ℕ → Type 0
+Gone n mask i before after = (k : ℕ) → k < n → getD after k 0 ≡ cond (bit? mask k) i (getD before k 0)
+
+-- after the lower steps that step j uses are marked
+abbrev pub Marked : List Step → ℕ → List Bool → List Bool → Type 0
+Marked run j before after = (i : ℕ) → i < length before → getD after i false ≡ (getD before i false || uses? run i j)

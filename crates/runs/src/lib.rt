@@ -1,0 +1,50 @@
+// The written run: its steps, lent as cells, and its check.
+ghost use mathlib.Core.Path.{_≡_};
+ghost use Rattle.automaton.specs.Stored.{decode};
+ghost use Rattle.automaton.specs.Answer.{refusalOf, checkedOf};
+ghost use Rattle.document.specs.Rows.{decodeRows};
+ghost use Rattle.document.specs.Check.{documentCheckOf};
+ghost use Rattle.runs.specs.Check.{runCheckOf, checkRunOf};
+
+pub mod steps; // steps.rt: lent steps, by index
+mod tests; // tests.rt: the tests 21 to 26, each over the whole run
+
+use automaton::Checked;
+pub use steps::Step;
+
+// The tests of the run, in their order, where the set and the table are sound.
+fn tried(set: &[u8], rows: &[u16], run: &[u16]) -> Checked
+    requires { ⌜ documentCheckOf (now set) (now rows) ≡ 0 ⌝ }
+    ensures { λ r. ⌜ (refusalOf r ≡ runCheckOf (decode (now (set .entry))) (decodeRows (now (rows .entry))) (now (run .entry))) × (r ≡ checkedOf (runCheckOf (decode (now (set .entry))) (decodeRows (now (rows .entry))) (now (run .entry)))) ⌝ }
+{
+    if !tests::counted(run) {
+        return Checked::Refused(21);
+    }
+    let n = steps::count(run) as u16;
+    if !tests::all_known(set, rows, run, n) {
+        return Checked::Refused(22);
+    }
+    if !tests::all_fit(set, rows, run, n) {
+        return Checked::Refused(23);
+    }
+    if !tests::one_row(set, run, n) {
+        return Checked::Refused(24);
+    }
+    if !tests::ends(set, rows, run, n) {
+        return Checked::Refused(25);
+    }
+    if !tests::all_used(run, n) {
+        return Checked::Refused(26);
+    }
+    Checked::Sound
+}
+
+// Whether the run shows that the set lets the document in: the number that turns the set, the table or the run away, in this order.
+pub fn check(set: &[u8], rows: &[u16], run: &[u16]) -> Checked
+    ensures { λ r. ⌜ (refusalOf r ≡ checkRunOf (now (set .entry)) (now (rows .entry)) (now (run .entry))) × (r ≡ checkedOf (checkRunOf (now (set .entry)) (now (rows .entry)) (now (run .entry)))) ⌝ }
+{
+    match document::check(set, rows) {
+        Checked::Sound => tried(set, rows, run),
+        Checked::Refused(n) => Checked::Refused(n),
+    }
+}
