@@ -3,6 +3,7 @@ use automaton::State;
 use automaton::rule_target;
 use document::rows::MAX_CHILDREN;
 use document::rows::Row;
+use document::rows::Step;
 use document::rows::UNUSED;
 ghost use mathlib.Core.Path.{_≡_};
 ghost use Prim.Native.Nat.{_*_, _<_};
@@ -12,9 +13,6 @@ ghost use Rattle.automaton.specs.Stored.{decode};
 ghost use Rattle.automaton.specs.Encode.{putAt};
 ghost use Rattle.runs.specs.Steps.{stepCells, cellIn, placeIn, decodeSteps};
 ghost use Rattle.runs.specs.Fields.{fieldCells};
-
-// A step's number.
-pub struct Step(pub u16);
 
 // A step by value; an unused place holds UNUSED.
 pub struct StepFields {

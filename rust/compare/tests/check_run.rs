@@ -2,7 +2,7 @@
 
 use compare::answer::Answer;
 use compare::case::{Case, Expected, Input};
-use compare::library::membership::check_run;
+use compare::library::run::check_run;
 use compare::tally::{Tally, RUN, SET, TABLE};
 use generate::{documents, rows, runs, set_bytes, sets, Random};
 use reference::examples::{rule, set_b, set_e, set_g, state};

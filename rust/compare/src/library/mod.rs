@@ -9,6 +9,8 @@ pub mod boolean;
 pub mod check;
 #[cfg(feature = "membership")]
 pub mod membership;
+#[cfg(feature = "run")]
+pub mod run;
 #[cfg(feature = "term")]
 pub mod term;
 #[cfg(feature = "witness")]
