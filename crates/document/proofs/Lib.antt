@@ -7,6 +7,7 @@ pub mod Children
 pub mod Equality
 pub mod Encoding
 pub mod Probing
+pub mod Searching
 pub mod Placement
 pub mod Encoded
 pub mod Putting

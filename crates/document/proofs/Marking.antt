@@ -12,9 +12,9 @@ use lib.ListN.{length, getD, set, replicate, length-set, length-replicate, getD-
 use lib.Seq.{getD-set-same, getD-set-other}
 use Rattle.model.specs.Limits.{maxChildren, maxRows, unused}
 use Rattle.model.specs.Table
-use Rattle.model.specs.Lists.{allBelow}
+use Rattle.model.specs.Lists.{allBelow, anyBelow}
 use Rattle.document.specs.Rows.{rowIn, decodeRows}
-use Rattle.document.specs.Check.{placeIn, anyBelow, uses?, used?}
+use Rattle.document.specs.Check.{placeIn, uses?, used?}
 use Rattle.document.specs.Marks.{Counted, Marked}
 use Rattle.document.proofs.Places.{row-at, rows-length, restIn, rest-first, rest-last, rest-stop, rest-more}
 

@@ -3,7 +3,9 @@ use mathlib.Core.Path.{_≡_, refl, sym, ap, _∙_}
 use mathlib.Core.List.{List}
 use mathlib.Core.Bool.{Bool, true, false, _&&_}
 use Prim.Native.Nat.{ℕ, _+_, _*_, _%_, _<_, _≤_}
+use native.Mathlib.Omega.{arith}
 use lib.Dec.{T, ltb, leb, ltb→lt, leb→le}
+use borrow.Author.Tests.{lt-ltb, le-leb}
 use lib.ListN.{length, set}
 use Rattle.model.specs.Limits.{maxRows}
 use Rattle.model.specs.Table.{Row}
@@ -35,6 +37,15 @@ room cells n limit b e t =
       few = ltb→lt n maxRows (T-and (ltb n limit) (ltb n maxRows) f .1);
       fits = leb→le (n * rowCells + rowCells) (length cells) g;
     }
+
+-- where a limit is within a table's and within the cells, it alone decides
+pub room-at : (cells : List ℕ) (n limit : ℕ) → limit ≤ maxRows → limit * rowCells ≤ length cells → roomFor? cells n limit ≡ ltb n limit
+unfolding roomFor?
+room-at cells n limit h g = go (ltb n limit) refl
+  where
+    go : (b : Bool) → ltb n limit ≡ b → (b && ltb n maxRows && leb (n * rowCells + rowCells) (length cells)) ≡ b
+    go true e = let l = ltb→lt n limit (rw e tt) in rw (lt-ltb n maxRows (omega arith), le-leb (n * rowCells + rowCells) (length cells) (omega arith))
+    go false e = refl
 
 -- the probe of the row r, from the slot st that its cells cs give, found q
 module _ (cells slots : List ℕ) (n limit : ℕ) (r : Row) (cs : List ℕ) (st : ℕ) (q : Probed) (ec : cs ≡ encodeRow r) (es : st ≡ rowHash cs % slotCount) (eq : q ≡ probe slots (λ i. eqRow r (rowIn cells i)) st) where

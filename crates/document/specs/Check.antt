@@ -5,7 +5,7 @@ use Prim.Native.Nat.{ℕ, zero, suc, _-_, _/_, _%_}
 use lib.Dec.{eqb, leb, ltb}
 use lib.ListN.{length, getD}
 use Rattle.model.specs.Limits.{maxChildren, maxRows, maxLevels, unused}
-use Rattle.model.specs.Lists.{any, allBelow}
+use Rattle.model.specs.Lists.{any, allBelow, anyBelow}
 use Rattle.model.specs.Refusal.{demand, andAfter}
 use Rattle.model.specs.Tree.{levels}
 use Rattle.model.specs.Automaton.{Automaton, arityOf}
@@ -72,15 +72,11 @@ fresh? rows j = allBelow j (λ i. not (eqRow (rowAt rows j) (rowAt rows i)))
 unfoldable pub distinctCheckOf : List Row → ℕ
 distinctCheckOf rows = demand (allBelow (length rows) (fresh? rows)) 15 0
 
--- the test p passes at some index below n
-unfoldable pub anyBelow : ℕ → (ℕ → Bool) → Bool
-anyBelow zero p = false
-anyBelow (suc n) p = anyBelow n p || p n
-
 -- row j, whose children are cs, is later than row i and has it as a child
 unfoldable pub uses? : ℕ → List ℕ → ℕ → Bool
 uses? j cs i = ltb i j && any (eqb i) cs
 
+-- some later row has row i as a child
 unfoldable pub used? : List Row → ℕ → Bool
 used? rows i = anyBelow (length rows) (λ j. uses? j ((rowAt rows j) .children) i)
 

@@ -23,10 +23,11 @@ pub record Counted (cells : List ℕ) (n : ℕ) : Type 0 where
 abbrev pub AllScalars : List ℕ → ℕ → Type 0
 AllScalars cells n = (i : ℕ) → i < n → T (scalar? ((rowIn cells i) .kind) ((rowIn cells i) .payload))
 
--- row i equals row j; and the slot where row j is looked for first
+-- row i equals row j
 abbrev pub sameAs : List ℕ → ℕ → ℕ → Bool
 sameAs cells j i = eqRow (rowIn cells j) (rowIn cells i)
 
+-- the slot where row j is looked for first
 abbrev pub startOf : List ℕ → ℕ → ℕ
 startOf cells j = startSlot (rowIn cells j)
 

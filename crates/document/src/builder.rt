@@ -2,8 +2,10 @@
 use crate::fields::RowFields;
 use crate::fields::cells_of;
 use crate::index::Probed;
+use crate::index::SLOTS;
 use crate::index::probe;
 use crate::index::start_slot;
+use crate::rows::MAX_ROWS;
 use crate::rows::ROW_CELLS;
 use crate::rows::Row;
 use crate::rows::put_cells;
@@ -13,8 +15,6 @@ ghost use Rattle.document.specs.Rows.{Kept};
 ghost use Rattle.document.specs.Fields.{fieldsRow};
 ghost use Rattle.document.specs.Builder.{roomFor?, findOrAdd, Did};
 
-const MAX_ROWS: u16 = 1024;
-
 // A row that was there, one that was added, or no room for one.
 pub enum Placed {
     Known(Row),
@@ -22,16 +22,18 @@ pub enum Placed {
     Full,
 }
 
+// Room for a row more, after n.
 fn has_room(rows: &[u16], n: u16, limit: u16) -> bool
     ensures { λ r. ⌜ r ≡ roomFor? (now (rows .entry)) n limit ⌝ }
 {
-    (n < limit) & (n < MAX_ROWS) & (size(n) * ROW_CELLS + ROW_CELLS <= rows.len())
+    let m = size(n);
+    (n < limit) & (m < MAX_ROWS) & (m * ROW_CELLS + ROW_CELLS <= rows.len())
 }
 
 // The row of these fields among the first n, which the slots index; added as row n where there is none and there is room.
 pub fn find_or_add(
     rows: &mut [u16],
-    slots: &mut [u16; 2048],
+    slots: &mut [u16; SLOTS],
     n: u16,
     limit: u16,
     f: RowFields,

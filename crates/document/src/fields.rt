@@ -1,4 +1,6 @@
 // A row by value: its symbol, child places and scalar; its ten cells; and its equality with a lent row.
+use crate::rows::PLACES;
+use crate::rows::ROW_CELLS;
 use crate::rows::Row;
 use crate::rows::UNUSED;
 use crate::rows::kind;
@@ -14,10 +16,12 @@ ghost use Rattle.model.specs.Build.{eqRow};
 ghost use Rattle.document.specs.Rows.{used, placesOf, rowIn, encodeRow, Kept};
 ghost use Rattle.document.specs.Fields.{fieldsRow, placeAfter};
 
+const LAST_PLACE: usize = PLACES - 1;
+
 // Places after the first unused one do not count.
 pub struct RowFields {
     pub symbol: u16,
-    pub places: [u16; 4],
+    pub places: [u16; PLACES],
     pub scalar: Scalar,
 }
 
@@ -28,12 +32,12 @@ fn place_after(last: u16, x: u16) -> u16
 }
 
 // The places, all unused after the first that is.
-fn settled(places: [u16; 4]) -> [u16; 4]
+fn settled(places: [u16; PLACES]) -> [u16; PLACES]
     ensures { λ r. ⌜ r ≡ placesOf (used places) ⌝ }
 {
     let mut p = places;
     let mut k = 0;
-    while k < 3 {
+    while k < LAST_PLACE {
         p[k + 1] = place_after(p[k], p[k + 1]);
         k += 1;
     }
@@ -47,7 +51,7 @@ fn low_cell(x: u64) -> u16
 }
 
 // The ten cells of a row; they hold all of it.
-pub fn cells_of(f: RowFields) -> [u16; 10]
+pub fn cells_of(f: RowFields) -> [u16; ROW_CELLS]
     ensures { λ r. ⌜ r ≡ encodeRow (fieldsRow f) ⌝ }
     ensures kept { λ r. ⌜ Kept (fieldsRow f) ⌝ }
 {
@@ -74,11 +78,11 @@ pub fn cells_of(f: RowFields) -> [u16; 10]
 }
 
 // Whether the places of row i are these, up to the first unused one.
-fn same_places(rows: &[u16], i: u16, places: [u16; 4]) -> bool
+fn same_places(rows: &[u16], i: u16, places: [u16; PLACES]) -> bool
     ensures { λ r. ⌜ r ≡ eqList (used places) ((rowIn (now (rows .entry)) i) .children) ⌝ }
 {
     let mut k = 0;
-    while k < 4 {
+    while k < PLACES {
         let x = places[k];
         let y = place(rows, Row(i), k as u16);
         k += 1;

@@ -1,4 +1,5 @@
 // The 32-bit FNV-1a hash of a row's ten cells: it picks the start slot in the index, and nothing else rests on it.
+use crate::rows::ROW_CELLS;
 ghost use mathlib.Core.Path.{_≡_};
 ghost use Prim.Native.Nat.{_/_, _%_};
 ghost use Rattle.document.specs.Hash.{fnvProduct, fnvByte, rowHash};
@@ -29,12 +30,12 @@ fn add_cell(h: u32, x: u16) -> u32
     add_byte(add_byte(h, (x % 256) as u32), (x / 256) as u32)
 }
 
-pub fn row_hash(cells: [u16; 10]) -> u32
+pub fn row_hash(cells: [u16; ROW_CELLS]) -> u32
     ensures { λ r. ⌜ r ≡ rowHash cells ⌝ }
 {
     let mut h = FNV_START;
     let mut i = 0;
-    while i < 10 {
+    while i < ROW_CELLS {
         h = add_cell(h, cells[i]);
         i += 1;
     }

@@ -2,6 +2,7 @@
 use crate::fields::RowFields;
 use crate::fields::same_row;
 use crate::hash::row_hash;
+use crate::rows::ROW_CELLS;
 use crate::rows::Row;
 use crate::rows::size;
 ghost use mathlib.Core.Path.{_≡_};
@@ -10,7 +11,7 @@ ghost use Rattle.model.specs.Build.{eqRow};
 ghost use Rattle.document.specs.Rows.{rowIn};
 ghost use Rattle.document.specs.Hash.{rowHash};
 ghost use Rattle.document.specs.Fields.{fieldsRow};
-ghost use Rattle.document.specs.Index.{probe};
+ghost use Rattle.document.specs.Index.{slotCount, probe};
 
 // Twice as many slots as a table has rows, so that a probe finds an empty one.
 pub const SLOTS: usize = 2048;
@@ -23,14 +24,14 @@ pub enum Probed {
 }
 
 // The slot where a row of these cells is looked for first.
-pub fn start_slot(cells: [u16; 10]) -> u16
-    ensures { λ r. ⌜ r ≡ rowHash cells % 2048 ⌝ }
+pub fn start_slot(cells: [u16; ROW_CELLS]) -> u16
+    ensures { λ r. ⌜ r ≡ rowHash cells % slotCount ⌝ }
 {
-    (row_hash(cells) % 2048) as u16
+    (row_hash(cells) as usize % SLOTS) as u16
 }
 
 // Looks for a row that equals the fields, from slot start on.
-pub fn probe(rows: &[u16], slots: &[u16; 2048], start: u16, f: RowFields) -> Probed
+pub fn probe(rows: &[u16], slots: &[u16; SLOTS], start: u16, f: RowFields) -> Probed
     ensures { λ r. ⌜ r ≡ probe (now (slots .entry)) (λ i. eqRow (fieldsRow f) (rowIn (now (rows .entry)) i)) start ⌝ }
 {
     let mut d = 0;

@@ -16,7 +16,14 @@ ghost use Rattle.document.specs.Put.{orBare, fieldsIn, putCells};
 // A row's number.
 pub struct Row(pub u16);
 
+// The number of a step of a written run.
+pub struct Step(pub u16);
+
+pub const MAX_ROWS: usize = 1024;
+
 pub const ROW_CELLS: usize = 10;
+
+pub const PLACES: usize = 4;
 
 pub const MAX_CHILDREN: u16 = 4;
 
@@ -93,7 +100,7 @@ fn scalar_of(kind: u16, payload: u64) -> Scalar
 }
 
 // The four places of row i.
-fn places_of(rows: &[u16], i: Row) -> [u16; 4]
+fn places_of(rows: &[u16], i: Row) -> [u16; PLACES]
     ensures { λ r. ⌜ r ≡ placesIn (now (rows .entry)) (i .0) ⌝ }
 {
     [
@@ -118,7 +125,7 @@ pub fn fields_at(rows: &[u16], i: Row) -> RowFields
 }
 
 // Makes the cells row i of the space; where they do not fit whole, nothing is written.
-pub fn put_cells(out: &mut [u16], i: Row, cells: [u16; 10])
+pub fn put_cells(out: &mut [u16], i: Row, cells: [u16; ROW_CELLS])
     ensures { λ r. ⌜ now (out .exit) ≡ putCells (now (out .entry)) (i .0) cells ⌝ }
 {
     let at = size(i.0) * ROW_CELLS;

@@ -5,6 +5,7 @@ use crate::index::SLOTS;
 use crate::index::probe;
 use crate::index::start_slot;
 use crate::rows::MAX_CHILDREN;
+use crate::rows::MAX_ROWS;
 use crate::rows::ROW_CELLS;
 use crate::rows::Row;
 use crate::rows::UNUSED;
@@ -34,8 +35,6 @@ ghost use Rattle.document.specs.Rows.{rowIn, decodeRows};
 ghost use Rattle.document.specs.Index.{probe};
 ghost use Rattle.document.specs.Check.{rowCount, counted?, known?, place?, child?, children?, fits?, scalarFits?, formCheckOf, fresh?, distinctCheckOf, used?, usedCheckOf, levelsCheckOf, tableCheckOf};
 ghost use Rattle.document.specs.Marks.{Counted, AllScalars, sameAs, startOf, Marked, highestOf};
-
-const MAX_ROWS: usize = 1024;
 
 const MAX_LEVELS: u16 = 256;
 

@@ -8,7 +8,7 @@ use Rattle.model.specs.Build.{eqRow}
 use Rattle.document.specs.declared.fields.RowFields.{RowFields}
 use Rattle.document.specs.Rows.{rowIn}
 use Rattle.document.specs.Fields.{fieldsRow}
-use Rattle.document.proofs.Probing.{Searched, searched-none, searched-free, searched-known, searched-more, searched-all}
+use Rattle.document.proofs.Searching.{Searched, searched-none, searched-free, searched-known, searched-more, searched-all}
 use Rattle.document.proofs.index.probe.Statement.{statement}
 use Rattle.document.proofs.index.probe.Tie as tie
 
