@@ -1,6 +1,5 @@
 // The run check's tests 21 to 26, each over the whole run.
 use crate::steps::STEP_CELLS;
-use crate::steps::Step;
 use crate::steps::count;
 use crate::steps::place;
 use crate::steps::row;
@@ -15,6 +14,7 @@ use automaton::tags_of;
 use document::rows;
 use document::rows::MAX_CHILDREN;
 use document::rows::Row;
+use document::rows::Step;
 use document::rows::UNUSED;
 ghost use mathlib.Core.Path.{_≡_};
 ghost use mathlib.Core.Bool.{false};
