@@ -1,17 +1,16 @@
 -- Steps to cells and back: what encodes a step decodes to it; and a step put behind others. Assumes nothing.
 use mathlib.Core.Path.{_≡_, refl, sym, ap, _∙_}
 use mathlib.Core.List.{List, [], _∷_, _++_, append-assoc}
-use Prim.Native.Nat.{ℕ, zero, suc, _+_, _*_, _/_, _<_, _≤_}
+use Prim.Native.Nat.{ℕ, suc, _+_, _*_, _/_, _<_, _≤_}
 use native.Mathlib.Omega.{arith}
 use lib.ListN.{length, getD, drop, length-append}
 use lib.Seq.{take-at, drop-append-add}
 use Rattle.model.specs.Limits.{maxChildren, unused}
-use Rattle.model.specs.Lists.{tab}
 use Rattle.model.specs.Written.{Step, stepAt}
 use Rattle.model.proofs.Tab.{tab-at}
 use Rattle.automaton.specs.Encode.{putAt}
 use Rattle.automaton.proofs.Parts.{tab-same, tab-is, length-concat, concat-at}
-use Rattle.document.specs.Rows.{used, placesOf}
+use Rattle.document.specs.Rows.{used}
 use Rattle.document.proofs.Encoding.{all-used, used-places}
 use Rattle.runs.specs.Steps.{stepCells, cellIn, placesIn, placeIn, stepIn, decodeSteps, encodeStep, encodeSteps, Fits}
 use Rattle.runs.proofs.Reading.{noStep}

@@ -12,10 +12,10 @@ use lib.ListN.{length, getD, set, drop, replicate, length-set, length-replicate,
 use lib.Seq.{getD-set-same, getD-set-other, drop-cons}
 use Rattle.model.specs.Limits.{maxChildren, maxSteps, unused}
 use Rattle.model.specs.Lists.{any, allBelow, anyBelow}
-use Rattle.model.specs.Written.{Step, stepAt}
+use Rattle.model.specs.Written.{Step}
 use Rattle.model.specs.WrittenTest.{uses?, used?}
 use Rattle.document.specs.Rows.{used}
-use Rattle.runs.specs.Steps.{placesIn, placeIn, stepIn, decodeSteps}
+use Rattle.runs.specs.Steps.{placesIn, placeIn, decodeSteps}
 use Rattle.runs.specs.Passes.{Counted, Marked}
 use Rattle.runs.proofs.Reading.{step-at}
 

@@ -1,21 +1,21 @@
 -- A run that the check does not turn away shows that the document is accepted; and every written run passes. Assumes nothing.
 use mathlib.Core.Path.{_≡_, refl, sym, ap, _∙_, subst}
 use mathlib.Core.Logic.{_⊎_, ⊎-elim}
-use mathlib.Core.List.{List, [], _∷_, List·Memᴰ as In}
-use mathlib.Core.Bool.{Bool, true, false, _&&_}
+use mathlib.Core.List.{List, [], _∷_}
+use mathlib.Core.Bool.{true, _&&_}
 use Prim.Native.Nat.{ℕ, zero, suc, _+_, _-_, _%_, _<_, _≤_}
 use native.Mathlib.Omega.{arith}
 use borrow.Author.Tests.{lt-ltb, le-leb, eq-eqb, ltb-true, leb-true, eqb-true}
 use lib.Dec.{eqb, leb, ltb, lt→ltb, eqb-refl}
 use lib.ListN.{length, getD, List·getD-eq-default}
-use Rattle.model.specs.Limits.{maxChildren, maxSteps, maxRows, maxRules, unused}
+use Rattle.model.specs.Limits.{maxChildren, maxSteps, unused}
 use Rattle.model.specs.Lists.{any, tab, allBelow}
 use Rattle.model.specs.Automaton.{Automaton, arityOf, final?, carries?}
 use Rattle.model.specs.Order.{place}
 use Rattle.model.specs.Run.{Accepts}
 use Rattle.model.specs.Sound.{Sound}
 use Rattle.model.specs.Table.{Row, treeOf, SoundTable}
-use Rattle.model.specs.Written.{Step, stepAt, noRule, ruleOf, rowOf, StepFits, WrittenRun}
+use Rattle.model.specs.Written.{Step, stepAt, noRule, ruleOf, rowOf, WrittenRun}
 use Rattle.model.specs.WrittenTest.{known?, childFits?, fits? as stepFits?, sameRow?, oneRow?, ends?, uses?, used?, written?}
 use Rattle.model.proofs.Members.{T-true, and-T, any-in}
 use Rattle.model.proofs.Tab.{tab-at, tab-past, length-tab, in-tab}
@@ -30,7 +30,7 @@ use Rattle.document.specs.Rows.{used, decodeRows}
 use Rattle.document.specs.Check.{documentCheckOf}
 use Rattle.document.proofs.Encoding.{all-used, used-places}
 use Rattle.document.proofs.Refusals.{passed, pass, both-passed, true-and}
-use Rattle.runs.specs.Steps.{stepCells, cellIn, placesIn, placeIn, decodeSteps, encodeSteps, Fits}
+use Rattle.runs.specs.Steps.{stepCells, cellIn, placeIn, decodeSteps, encodeSteps, Fits}
 use Rattle.runs.specs.Check.{counted?, child?, place?, fits?, runCheckOf, checkRunOf}
 use Rattle.runs.proofs.Reading.{step-at, place-cell}
 use Rattle.runs.proofs.Encoding.{length-encode, encoded-place, decode-encode}

@@ -1,7 +1,7 @@
 -- What a passed test hands on to the next. Assumes nothing.
-use mathlib.Core.Path.{_≡_, refl, sym, ap, _∙_}
+use mathlib.Core.Path.{_≡_, sym, ap, _∙_}
 use mathlib.Core.List.{List}
-use mathlib.Core.Bool.{Bool, true, false, _&&_}
+use mathlib.Core.Bool.{Bool, true, _&&_}
 use Prim.Native.Nat.{ℕ, _-_, _/_, _%_, _<_, _≤_}
 use native.Mathlib.Omega.{arith}
 use borrow.Author.Needs.{needs}
@@ -12,9 +12,8 @@ use lib.Dec.{eqb, leb, ltb}
 use lib.ListN.{length}
 use Rattle.model.specs.Limits.{maxSteps}
 use Rattle.model.specs.Lists.{allBelow}
-use Rattle.model.specs.Automaton.{Automaton, final?}
-use Rattle.model.specs.Table.{Row}
-use Rattle.model.specs.Written.{Step, stepAt, ruleOf}
+use Rattle.model.specs.Automaton.{final?}
+use Rattle.model.specs.Written.{stepAt, ruleOf}
 use Rattle.model.specs.WrittenTest.{known?, ends?}
 use Rattle.model.proofs.Below.{at}
 use Rattle.automaton.specs.Stored.{decode}

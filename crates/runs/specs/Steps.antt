@@ -1,5 +1,5 @@
 -- Lent steps: six 16-bit cells each, and the steps that they hold (document 01, section "Runs"). Assumes nothing.
-use mathlib.Core.List.{List, [], _∷_, List·Memᴰ as In}
+use mathlib.Core.List.{List, _∷_, List·Memᴰ as In}
 use Prim.Native.Nat.{ℕ, _+_, _*_, _/_, _<_, _≤_}
 use lib.ListN.{length, getD}
 use Rattle.model.specs.Limits.{maxChildren, unused}

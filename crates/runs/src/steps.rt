@@ -2,9 +2,13 @@
 use automaton::State;
 use automaton::rule_target;
 use document::rows::MAX_CHILDREN;
+use document::rows::PLACES;
 use document::rows::Row;
 use document::rows::Step;
 use document::rows::UNUSED;
+
+
+
 ghost use mathlib.Core.Path.{_≡_};
 ghost use Prim.Native.Nat.{_*_, _<_};
 ghost use lib.ListN.{length};
@@ -18,7 +22,7 @@ ghost use Rattle.runs.specs.Fields.{fieldCells};
 pub struct StepFields {
     pub rule: u16,
     pub row: Row,
-    pub places: [u16; 4],
+    pub places: [u16; PLACES],
 }
 
 pub const STEP_CELLS: usize = 6;
@@ -83,7 +87,7 @@ pub fn target(set: &[u8], run: &[u16], i: Step) -> State
 }
 
 // Makes the cells step i of the space; where they do not fit whole, nothing is written.
-fn put_cells(out: &mut [u16], i: Step, cells: [u16; 6])
+fn put_cells(out: &mut [u16], i: Step, cells: [u16; STEP_CELLS])
     ensures { λ r. ⌜ now (out .exit) ≡ putAt (now (out .entry)) (i .0 * stepCells) cells ⌝ }
 {
     let at = size(i.0) * STEP_CELLS;
