@@ -6,9 +6,6 @@ use document::rows::PLACES;
 use document::rows::Row;
 use document::rows::Step;
 use document::rows::UNUSED;
-
-
-
 ghost use mathlib.Core.Path.{_≡_};
 ghost use Prim.Native.Nat.{_*_, _<_};
 ghost use lib.ListN.{length};
