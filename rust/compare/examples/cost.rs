@@ -9,8 +9,8 @@ use compare::library::check::{check_automaton, check_document};
 const UNUSED: u16 = 65535;
 const ROUNDS: usize = 101;
 
-/// A set with one symbol for leaves and one with a child, one state, and a rule for each.
-fn chain_set() -> Vec<u8> {
+/// A set with symbols of 2, 0 and 1 children, one state, and a rule for each symbol.
+fn small_set() -> Vec<u8> {
     let mut bytes = Vec::new();
     for word in [3u16, 1, 0, 3, 16, 19, 21, 57] {
         bytes.extend(word.to_le_bytes());
@@ -29,7 +29,7 @@ fn chain_set() -> Vec<u8> {
     bytes
 }
 
-/// A sound table of 2n rows: n different counts, each but the first paired with all before it in a balanced tree.
+/// A sound table: leaves with different counts, joined in pairs to a balanced tree.
 fn balanced_rows(leaves: u16) -> Vec<u16> {
     let mut rows = Vec::new();
     let mut level: Vec<u16> = Vec::new();
@@ -65,7 +65,7 @@ fn median_micros(mut call: impl FnMut() -> Answer) -> f64 {
 }
 
 fn main() {
-    let set = chain_set();
+    let set = small_set();
     println!("set of {} bytes: {:.1}", set.len(), median_micros(|| check_automaton(&set)));
     for leaves in [64, 128, 256, 512] {
         let rows = balanced_rows(leaves);
