@@ -1,4 +1,4 @@
--- Marks of used rows: what one row's children add, and that a mark stands where some later row has the row as a child. Assumes nothing.
+-- Marks of what is used: what one number's places add, and that a mark stands where some later number has it in a place. Assumes nothing.
 use mathlib.Core.Path.{_≡_, refl, sym, ap, _∙_}
 use mathlib.Core.List.{List, [], _∷_}
 use mathlib.Core.Bool.{Bool, true, false, _&&_, _||_}
@@ -6,17 +6,17 @@ use Prim.Native.Nat.{ℕ, zero, suc, _+_, _-_, _<_, _≤_}
 use native.Mathlib.Numerals.{add-one}
 use native.Mathlib.Omega.{arith}
 use borrow.Author.Needs.{needs}
-use borrow.Author.Tests.{eqb-true, eqb-false, eq-eqb, lt-ltb, le-ltb}
+use borrow.Author.Tests.{eqb-true, eqb-false, eq-eqb, ne-eqb, lt-ltb, le-ltb}
 use lib.Dec.{eqb, ltb}
-use lib.ListN.{length, getD, set, replicate, length-set, length-replicate, getD-replicate}
-use lib.Seq.{getD-set-same, getD-set-other}
+use lib.ListN.{length, getD, set, drop, replicate, length-set, length-replicate, getD-replicate, drop-of-length-le}
+use lib.Seq.{getD-set-same, getD-set-other, drop-cons, set-out}
 use Rattle.model.specs.Limits.{maxChildren, maxRows, unused}
-use Rattle.model.specs.Table
+use Rattle.model.specs.Table.{Row, rowAt}
 use Rattle.model.specs.Lists.{allBelow, anyBelow}
-use Rattle.document.specs.Rows.{rowIn, decodeRows}
-use Rattle.document.specs.Check.{placeIn, uses?, used?}
+use Rattle.document.specs.Rows.{used, placesIn, decodeRows}
+use Rattle.document.specs.Check.{uses?, used?}
 use Rattle.document.specs.Marks.{Counted, Marked}
-use Rattle.document.proofs.Places.{row-at, rows-length, restIn, rest-first, rest-last, rest-stop, rest-more}
+use Rattle.document.proofs.Places.{row-at, rows-length}
 
 or-false : (a : Bool) → (a || false) ≡ a
 or-false true = refl
@@ -30,7 +30,7 @@ and-false : (a : Bool) → (a && false) ≡ false
 and-false true = refl
 and-false false = refl
 
-pub uses-none : (j i : ℕ) → uses? j [] i ≡ false
+uses-none : (j i : ℕ) → uses? j [] i ≡ false
 unfolding uses?
 uses-none j i = and-false (ltb i j)
 
@@ -46,91 +46,123 @@ uses-other : (j i x : ℕ) (cs : List ℕ) → eqb i x ≡ false → uses? j (x 
 unfolding uses?
 uses-other j i x cs e = simp e
 
--- at the head of the loop over the places of row j: the marks, and what the places from k on add
-pub record Marking (cells : List ℕ) (j : ℕ) (before : List Bool) (used : List Bool) (k : ℕ) : Type 0 where
-  pub long : length used ≡ length before
-  pub so-far : (i : ℕ) → i < length before → (getD used i false || uses? j (restIn cells j k) i) ≡ (getD before i false || uses? j ((rowIn cells j) .children) i)
+-- the places from k on, up to the first unused one
+module _ (ps : List ℕ) (k : ℕ) where
+  rest-last : length ps ≤ k → used (drop k ps) ≡ []
+  rest-last l = ap used (drop-of-length-le ps l)
 
-module _ (cells : List ℕ) (j : ℕ) (before : List Bool) where
-  pub marking-none : Marking cells j before before 0
-  marking-none = record { long = refl; so-far = λ i l. ap (λ cs. getD before i false || uses? j cs i) (sym (rest-first cells j)) }
+  rest-stop : k < length ps → getD ps k 0 ≡ unused → used (drop k ps) ≡ []
+  rest-stop l u = ap used (drop-cons ps k 0 l) ∙ simp (eq-eqb (getD ps k 0) unused u)
 
-  marked-when : (used : List Bool) (k : ℕ) → Marking cells j before used k → restIn cells j k ≡ [] → Marked j ((rowIn cells j) .children) before used
-  marked-when used k h e i l =
-      sym (or-false (getD used i false)) ∙ ap (λ b. getD used i false || b) (sym (uses-none j i) ∙ ap (λ cs. uses? j cs i) (sym e)) ∙ h .so-far i l
+  rest-more : k < length ps → (getD ps k 0 ≡ unused → ⊥) → used (drop k ps) ≡ getD ps k 0 ∷ used (drop (k + 1) ps)
+  rest-more l u = ap used (drop-cons ps k 0 l) ∙ simp (ne-eqb (getD ps k 0) unused u, add-one)
 
-  pub marked-stop : (used : List Bool) (k x : ℕ) → Marking cells j before used k → k < maxChildren → x ≡ placeIn cells j k → x ≡ unused → Marked j ((rowIn cells j) .children) before used
-  marked-stop used k x h l e u = marked-when used k h (rest-stop cells j k x l e u)
+-- at the head of the loop over the places ps of j: the marks, and what the places from k on add
+pub record Marking (ps : List ℕ) (j : ℕ) (before marks : List Bool) (k : ℕ) : Type 0 where
+  pub wide : length ps ≡ maxChildren
+  pub long : length marks ≡ length before
+  pub so-far : (i : ℕ) → i < length before → (getD marks i false || uses? j (used (drop k ps)) i) ≡ (getD before i false || uses? j (used ps) i)
 
-  pub marked-all : (used : List Bool) (k : ℕ) → Marking cells j before used k → maxChildren ≤ k → Marked j ((rowIn cells j) .children) before used
-  marked-all used k h l = marked-when used k h (rest-last cells j k l)
+module _ (ps : List ℕ) (j : ℕ) (before : List Bool) where
+  pub marking-none : length ps ≡ maxChildren → Marking ps j before before 0
+  marking-none w = record { wide = w; long = refl; so-far = λ i l. refl }
 
-  -- place k holds x: the marks used′ have one more where x is lower than j
-  module _ (used used′ : List Bool) (k x : ℕ) (h : Marking cells j before used k) (l : k < maxChildren) (e : x ≡ placeIn cells j k) (u : x ≡ unused → ⊥) where
-    step : ((i : ℕ) → i < length before → (getD used′ i false || uses? j (restIn cells j (k + 1)) i) ≡ (getD used i false || uses? j (x ∷ restIn cells j (k + 1)) i)) → length used′ ≡ length before → Marking cells j before used′ (k + 1)
-    step g w = record { long = w; so-far = λ i m. g i m ∙ rw (← rest-more cells j k x l e u) (h .so-far i m) }
+  module _ (marks : List Bool) (k : ℕ) (h : Marking ps j before marks k) where
+    marked-when : used (drop k ps) ≡ [] → Marked j (used ps) before marks
+    marked-when e i l =
+        sym (or-false (getD marks i false)) ∙ ap (λ (b : Bool). getD marks i false || b) (sym (uses-none j i) ∙ ap (λ (cs : List ℕ). uses? j cs i) (sym e)) ∙ h .so-far i l
 
-  pub marking-more : (used : List Bool) (k x y : ℕ) → Marking cells j before used k → k < maxChildren → x ≡ placeIn cells j k → (x ≡ unused → ⊥) → x < j → j ≤ length before → y ≡ x → Marking cells j before (set used y true) (k + 1)
-  marking-more used k x y h l e u low r q =
-      rw q (step used (set used x true) k x h l e u (λ i m. one i (eqb i x) refl) (length-set used x true ∙ h .long))
-    where
-      one : (i : ℕ) (b : Bool) → eqb i x ≡ b → (getD (set used x true) i false || uses? j (restIn cells j (k + 1)) i) ≡ (getD used i false || uses? j (x ∷ restIn cells j (k + 1)) i)
-      one i true q =
-          let s : i ≡ x = eqb-true i x q in
-          rw (s, getD-set-same used x true false (rw (h .long) (omega arith)), uses-this j x x (restIn cells j (k + 1)) refl low, or-true)
-      one i false q = rw (getD-set-other used x i true false (eqb-false i x q), uses-other j i x (restIn cells j (k + 1)) q)
+    pub marked-all : maxChildren ≤ k → Marked j (used ps) before marks
+    marked-all l = marked-when (rest-last ps k (omega (arith, h .wide)))
 
-  pub marking-same : (used : List Bool) (k x : ℕ) → Marking cells j before used k → k < maxChildren → x ≡ placeIn cells j k → (x ≡ unused → ⊥) → j ≤ x → Marking cells j before used (k + 1)
-  marking-same used k x h l e u high = step used used k x h l e u (λ i m. one i (eqb i x) refl) (h .long)
-    where
-      one : (i : ℕ) (b : Bool) → eqb i x ≡ b → (getD used i false || uses? j (restIn cells j (k + 1)) i) ≡ (getD used i false || uses? j (x ∷ restIn cells j (k + 1)) i)
-      one i true q =
-          let s : i ≡ x = eqb-true i x q in
-          rw (s, uses-high j x (restIn cells j (k + 1)) high, uses-high j x (x ∷ restIn cells j (k + 1)) high)
-      one i false q = rw (uses-other j i x (restIn cells j (k + 1)) q)
+    -- place k holds x
+    module _ (x : ℕ) (l : k < maxChildren) (e : x ≡ getD ps k 0) where
+      inside : k < length ps
+      inside = omega (arith, h .wide)
+
+      pub marked-stop : x ≡ unused → Marked j (used ps) before marks
+      marked-stop u = marked-when (rest-stop ps k inside (sym e ∙ u))
+
+      -- in use: the marks marks′ have it too where it is lower than j
+      module _ (u : x ≡ unused → ⊥) where
+        step : (marks′ : List Bool) → ((i : ℕ) → i < length before → (getD marks′ i false || uses? j (used (drop (k + 1) ps)) i) ≡ (getD marks i false || uses? j (x ∷ used (drop (k + 1) ps)) i)) → length marks′ ≡ length before → Marking ps j before marks′ (k + 1)
+        step marks′ g w =
+            let more : used (drop k ps) ≡ x ∷ used (drop (k + 1) ps) = rest-more ps k inside (λ q. u (e ∙ q)) ∙ ap (λ (y : ℕ). y ∷ used (drop (k + 1) ps)) (sym e) in
+            record { wide = h .wide; long = w; so-far = λ i m. g i m ∙ ap (λ (cs : List ℕ). getD marks i false || uses? j cs i) (sym more) ∙ h .so-far i m }
+
+        pub marking-more : (marks′ : List Bool) → x < j → marks′ ≡ set marks x true → Marking ps j before marks′ (k + 1)
+        marking-more marks′ low q =
+            step marks′ (λ i m. ap (λ (ms : List Bool). getD ms i false || uses? j (used (drop (k + 1) ps)) i) q ∙ one i m (eqb i x) refl) (ap length q ∙ length-set marks x true ∙ h .long)
+          where
+            one : (i : ℕ) → i < length before → (b : Bool) → eqb i x ≡ b → (getD (set marks x true) i false || uses? j (used (drop (k + 1) ps)) i) ≡ (getD marks i false || uses? j (x ∷ used (drop (k + 1) ps)) i)
+            one i m true q =
+                let s : i ≡ x = eqb-true i x q in
+                let m′ : x < length marks = rw (h .long) (omega arith) in
+                rw (s, getD-set-same marks x true false m′, uses-this j x x (used (drop (k + 1) ps)) refl low, or-true)
+            one i m false q = rw (getD-set-other marks x i true false (eqb-false i x q), uses-other j i x (used (drop (k + 1) ps)) q)
+
+        pub marking-same : j ≤ x → Marking ps j before marks (k + 1)
+        marking-same high = step marks (λ i m. one i (eqb i x) refl) (h .long)
+          where
+            one : (i : ℕ) (b : Bool) → eqb i x ≡ b → (getD marks i false || uses? j (used (drop (k + 1) ps)) i) ≡ (getD marks i false || uses? j (x ∷ used (drop (k + 1) ps)) i)
+            one i true q =
+                let s : i ≡ x = eqb-true i x q in
+                rw (s, uses-high j x (used (drop (k + 1) ps)) high, uses-high j x (x ∷ used (drop (k + 1) ps)) high)
+            one i false q = rw (uses-other j i x (used (drop (k + 1) ps)) q)
 
 same-below : (n : ℕ) (p q : ℕ → Bool) → ((i : ℕ) → i < n → p i ≡ q i) → allBelow n p ≡ allBelow n q
 unfolding allBelow
 same-below zero p q h = refl
 same-below (suc n) p q h = cc (same-below n p q (λ i l. h i (omega arith)), h n (omega arith))
 
--- the marks after the rows below j
-pub record MarkedBelow (cells : List ℕ) (used : List Bool) (j : ℕ) : Type 0 where
-  pub long : length used ≡ maxRows
-  pub so-far : (i : ℕ) → i < maxRows → getD used i false ≡ anyBelow j (λ j. uses? j ((rowIn cells j) .children) i)
-
 any-same : (n : ℕ) (p q : ℕ → Bool) → ((i : ℕ) → i < n → p i ≡ q i) → anyBelow n p ≡ anyBelow n q
 unfolding anyBelow
 any-same zero p q h = refl
 any-same (suc n) p q h = cc (any-same n p q (λ i l. h i (omega arith)), h n (omega arith))
 
-module _ (cells : List ℕ) where
-  pub below-first : MarkedBelow cells (replicate maxRows false) 0
+-- m marks after the first j of n numbers, whose places are `at`
+pub record MarkedBelow (at : ℕ → List ℕ) (n m : ℕ) (marks : List Bool) (j : ℕ) : Type 0 where
+  pub inside : j ≤ n
+  pub long : length marks ≡ m
+  pub so-far : (i : ℕ) → i < m → getD marks i false ≡ anyBelow j (λ j. uses? j (used (at j)) i)
+
+module _ (at : ℕ → List ℕ) (n m : ℕ) where
+  pub below-first : MarkedBelow at n m (replicate m false) 0
   unfolding anyBelow
-  below-first = record { long = length-replicate maxRows false; so-far = λ i l. getD-replicate maxRows i false false l }
+  below-first = record { inside = omega arith; long = length-replicate m false; so-far = λ i l. getD-replicate m i false false l }
 
-  pub below-next : (used used′ : List Bool) (j : ℕ) → MarkedBelow cells used j → Marked j ((rowIn cells j) .children) used used′ → length used′ ≡ length used → MarkedBelow cells used′ (j + 1)
-  unfolding anyBelow
-  below-next used used′ j h m l =
-      record {
-        long = l ∙ h .long;
-        so-far = λ i k. rw add-one (m i (rw (h .long) k) ∙ ap (λ b. b || uses? j ((rowIn cells j) .children) i) (h .so-far i k));
-      }
+  module _ (marks : List Bool) (j : ℕ) (h : MarkedBelow at n m marks j) where
+    pub below-next : (marks′ : List Bool) (ps : List ℕ) → j < n → ps ≡ at j → Marked j (used ps) marks marks′ → length marks′ ≡ length marks → MarkedBelow at n m marks′ (j + 1)
+    unfolding anyBelow
+    below-next marks′ ps lj e k l =
+        record {
+          inside = omega arith;
+          long = l ∙ h .long;
+          so-far = λ i li. rw add-one (k i (rw (h .long) li) ∙ (λ z. h .so-far i li z || uses? j (used (e z)) i));
+        }
 
-  -- each row but the last is marked exactly where each row but the last is used
-  pub all-marked : (used : List Bool) (n j m : ℕ) (r : Bool) → Counted cells n → MarkedBelow cells used j → n ≤ j → j ≤ n → m ≡ n - 1 → r ≡ allBelow m (λ i. getD used i false) → r ≡ allBelow (length (decodeRows cells) - 1) (used? (decodeRows cells))
-  unfolding used?
-  all-marked used n j m r c h lo hi f q =
-      let e : n ≡ j = omega arith in
-      q
-      ∙ same-below m (λ i. getD used i false) (used? (decodeRows cells))
-      (λ i l. h .so-far i (omega (arith, c .few)) ∙ any-rows e i)
-      ∙ ap (λ k. allBelow k (used? (decodeRows cells))) (f ∙ ap (λ k. k - 1) (c .rows ∙ sym (rows-length cells)))
-    where
-      any-rows : n ≡ j → (i : ℕ) → anyBelow j (λ j. uses? j ((rowIn cells j) .children) i) ≡ used? (decodeRows cells) i
-      any-rows e i =
-          any-same j (λ j. uses? j ((rowIn cells j) .children) i) (λ j. uses? j (Table.rowAt (decodeRows cells) j .children) i)
-          (λ k l. ap (λ r. uses? k (r .children) i) (sym (row-at cells k (omega (arith, c .rows)))))
-          ∙ ap (λ k. anyBelow k (λ j. uses? j (Table.rowAt (decodeRows cells) j .children) i)) (sym e ∙ c .rows ∙ sym (rows-length cells))
+    -- each number but the last is marked exactly where it is used; cs is what the places hold
+    pub all-marked : (cs : ℕ → List ℕ) (k : ℕ) (r : Bool) → n ≤ m → ((i : ℕ) → i < n → used (at i) ≡ cs i) → n ≤ j → k ≡ n - 1 → r ≡ allBelow k (λ i. getD marks i false) → r ≡ allBelow (n - 1) (λ i. anyBelow n (λ j. uses? j (cs j) i))
+    all-marked cs k r few same last f q =
+        let e : j ≡ n = omega (arith, h .inside) in
+        q
+        ∙ same-below k (λ i. getD marks i false) (λ i. anyBelow n (λ j. uses? j (cs j) i))
+        (λ i l.
+        h .so-far i (omega arith)
+        ∙ ap (λ (z : ℕ). anyBelow z (λ j. uses? j (used (at j)) i)) e
+        ∙ any-same n (λ j. uses? j (used (at j)) i) (λ j. uses? j (cs j) i) (λ y ly. ap (λ (xs : List ℕ). uses? y xs i) (same y ly)))
+        ∙ ap (λ (z : ℕ). allBelow z (λ i. anyBelow n (λ j. uses? j (cs j) i))) f
 
-pub ruleset markings = (marking-none, marked-stop, marked-all, marking-more, marking-same, below-first, below-next, all-marked, needs)
+-- a mark past the end is none
+pub set-past : (marks : List Bool) (a i : ℕ) → a ≡ i → length marks ≤ a → marks ≡ set marks i true
+set-past marks a i e l = sym (set-out marks i true (omega arith))
+
+pub ruleset markings = (set-past, marking-none, marked-stop, marked-all, marking-more, marking-same, below-first, below-next, needs)
+
+-- 16: the marks of the rows of a table
+pub rows-marked : (cells : List ℕ) (n : ℕ) (marks : List Bool) (j k : ℕ) (r : Bool) → Counted cells n → MarkedBelow (placesIn cells) n maxRows marks j → n ≤ j → k ≡ n - 1 → r ≡ allBelow k (λ i. getD marks i false) → r ≡ allBelow (length (decodeRows cells) - 1) (used? (decodeRows cells))
+unfolding used?
+rows-marked cells n marks j k r c h last f q =
+    all-marked (placesIn cells) n maxRows marks j h (λ i. (rowAt (decodeRows cells) i) .children) k r (c .few)
+    (λ i l. ap (λ (x : Row). x .children) (sym (row-at cells i (omega (arith, c .rows))))) last f q
+    ∙ ap (λ (z : ℕ). allBelow (z - 1) (λ i. anyBelow z (λ j. uses? j ((rowAt (decodeRows cells) j) .children) i))) (c .rows ∙ sym (rows-length cells))

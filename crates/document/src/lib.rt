@@ -5,6 +5,7 @@ pub mod hash; // hash.rt: the hash of a row
 pub mod fields; // fields.rt: a row by value
 pub mod index; // index.rt: the index of a table's rows
 pub mod builder; // builder.rt: the table builder
+pub mod marks; // marks.rt: marks of what is used
 mod tests; // tests.rt: the four tests of a table
 
 use automaton::Checked;

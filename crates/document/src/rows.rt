@@ -100,7 +100,7 @@ fn scalar_of(kind: u16, payload: u64) -> Scalar
 }
 
 // The four places of row i.
-fn places_of(rows: &[u16], i: Row) -> [u16; PLACES]
+pub(crate) fn places_of(rows: &[u16], i: Row) -> [u16; PLACES]
     ensures { λ r. ⌜ r ≡ placesIn (now (rows .entry)) (i .0) ⌝ }
 {
     [

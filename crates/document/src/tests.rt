@@ -4,6 +4,8 @@ use crate::index::Probed;
 use crate::index::SLOTS;
 use crate::index::probe;
 use crate::index::start_slot;
+use crate::marks::all_marked;
+use crate::marks::mark;
 use crate::rows::MAX_CHILDREN;
 use crate::rows::MAX_ROWS;
 use crate::rows::ROW_CELLS;
@@ -14,6 +16,7 @@ use crate::rows::fields_at;
 use crate::rows::kind;
 use crate::rows::payload;
 use crate::rows::place;
+use crate::rows::places_of;
 use crate::rows::size;
 use crate::rows::symbol;
 use crate::scalar::Decoded;
@@ -34,7 +37,7 @@ ghost use Rattle.automaton.specs.Check.{checkOf};
 ghost use Rattle.document.specs.Rows.{rowIn, decodeRows};
 ghost use Rattle.document.specs.Index.{probe};
 ghost use Rattle.document.specs.Check.{rowCount, counted?, known?, place?, child?, children?, fits?, scalarFits?, formCheckOf, fresh?, distinctCheckOf, used?, usedCheckOf, levelsCheckOf, tableCheckOf};
-ghost use Rattle.document.specs.Marks.{Counted, AllScalars, sameAs, startOf, Marked, highestOf};
+ghost use Rattle.document.specs.Marks.{Counted, AllScalars, sameAs, startOf, highestOf};
 
 const MAX_LEVELS: u16 = 256;
 
@@ -217,49 +220,6 @@ pub(crate) fn distinct(rows: &[u16], n: u16) -> u16
     if all_distinct(rows, n) { 0 } else { 15 }
 }
 
-// Marks each child of row j that is lower than it.
-fn mark(rows: &[u16], j: u16, used: &mut [bool])
-    requires { ⌜ j ≤ length (now used) ⌝ }
-    ensures { λ r. ⌜ Marked j ((rowIn (now (rows .entry)) j) .children) (now (used .entry)) (now (used .exit)) ⌝ }
-{
-    let n = MAX_CHILDREN;
-    let mut k = 0;
-    while k < n {
-        let c = place(rows, Row(j), k);
-        k += 1;
-        if c.0 == UNUSED {
-            return;
-        }
-        if c.0 < j {
-            used[size(c.0)] = true;
-        }
-    }
-}
-
-fn is_marked(used: &[bool], i: u16) -> bool
-    ensures { λ r. ⌜ r ≡ getD (now (used .entry)) i false ⌝ }
-{
-    let at = size(i);
-    if at < used.len() {
-        return used[at];
-    }
-    false
-}
-
-fn all_marked(used: &[bool], n: u16) -> bool
-    ensures { λ r. ⌜ r ≡ allBelow n (λ i. getD (now (used .entry)) i false) ⌝ }
-{
-    let mut i = 0;
-    while i < n {
-        if is_marked(used, i) {
-            i += 1;
-        } else {
-            return false;
-        }
-    }
-    true
-}
-
 // 16: one pass marks the children of every row, then every row but the last must be marked.
 fn all_used(rows: &[u16], n: u16) -> bool
     requires { ⌜ Counted (now rows) n ⌝ }
@@ -268,7 +228,8 @@ fn all_used(rows: &[u16], n: u16) -> bool
     let mut used = [false; MAX_ROWS];
     let mut j = 0;
     while j < n {
-        mark(rows, j, &mut used);
+        let places = places_of(rows, Row(j));
+        mark(&mut used, j, places);
         j += 1;
     }
     all_marked(&used, n - 1)

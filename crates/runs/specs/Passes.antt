@@ -1,7 +1,7 @@
 -- What the passes of the run check ask, and what they leave in their scratch. Assumes nothing.
 use mathlib.Core.Path.{_≡_}
 use mathlib.Core.List.{List}
-use mathlib.Core.Bool.{Bool, true, false, _||_, not, cond}
+use mathlib.Core.Bool.{Bool, true, _||_, not, cond}
 use Prim.Native.Nat.{ℕ, _<_, _≤_}
 use lib.Dec.{eqb}
 use lib.ListN.{length, getD}
@@ -9,7 +9,7 @@ use Rattle.model.specs.Limits.{maxSteps, unused}
 use Rattle.model.specs.Lists.{allBelow}
 use Rattle.model.specs.Automaton.{Automaton, bit?}
 use Rattle.model.specs.Written.{Step, stepAt}
-use Rattle.model.specs.WrittenTest.{known?, uses?}
+use Rattle.model.specs.WrittenTest.{known?}
 use Rattle.automaton.specs.Stored.{decode}
 use Rattle.document.specs.Rows.{decodeRows}
 use Rattle.document.specs.Check.{documentCheckOf}
@@ -49,7 +49,3 @@ mayGo? held mask i k = not (bit? mask k) || (eqb (getD held k 0) unused || eqb (
 -- after the tags below n that the mask has went to row i
 abbrev pub Gone : ℕ → ℕ → ℕ → List ℕ → List ℕ → Type 0
 Gone n mask i before after = (k : ℕ) → k < n → getD after k 0 ≡ cond (bit? mask k) i (getD before k 0)
-
--- after the lower steps that step j uses are marked
-abbrev pub Marked : List Step → ℕ → List Bool → List Bool → Type 0
-Marked run j before after = (i : ℕ) → i < length before → getD after i false ≡ (getD before i false || uses? run i j)

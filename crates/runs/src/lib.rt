@@ -10,6 +10,7 @@ pub mod steps; // steps.rt: lent steps, by index
 mod tests; // tests.rt: the tests 21 to 26, each over the whole run
 
 use automaton::Checked;
+
 // The tests of the run, in their order, where the set and the table are sound.
 fn tried(set: &[u8], rows: &[u16], run: &[u16]) -> Checked
     requires { ⌜ documentCheckOf (now set) (now rows) ≡ 0 ⌝ }

@@ -12,7 +12,7 @@ ghost use lib.ListN.{length};
 ghost use Rattle.model.specs.Written.{stepAt, ruleOf};
 ghost use Rattle.automaton.specs.Stored.{decode};
 ghost use Rattle.automaton.specs.Encode.{putAt};
-ghost use Rattle.runs.specs.Steps.{stepCells, cellIn, placeIn, decodeSteps};
+ghost use Rattle.runs.specs.Steps.{stepCells, cellIn, placesIn, placeIn, decodeSteps};
 ghost use Rattle.runs.specs.Fields.{fieldCells};
 
 // A step by value; an unused place holds UNUSED.
@@ -74,6 +74,18 @@ pub fn place(run: &[u16], i: Step, k: u16) -> Step
         return Step(cell(run, i, 2 + k));
     }
     Step(UNUSED)
+}
+
+// The four places of step i.
+pub fn places(run: &[u16], i: Step) -> [u16; PLACES]
+    ensures { λ r. ⌜ r ≡ placesIn (now (run .entry)) (i .0) ⌝ }
+{
+    [
+        cell(run, i, 2),
+        cell(run, i, 3),
+        cell(run, i, 4),
+        cell(run, i, 5),
+    ]
 }
 
 // The state that step i leads to.

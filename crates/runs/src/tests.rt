@@ -2,6 +2,7 @@
 use crate::steps::STEP_CELLS;
 use crate::steps::count;
 use crate::steps::place;
+use crate::steps::places;
 use crate::steps::row;
 use crate::steps::rule;
 use crate::steps::size;
@@ -11,6 +12,8 @@ use automaton::is_final;
 use automaton::rule_child;
 use automaton::rule_symbol;
 use automaton::tags_of;
+use document::marks::all_marked;
+use document::marks::mark;
 use document::rows;
 use document::rows::MAX_CHILDREN;
 use document::rows::Row;
@@ -19,7 +22,7 @@ use document::rows::UNUSED;
 ghost use mathlib.Core.Path.{_≡_};
 ghost use mathlib.Core.Bool.{false};
 ghost use Prim.Native.Nat.{_-_, _<_, _≤_};
-ghost use lib.ListN.{length, getD};
+ghost use lib.ListN.{length};
 ghost use Rattle.model.specs.Limits.{maxChildren};
 ghost use Rattle.model.specs.Lists.{allBelow};
 ghost use Rattle.model.specs.Automaton.{bit?};
@@ -28,7 +31,7 @@ ghost use Rattle.automaton.specs.Stored.{decode};
 ghost use Rattle.document.specs.Rows.{decodeRows};
 ghost use Rattle.runs.specs.Steps.{decodeSteps};
 ghost use Rattle.runs.specs.Check.{counted?, place?, fits?};
-ghost use Rattle.runs.specs.Passes.{Counted, Known, Ready, Tagged, tagPlaces, mayGo?, Gone, Marked};
+ghost use Rattle.runs.specs.Passes.{Counted, Known, Ready, Tagged, tagPlaces, mayGo?, Gone};
 
 const MAX_STEPS: usize = 4096;
 
@@ -207,49 +210,6 @@ pub(crate) fn ends(set: &[u8], rows: &[u16], run: &[u16], n: u16) -> bool
     (size(on.0) == rows::count(rows) - 1) & is_final(set, target(set, run, last))
 }
 
-// Marks each lower step that step j uses.
-fn mark(run: &[u16], j: Step, used: &mut [bool])
-    requires { ⌜ (j .0 < length (decodeSteps (now run))) × (j .0 ≤ length (now used)) ⌝ }
-    ensures { λ r. ⌜ Marked (decodeSteps (now (run .entry))) (j .0) (now (used .entry)) (now (used .exit)) ⌝ }
-{
-    let n = MAX_CHILDREN;
-    let mut k = 0;
-    while k < n {
-        let x = place(run, j, k);
-        k += 1;
-        if x.0 == UNUSED {
-            return;
-        }
-        if x.0 < j.0 {
-            used[size(x.0)] = true;
-        }
-    }
-}
-
-fn is_marked(used: &[bool], i: u16) -> bool
-    ensures { λ r. ⌜ r ≡ getD (now (used .entry)) i false ⌝ }
-{
-    let at = size(i);
-    if at < used.len() {
-        return used[at];
-    }
-    false
-}
-
-fn all_marked(used: &[bool], n: u16) -> bool
-    ensures { λ r. ⌜ r ≡ allBelow n (λ i. getD (now (used .entry)) i false) ⌝ }
-{
-    let mut i = 0;
-    while i < n {
-        if is_marked(used, i) {
-            i += 1;
-        } else {
-            return false;
-        }
-    }
-    true
-}
-
 // 26: one pass marks what every step uses, then every step but the last must be marked.
 pub(crate) fn all_used(run: &[u16], n: u16) -> bool
     requires { ⌜ Counted (decodeSteps (now run)) n ⌝ }
@@ -258,7 +218,8 @@ pub(crate) fn all_used(run: &[u16], n: u16) -> bool
     let mut used = [false; MAX_STEPS];
     let mut j = 0;
     while j < n {
-        mark(run, Step(j), &mut used);
+        let taken = places(run, Step(j));
+        mark(&mut used, j, taken);
         j += 1;
     }
     all_marked(&used, n - 1)

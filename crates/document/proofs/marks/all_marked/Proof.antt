@@ -1,10 +1,10 @@
--- `document::tests::all_marked` meets its contract. Assumes nothing.
+-- `document::marks::all_marked` meets its contract. Assumes nothing.
 use Prim.Native.Nat.{_-_}
 use mathlib.Core.Bool.{false}
 use lib.ListN.{getD}
 use Rattle.model.proofs.Below.{Passed, loops}
-use Rattle.document.proofs.tests.all_marked.Statement.{statement}
-use Rattle.document.proofs.tests.all_marked.Tie as tie
+use Rattle.document.proofs.marks.all_marked.Statement.{statement}
+use Rattle.document.proofs.marks.all_marked.Tie as tie
 
 abbrev Inv-loop : tie.InvT-loop
 Inv-loop used n i₀ i = Passed (λ i. getD used i false) n n i
