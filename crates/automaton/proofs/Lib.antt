@@ -12,3 +12,4 @@ pub mod Encoded
 pub mod RoundTrip
 pub mod Bytes
 pub mod Known
+pub mod Held

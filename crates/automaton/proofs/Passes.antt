@@ -153,15 +153,15 @@ passing s p =
     (all-of (ruleCount s - 1) (ascendsAt s) (λ i l. p .ascends i (omega arith)))
     refl))))))
 
--- a place of a rule, of the values that were read: the place x, the symbol f, its arity a, the states q
-module _ (s : List ℕ) (i k x f a q : ℕ) (ex : x ≡ placeWord s i k) (ef : f ≡ ruleWord s i 0) (ea : a ≡ symbolByte s f) where
+-- a place of a rule, of the values that were read: the place x, the arity a of its symbol, the states q
+module _ (s : List ℕ) (i k x a q : ℕ) (ex : x ≡ placeWord s i k) (ea : a ≡ symbolByte s (ruleWord s i 0)) where
   pub place-used : q ≡ stateCount s → k < a → ltb x q ≡ placeOk s i k
   unfolding placeOk
-  place-used eq l = rw (← ef, ← ea, lt-ltb k a l, ex, eq)
+  place-used eq l = rw (← ea, lt-ltb k a l, ex, eq)
 
   pub place-free : a ≤ k → eqb x unused ≡ placeOk s i k
   unfolding placeOk
-  place-free l = rw (← ef, ← ea, le-ltb k a l, ex)
+  place-free l = rw (← ea, le-ltb k a l, ex)
 
 -- the bound b of masks, of the tags t that were read
 pub bound-is : (t m b : ℕ) → t ≡ m → b ≡ 2 ^ t → b ≡ 2 ^ m

@@ -1,13 +1,15 @@
--- Numbers as bytes: what stands where in a list of encoded words, and a word read back. Assumes nothing.
+-- Numbers as bytes: what stands where in a list of encoded words, a word read back, and the number at a place. Assumes nothing.
 use mathlib.Core.Path.{_≡_, refl, sym, ap, _∙_}
 use mathlib.Core.List.{List, [], _∷_, _++_}
-use Prim.Native.Nat.{ℕ, zero, suc, _+_, _*_, _/_, _%_, _<_}
+use Prim.Native.Nat.{ℕ, zero, suc, _+_, _*_, _/_, _%_, _≤_, _<_}
 use native.Mathlib.Nat.{zero-add, mod-eq-of-lt, div-eq-of-lt, add-mul-mod-self-left, add-mul-div-left}
 use native.Mathlib.Omega.{arith}
-use lib.ListN.{length, getD}
+use lib.ListN.{length, getD, List·getD-eq-default}
 use Rattle.model.specs.Lists.{concatMap, tab}
 use Rattle.automaton.proofs.Parts.{tab-of}
 use Rattle.automaton.specs.Form.{headerWidth, statesOffset, rulesOffset, totalLength}
+use Rattle.automaton.specs.Stored.{word}
+use Rattle.automaton.specs.Number.{NumberAt}
 use Rattle.automaton.specs.Encode.{encodeWord, encodeHeader, encodePlaces}
 
 pub length-words : (ws : List ℕ) → length (concatMap encodeWord ws) ≡ 2 * length ws
@@ -54,3 +56,12 @@ bytes-back a b la lb =
     let low : (a + 256 * b) % 256 ≡ a = add-mul-mod-self-left a 256 b ∙ mod-eq-of-lt la in
     let high : (a + 256 * b) / 256 % 256 ≡ b = rw (add-mul-div-left a b {y = 256} (omega arith), div-eq-of-lt la, zero-add) (mod-eq-of-lt lb) in
     cc
+
+-- the number at a place where its low byte is the last, and past the end
+module _ (s : List ℕ) (k : ℕ) where
+  pub number-last : (n : ℕ) → length s ≤ k + 1 → n ≡ getD s k 0 → n < 256 → NumberAt s k n
+  unfolding word
+  number-last n l e m = let z = List·getD-eq-default s 0 l in (omega arith, mod-eq-of-lt m ∙ e)
+
+  pub number-past : length s ≤ k → NumberAt s k 0
+  number-past l = number-last 0 (omega arith) (sym (List·getD-eq-default s 0 l)) (omega arith)

@@ -7,20 +7,25 @@ ghost use Rattle.model.specs.Limits.{maxChildren};
 ghost use Rattle.model.specs.Lists.{tab};
 ghost use Rattle.model.specs.Order.{place};
 ghost use Rattle.model.specs.Written.{ruleAt};
-ghost use Rattle.automaton.specs.Stored.{placeOf, decode};
+ghost use Rattle.automaton.specs.Stored.{rulesAt, placeOf, decode};
 ghost use Rattle.automaton.specs.Check.{checkOf};
 ghost use Rattle.automaton.specs.Window.{FirstFrom};
 ghost use Rattle.automaton.specs.Answer.{refusalOf, checkedOf, Counts, Holds};
 
 mod raw;
+pub mod reader;
+mod slice;
 mod tests;
 pub mod write;
 
 use raw::header_word;
 use raw::place_word;
 use raw::rule_word;
+use raw::rules_at;
 use raw::state_byte;
+use raw::states_at;
 use raw::symbol_byte;
+use raw::symbols_at;
 
 // The limits and widths of the form.
 pub const MAX_SYMBOLS: u16 = 64;
@@ -116,7 +121,7 @@ pub fn arity(set: &[u8], symbol: u16) -> u16
     ensures { λ r. ⌜ r ≡ arityOf (decode (now (set .entry))) symbol ⌝ }
 {
     if symbol < header_word(set, 0) {
-        symbol_byte(set, symbol)
+        symbol_byte(set, symbols_at(set), symbol)
     } else {
         0
     }
@@ -126,7 +131,7 @@ pub fn is_final(set: &[u8], q: State) -> bool
     ensures { λ r. ⌜ r ≡ final? (decode (now (set .entry))) (q .0) ⌝ }
 {
     if q.0 < header_word(set, 2) {
-        state_byte(set, q.0, 0) == 1
+        state_byte(set, states_at(set), q.0, 0) == 1
     } else {
         false
     }
@@ -137,7 +142,7 @@ pub fn tags_of(set: &[u8], q: State) -> u16
     ensures { λ r. ⌜ r ≡ stateAt (decode (now (set .entry))) (q .0) .mask ⌝ }
 {
     if q.0 < header_word(set, 2) {
-        state_byte(set, q.0, 1)
+        state_byte(set, states_at(set), q.0, 1)
     } else {
         0
     }
@@ -147,7 +152,7 @@ pub fn rule_symbol(set: &[u8], i: u16) -> u16
     ensures { λ r. ⌜ r ≡ ruleAt (decode (now (set .entry))) i .symbol ⌝ }
 {
     if i < rules(set) {
-        rule_word(set, i, 0)
+        rule_word(set, rules_at(set), i, 0)
     } else {
         0
     }
@@ -157,17 +162,22 @@ pub fn rule_target(set: &[u8], i: u16) -> State
     ensures { λ r. ⌜ r .0 ≡ ruleAt (decode (now (set .entry))) i .target ⌝ }
 {
     if i < rules(set) {
-        State(rule_word(set, i, 1))
+        State(rule_word(set, rules_at(set), i, 1))
     } else {
         State(0)
     }
 }
 
-// What stands in child place k of rule i, whose symbol has n children.
-fn place_of(set: &[u8], i: u16, n: u16, k: u16) -> u16
+// What stands in child place k of rule i, whose symbol has n children, where the rules start at byte `first`.
+fn place_of(set: &[u8], first: u16, i: u16, n: u16, k: u16) -> u16
+    requires { ⌜ first ≡ rulesAt (now set) ⌝ }
     ensures { λ r. ⌜ r ≡ placeOf (now (set .entry)) i n k ⌝ }
 {
-    if k < n { place_word(set, i, k) } else { UNUSED }
+    if k < n {
+        place_word(set, first, i, k)
+    } else {
+        UNUSED
+    }
 }
 
 // What stands in child place k of rule i.
@@ -175,22 +185,24 @@ pub fn rule_child(set: &[u8], i: u16, k: u16) -> u16
     ensures { λ r. ⌜ r ≡ place (ruleAt (decode (now (set .entry))) i) k ⌝ }
 {
     if i < rules(set) {
-        let n = arity(set, rule_word(set, i, 0));
-        place_of(set, i, n, k)
+        let first = rules_at(set);
+        let n = arity(set, rule_word(set, first, i, 0));
+        place_of(set, first, i, n, k)
     } else {
         UNUSED
     }
 }
 
-// The child places of rule i, whose symbol has n children.
-fn places_of(set: &[u8], i: u16, n: u16) -> [u16; 4]
+// The child places of rule i, whose symbol has n children, where the rules start at byte `first`.
+fn places_of(set: &[u8], first: u16, i: u16, n: u16) -> [u16; 4]
+    requires { ⌜ first ≡ rulesAt (now set) ⌝ }
     ensures { λ r. ⌜ r ≡ tab maxChildren (placeOf (now (set .entry)) i n) ⌝ }
 {
     let mut places = [UNUSED; 4];
     let mut k = 0;
     while k < MAX_CHILDREN {
         let at = k as usize;
-        places[at] = place_of(set, i, n, k);
+        places[at] = place_of(set, first, i, n, k);
         k += 1;
     }
     places
@@ -200,11 +212,12 @@ pub fn rule(set: &[u8], i: u16) -> StoredRule
     ensures { λ r. ⌜ Holds r (ruleAt (decode (now (set .entry))) i) ⌝ }
 {
     if i < rules(set) {
-        let symbol = rule_word(set, i, 0);
-        let places = places_of(set, i, arity(set, symbol));
+        let first = rules_at(set);
+        let symbol = rule_word(set, first, i, 0);
+        let places = places_of(set, first, i, arity(set, symbol));
         StoredRule {
             symbol: symbol,
-            target: State(rule_word(set, i, 1)),
+            target: State(rule_word(set, first, i, 1)),
             places: places,
         }
     } else {
@@ -221,11 +234,12 @@ pub fn rules_from(set: &[u8], symbol: u16) -> u16
     ensures within { λ r. ⌜ r ≤ length ((decode (now (set .entry))) .rules) ⌝ }
     ensures first { λ r. ⌜ (checkOf (now (set .entry)) ≡ 0 → FirstFrom (decode (now (set .entry))) symbol r) ⌝ }
 {
+    let first = rules_at(set);
     let mut low = 0;
     let mut high = rules(set);
     while low < high {
         let middle = low + (high - low) / 2;
-        if rule_word(set, middle, 0) < symbol {
+        if rule_word(set, first, middle, 0) < symbol {
             low = middle + 1;
         } else {
             high = middle;

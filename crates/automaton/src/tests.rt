@@ -4,8 +4,9 @@ ghost use Prim.Native.Nat.{_+_, _-_, _^_, _<_};
 ghost use lib.Dec.{eqb};
 ghost use Rattle.model.specs.Limits.{maxChildren};
 ghost use Rattle.model.specs.Lists.{allBelow};
-ghost use Rattle.automaton.specs.Stored.{word, symbolCount, stateCount, tagCount, ruleCount};
+ghost use Rattle.automaton.specs.Stored.{word, symbolCount, stateCount, tagCount, ruleCount, symbolsAt, statesAt, rulesAt, symbolByte, ruleWord};
 ghost use Rattle.automaton.specs.Check.{countsOk, offsetsOk, symbolOk, stateOk, placeOk, ruleOk, keyWord, ascendsAt};
+ghost use Rattle.automaton.specs.Frame.{Framed};
 use super::HEADER_WIDTH;
 use super::MAX_CHILDREN;
 use super::MAX_RULES;
@@ -16,9 +17,12 @@ use super::UNUSED;
 use super::raw::header_word;
 use super::raw::place_word;
 use super::raw::rule_word;
-use super::raw::size;
+use super::raw::rules_at;
 use super::raw::state_byte;
+use super::raw::states_at;
 use super::raw::symbol_byte;
+use super::raw::symbols_at;
+use super::slice::size;
 use super::write::rules_offset;
 use super::write::states_offset;
 use super::write::total_length;
@@ -56,19 +60,22 @@ pub(crate) fn offsets(set: &[u8]) -> bool
         & (set.len() == end)
 }
 
-fn symbol(set: &[u8], i: u16) -> bool
+// Symbol i, where the symbols start at byte `first`.
+fn symbol(set: &[u8], first: u16, i: u16) -> bool
+    requires { ⌜ first ≡ symbolsAt (now set) ⌝ }
     ensures { λ r. ⌜ r ≡ symbolOk (now (set .entry)) i ⌝ }
 {
-    symbol_byte(set, i) <= MAX_CHILDREN
+    symbol_byte(set, first, i) <= MAX_CHILDREN
 }
 
 pub(crate) fn symbols(set: &[u8]) -> bool
     ensures { λ r. ⌜ r ≡ allBelow (symbolCount (now (set .entry))) (symbolOk (now (set .entry))) ⌝ }
 {
     let n = header_word(set, 0);
+    let first = symbols_at(set);
     let mut i = 0;
     while i < n {
-        if symbol(set, i) {
+        if symbol(set, first, i) {
             i += 1;
         } else {
             return false;
@@ -84,12 +91,12 @@ fn power(t: u16) -> u16
     1 << t
 }
 
-// State q, where a mask is below `bound`.
-fn state(set: &[u8], q: u16, bound: u16) -> bool
-    requires { ⌜ bound ≡ 2 ^ tagCount (now set) ⌝ }
+// State q, where the states start at byte `first` and a mask is below `bound`.
+fn state(set: &[u8], first: u16, q: u16, bound: u16) -> bool
+    requires { ⌜ (first ≡ statesAt (now set)) × (bound ≡ 2 ^ tagCount (now set)) ⌝ }
     ensures { λ r. ⌜ r ≡ stateOk (now (set .entry)) q ⌝ }
 {
-    (state_byte(set, q, 0) <= 1) & (state_byte(set, q, 1) < bound)
+    (state_byte(set, first, q, 0) <= 1) & (state_byte(set, first, q, 1) < bound)
 }
 
 pub(crate) fn states(set: &[u8]) -> bool
@@ -97,10 +104,11 @@ pub(crate) fn states(set: &[u8]) -> bool
     ensures { λ r. ⌜ r ≡ allBelow (stateCount (now (set .entry))) (stateOk (now (set .entry))) ⌝ }
 {
     let n = header_word(set, 2);
+    let first = states_at(set);
     let bound = power(header_word(set, 4));
     let mut i = 0;
     while i < n {
-        if state(set, i, bound) {
+        if state(set, first, i, bound) {
             i += 1;
         } else {
             return false;
@@ -109,25 +117,43 @@ pub(crate) fn states(set: &[u8]) -> bool
     true
 }
 
-// Child place k of rule i.
-fn place(set: &[u8], i: u16, k: u16) -> bool
-    ensures { λ r. ⌜ r ≡ placeOk (now (set .entry)) i k ⌝ }
+// What the header says that the test of a rule needs.
+struct Frame {
+    symbols: u16,
+    states: u16,
+    // Where the symbols and the rules start.
+    arities: u16,
+    rules: u16,
+}
+
+fn read_frame(set: &[u8]) -> Frame
+    ensures { λ r. ⌜ Framed r (now (set .entry)) ⌝ }
 {
-    let x = place_word(set, i, k);
-    if k < symbol_byte(set, rule_word(set, i, 0)) {
-        x < header_word(set, 2)
-    } else {
-        x == UNUSED
+    Frame {
+        symbols: header_word(set, 0),
+        states: header_word(set, 2),
+        arities: symbols_at(set),
+        rules: rules_at(set),
     }
 }
 
-fn places(set: &[u8], i: u16) -> bool
+// Child place k of rule i, whose symbol has n children.
+fn place(set: &[u8], f: Frame, i: u16, n: u16, k: u16) -> bool
+    requires { ⌜ Framed f (now set) × (n ≡ symbolByte (now set) (ruleWord (now set) i 0)) ⌝ }
+    ensures { λ r. ⌜ r ≡ placeOk (now (set .entry)) i k ⌝ }
+{
+    let x = place_word(set, f.rules, i, k);
+    if k < n { x < f.states } else { x == UNUSED }
+}
+
+fn places(set: &[u8], f: Frame, i: u16, n: u16) -> bool
+    requires { ⌜ Framed f (now set) × (n ≡ symbolByte (now set) (ruleWord (now set) i 0)) ⌝ }
     ensures { λ r. ⌜ r ≡ allBelow maxChildren (placeOk (now (set .entry)) i) ⌝ }
 {
-    let n = MAX_CHILDREN;
+    let most = MAX_CHILDREN;
     let mut k = 0;
-    while k < n {
-        if place(set, i, k) {
+    while k < most {
+        if place(set, f, i, n, k) {
             k += 1;
         } else {
             return false;
@@ -136,21 +162,24 @@ fn places(set: &[u8], i: u16) -> bool
     true
 }
 
-fn rule(set: &[u8], i: u16) -> bool
+fn rule(set: &[u8], f: Frame, i: u16) -> bool
+    requires { ⌜ Framed f (now set) ⌝ }
     ensures { λ r. ⌜ r ≡ ruleOk (now (set .entry)) i ⌝ }
 {
-    let symbol = rule_word(set, i, 0);
-    let target = rule_word(set, i, 1);
-    (symbol < header_word(set, 0)) & (target < header_word(set, 2)) & places(set, i)
+    let symbol = rule_word(set, f.rules, i, 0);
+    let target = rule_word(set, f.rules, i, 1);
+    let n = symbol_byte(set, f.arities, symbol);
+    (symbol < f.symbols) & (target < f.states) & places(set, f, i, n)
 }
 
 pub(crate) fn rules(set: &[u8]) -> bool
     ensures { λ r. ⌜ r ≡ allBelow (ruleCount (now (set .entry))) (ruleOk (now (set .entry))) ⌝ }
 {
     let n = header_word(set, 6);
+    let f = read_frame(set);
     let mut i = 0;
     while i < n {
-        if rule(set, i) {
+        if rule(set, f, i) {
             i += 1;
         } else {
             return false;
@@ -159,29 +188,30 @@ pub(crate) fn rules(set: &[u8]) -> bool
     true
 }
 
-// Number k of what rules are sorted by.
-fn key(set: &[u8], i: u16, k: u16) -> u16
+// Number k of what rules are sorted by, where the rules start at byte `first`.
+fn key(set: &[u8], first: u16, i: u16, k: u16) -> u16
+    requires { ⌜ first ≡ rulesAt (now set) ⌝ }
     ensures { λ r. ⌜ r ≡ keyWord (now (set .entry)) i k ⌝ }
 {
     if k == 0 {
-        return rule_word(set, i, 0);
+        return rule_word(set, first, i, 0);
     }
     if k <= MAX_CHILDREN {
-        return place_word(set, i, k - 1);
+        return place_word(set, first, i, k - 1);
     }
-    rule_word(set, i, 1)
+    rule_word(set, first, i, 1)
 }
 
-// Whether rule i stands before the next.
-fn ascends(set: &[u8], i: u16) -> bool
-    requires { ⌜ i < 65535 ⌝ }
+// Whether rule i stands before the next, where the rules start at byte `first`.
+fn ascends(set: &[u8], first: u16, i: u16) -> bool
+    requires { ⌜ (first ≡ rulesAt (now set)) × (i < 65535) ⌝ }
     ensures { λ r. ⌜ r ≡ ascendsAt (now (set .entry)) i ⌝ }
 {
     let n = MAX_CHILDREN + 2;
     let mut k = 0;
     while k < n {
-        let x = key(set, i, k);
-        let y = key(set, i + 1, k);
+        let x = key(set, first, i, k);
+        let y = key(set, first, i + 1, k);
         if x < y {
             return true;
         }
@@ -205,9 +235,10 @@ pub(crate) fn ascending(set: &[u8]) -> bool
     ensures { λ r. ⌜ r ≡ allBelow (ruleCount (now (set .entry)) - 1) (ascendsAt (now (set .entry))) ⌝ }
 {
     let n = steps(set);
+    let first = rules_at(set);
     let mut i = 0;
     while i < n {
-        if ascends(set, i) {
+        if ascends(set, first, i) {
             i += 1;
         } else {
             return false;

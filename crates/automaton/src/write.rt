@@ -13,7 +13,7 @@ use super::HEADER_WIDTH;
 use super::RULE_WIDTH;
 use super::STATE_WIDTH;
 use super::StoredRule;
-use super::raw::size;
+use super::slice::size;
 
 pub(crate) fn states_offset(symbols: u16) -> usize
     ensures { λ r. ⌜ (r ≡ statesOffset symbols) × (r < 65552) ⌝ }

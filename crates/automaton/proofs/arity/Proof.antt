@@ -9,5 +9,6 @@ arity-spec =
     (tie.spec
     (λ c κs. search reads)
     (λ c κs. search reads)
+    (λ c κs. search reads)
     (λ c. search reads)
     (λ c. search reads))

@@ -11,5 +11,6 @@ rule-child-spec =
     (λ c κs. search reads)
     (λ c κs. search reads)
     (λ c κs. search reads)
+    (λ c κs. search reads)
     (λ c. search reads)
     (λ c. search reads))

@@ -1,22 +1,25 @@
--- `automaton::raw::place_word` meets its contract: the offset is the header's. Assumes nothing.
-use Rattle.automaton.specs.Stored.{ruleWord}
+-- `automaton::raw::place_word` meets its contract: the child places stand after two numbers. Assumes nothing.
+use mathlib.Core.Path.{_≡_, ap, _∙_}
+use mathlib.Core.List.{List}
+use Prim.Native.Nat.{ℕ, _+_, _*_}
+use native.Mathlib.Omega.{arith}
+use Rattle.automaton.specs.Form.{ruleWidth}
+use Rattle.automaton.specs.Stored.{word, rulesAt, ruleWord}
 use borrow.Author.Needs.{needs}
 use Rattle.automaton.proofs.raw.place_word.Statement.{statement}
 use Rattle.automaton.proofs.raw.place_word.Tie as tie
 
-pub place-word-spec : {M : Type 1} → statement M
+after-two : (s : List ℕ) (i k first at n : ℕ) → first ≡ rulesAt s → at ≡ first + ruleWidth * i → n ≡ word s (at + 4 + 2 * k) → n ≡ ruleWord s i (k + 2)
 unfolding ruleWord
+after-two s i k first at n e f h =
+    let g : at + 4 + 2 * k ≡ rulesAt s + ruleWidth * i + 2 * (k + 2) = omega arith in
+    h ∙ ap (word s) g
+
+pub place-word-spec : {M : Type 1} → statement M
 place-word-spec =
     tie.close
     (tie.spec
     (λ c κs. search needs)
-    (λ c κs. search needs)
-    (λ c κs. search needs)
-    (λ c. search needs)
     (λ c. search needs)
     (λ c κs. search needs)
-    (λ c. search needs)
-    (λ c. search needs)
-    (λ c. search needs)
-    (λ c κs. search needs)
-    (λ c. cc))
+    (λ c. search (after-two, needs)))

@@ -1,4 +1,4 @@
--- `automaton::raw::rule_word` meets its contract: the offset is the header's. Assumes nothing.
+-- `automaton::raw::rule_word` meets its contract: a rule's numbers stand from its place on. Assumes nothing.
 use Rattle.automaton.specs.Stored.{ruleWord}
 use borrow.Author.Needs.{needs}
 use Rattle.automaton.proofs.raw.rule_word.Statement.{statement}
@@ -10,12 +10,5 @@ rule-word-spec =
     tie.close
     (tie.spec
     (λ c κs. search needs)
-    (λ c κs. search needs)
-    (λ c κs. search needs)
-    (λ c. search needs)
-    (λ c. search needs)
-    (λ c κs. search needs)
-    (λ c. search needs)
-    (λ c. search needs)
     (λ c κs. search needs)
     (λ c. cc))

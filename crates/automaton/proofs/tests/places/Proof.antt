@@ -7,10 +7,10 @@ use Rattle.automaton.proofs.tests.places.Statement.{statement}
 use Rattle.automaton.proofs.tests.places.Tie as tie
 
 abbrev Inv-loop : tie.InvT-loop
-Inv-loop set i n k₀ k = Passed (placeOk set i) maxChildren n k
+Inv-loop set f i n most k₀ k = Passed (placeOk set i) maxChildren most k
 
 abbrev μ-loop : tie.MeasureT-loop
-μ-loop set i n k₀ k = n - k
+μ-loop set f i n most k₀ k = most - k
 
 pub places-spec : {M : Type 1} → statement M
 places-spec =

@@ -12,6 +12,5 @@ rule-spec =
     (λ c κs. search needs)
     (λ c κs. search needs)
     (λ c κs. search needs)
-    (λ c κs. search needs)
-    (λ c κs. search needs)
+    (λ c κs. (search needs, cc))
     (λ c. cc))

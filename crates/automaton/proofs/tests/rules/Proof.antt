@@ -7,10 +7,10 @@ use Rattle.automaton.proofs.tests.rules.Statement.{statement}
 use Rattle.automaton.proofs.tests.rules.Tie as tie
 
 abbrev Inv-loop : tie.InvT-loop
-Inv-loop set n i₀ i = Passed (ruleOk set) (ruleCount set) n i
+Inv-loop set n f i₀ i = Passed (ruleOk set) (ruleCount set) n i
 
 abbrev μ-loop : tie.MeasureT-loop
-μ-loop set n i₀ i = n - i
+μ-loop set n f i₀ i = n - i
 
 pub rules-spec : {M : Type 1} → statement M
 rules-spec =
@@ -18,6 +18,7 @@ rules-spec =
     (tie.spec
     Inv-loop
     μ-loop
+    (λ c κs. search loops)
     (λ c κs. search loops)
     (λ c. search loops)
     (λ c κs. search loops)

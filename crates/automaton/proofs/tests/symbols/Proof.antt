@@ -7,10 +7,10 @@ use Rattle.automaton.proofs.tests.symbols.Statement.{statement}
 use Rattle.automaton.proofs.tests.symbols.Tie as tie
 
 abbrev Inv-loop : tie.InvT-loop
-Inv-loop set n i₀ i = Passed (symbolOk set) (symbolCount set) n i
+Inv-loop set n first i₀ i = Passed (symbolOk set) (symbolCount set) n i
 
 abbrev μ-loop : tie.MeasureT-loop
-μ-loop set n i₀ i = n - i
+μ-loop set n first i₀ i = n - i
 
 pub symbols-spec : {M : Type 1} → statement M
 symbols-spec =
@@ -18,6 +18,7 @@ symbols-spec =
     (tie.spec
     Inv-loop
     μ-loop
+    (λ c κs. search loops)
     (λ c κs. search loops)
     (λ c. search loops)
     (λ c κs. search loops)

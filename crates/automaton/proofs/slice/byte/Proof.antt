@@ -1,9 +1,9 @@
--- `automaton::raw::byte` meets its contract: past the end the default is read. Assumes nothing.
+-- `automaton::slice::byte` meets its contract: past the end the default is read. Assumes nothing.
 use lib.ListN.{List·getD-eq-default}
 use mathlib.Core.Path.{sym}
 use borrow.Author.Needs.{needs}
-use Rattle.automaton.proofs.raw.byte.Statement.{statement}
-use Rattle.automaton.proofs.raw.byte.Tie as tie
+use Rattle.automaton.proofs.slice.byte.Statement.{statement}
+use Rattle.automaton.proofs.slice.byte.Tie as tie
 
 pub byte-spec : {M : Type 1} → statement M
 byte-spec =
