@@ -1,8 +1,8 @@
--- The check of two lists: one law for each answer. Assumes nothing.
-use mathlib.Core.Path.{_≡_, ap, _∙_}
+-- The check of two lists: one law for each answer, and what a caller learns of it. Assumes nothing.
+use mathlib.Core.Path.{_≡_, refl, ap, _∙_}
 use mathlib.Core.Bool.{Bool, true, false}
 use mathlib.Core.List.{List}
-use Prim.Native.Nat.{ℕ, _*_, _≤_, min}
+use Prim.Native.Nat.{ℕ, zero, suc, _*_, _≤_, _<_, min}
 use native.Mathlib.Omega.{arith}
 use borrow.Author.Needs.{needs}
 use lib.ListN.{length}
@@ -10,7 +10,9 @@ use Rattle.model.specs.Limits.{maxSymbols}
 use Rattle.model.specs.Refusal.{demand}
 use Rattle.names.specs.Names.{shownName}
 use Rattle.names.specs.Table.{nameIn, cellBytes, tableOf}
-use Rattle.names.specs.Check.{listFits?, distinct?, shownApart?, namesCheckOf}
+use Rattle.names.specs.Check.{listFits?, distinct?, shownApart?, namesCheckOf, namesAnswer}
+use Rattle.names.specs.declared.NamesChecked.{NamesChecked}
+use Rattle.names.specs.declared.NamesChecked.the-variants.{Distinct, Refused}
 use Rattle.names.proofs.Tests.{and-false}
 use Rattle.names.proofs.Shown.{held, distinct-same}
 
@@ -41,3 +43,23 @@ module _ (symbols : ℕ) (site builtIn : List ℕ) where
     alike f = rw (← is, ← is′, fit, fit′, ← apart, f)
 
 pub ruleset answers = (table-distinct, first-bad, second-bad, all-well, alike, needs)
+
+-- the answer with the number n, where the definition gives m
+pub answered : (n m : ℕ) → n ≡ m → (n ≡ m) × (namesAnswer n ≡ namesAnswer m)
+answered n m e = (e, ap namesAnswer e)
+
+-- what a caller learns of an answer: lists that pass have the number 0, and a refusal has its own, which is not 0
+module _ (r : NamesChecked) (n : ℕ) (e : r ≡ namesAnswer n) where
+  pub distinct-zero : r ≡ Distinct → n ≡ 0
+  distinct-zero = go n e
+    where
+      go : (m : ℕ) → r ≡ namesAnswer m → r ≡ Distinct → m ≡ 0
+      go zero f h = refl
+      go (suc m) f h = cc
+
+  pub refused-number : (m : ℕ) → r ≡ Refused m → (n ≡ m) × (0 < m)
+  refused-number m = go n e
+    where
+      go : (k : ℕ) → r ≡ namesAnswer k → r ≡ Refused m → (k ≡ m) × (0 < m)
+      go zero f h = let z : _≡_ {A = ℕ} 0 1 = cc in absurd (omega arith)
+      go (suc k) f h = let z : suc k ≡ m = cc in (z, omega arith)

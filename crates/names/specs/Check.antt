@@ -2,7 +2,7 @@
 use mathlib.Core.List.{List}
 use mathlib.Core.Bool.{Bool, _&&_, _||_, not}
 use mathlib.Core.Option.{Option, none, some}
-use Prim.Native.Nat.{ℕ, min}
+use Prim.Native.Nat.{ℕ, zero, suc, min}
 use lib.Dec.{eqb, leb}
 use lib.ListN.{length}
 use Rattle.model.specs.Limits.{maxSymbols}
@@ -40,10 +40,15 @@ unfoldable pub namesCheckOf : ℕ → List ℕ → List ℕ → ℕ
 namesCheckOf symbols site builtIn =
     demand (listFits? site && listFits? builtIn) 61 (demand (shownApart? symbols site builtIn) 62 0)
 
--- the number that an answer stands for
+-- the refusal number of an answer, 0 for none
 abbrev pub namesNumber : NamesChecked → ℕ
 namesNumber Distinct = 0
 namesNumber (Refused n) = n
+
+-- the one answer with that number
+abbrev pub namesAnswer : ℕ → NamesChecked
+namesAnswer zero = Distinct
+namesAnswer (suc n) = Refused (suc n)
 
 -- the symbol that an answer stands for
 abbrev pub foundOf : Found → Option ℕ

@@ -1,3 +1,4 @@
+// Byte classes; comparing two parts, and putting one into a space.
 ghost use mathlib.Core.Path.{_≡_};
 ghost use Prim.Native.Nat.{_+_};
 ghost use Rattle.model.specs.Lists.{eqList};

@@ -15,7 +15,7 @@ ghost use mathlib.Core.Bool.{true};
 ghost use lib.ListN.{length};
 ghost use Rattle.model.specs.Limits.{maxSymbols};
 ghost use Rattle.names.specs.Table.{nameIn};
-ghost use Rattle.names.specs.Check.{listFits?, new?, distinct?, shownApart?, namesCheckOf, namesNumber};
+ghost use Rattle.names.specs.Check.{listFits?, new?, distinct?, shownApart?, namesCheckOf, namesNumber, namesAnswer};
 
 // The most symbols of a set.
 const MAX_SYMBOLS: u16 = 64;
@@ -74,7 +74,7 @@ fn are_distinct<'a>(t: &mut [u8], symbols: u16, site: &'a [u8], built_in: &'a [u
 
 // Whether two name lists may be used with a set of so many symbols: 61 or 62 where not.
 pub fn check<'a>(symbols: u16, site: &'a [u8], built_in: &'a [u8]) -> NamesChecked
-    ensures { λ r. ⌜ namesNumber r ≡ namesCheckOf symbols (now (site .entry)) (now («built_in» .entry)) ⌝ }
+    ensures { λ r. ⌜ (namesNumber r ≡ namesCheckOf symbols (now (site .entry)) (now («built_in» .entry))) × (r ≡ namesAnswer (namesCheckOf symbols (now (site .entry)) (now («built_in» .entry)))) ⌝ }
 {
     if list_fits(site) {
         if list_fits(built_in) {

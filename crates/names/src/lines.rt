@@ -1,3 +1,4 @@
+// The lines of a name list, what a name is, and the lookup of a symbol's name in the two lists.
 use crate::bytes::is_digit;
 use crate::bytes::is_letter;
 ghost use mathlib.Core.Path.{_≡_};
@@ -63,7 +64,7 @@ fn line_start(s: &[u8], i: usize) -> usize
 }
 
 // Whether a byte may stand in a name.
-fn in_name(b: u8) -> bool
+pub fn in_name(b: u8) -> bool
     ensures { λ r. ⌜ r ≡ nameByte? b ⌝ }
 {
     is_letter(b) | is_digit(b)

@@ -1,3 +1,4 @@
+// The names shown, in a table of cells of one width, and the search for a symbol by its name.
 use crate::bytes::put;
 use crate::bytes::same;
 use crate::lines::MAX_LINES;

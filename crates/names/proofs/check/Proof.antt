@@ -1,7 +1,7 @@
 -- 61 of either list, then 62, then nothing. Assumes nothing.
 use mathlib.Core.Path.{sym, _∙_}
 use borrow.Author.Needs.{needs}
-use Rattle.names.proofs.Checked.{answers}
+use Rattle.names.proofs.Checked.{answers, answered}
 use Rattle.names.proofs.check.Statement.{statement}
 use Rattle.names.proofs.check.Tie as tie
 
@@ -19,7 +19,7 @@ check-spec =
     (λ c κs. search needs)
     (λ c. search needs)
     distinct-requires
-    (λ c. search answers)
-    (λ c. search answers)
-    (λ c. search answers)
-    (λ c. search answers))
+    (λ c. answered _ _ (search answers))
+    (λ c. answered _ _ (search answers))
+    (λ c. answered _ _ (search answers))
+    (λ c. answered _ _ (search answers)))
