@@ -1,0 +1,144 @@
+-- Every entry has the source that it names. Assumes nothing.
+use mathlib.Core.Path.{_≡_, refl, sym, ap, _∙_, subst}
+use mathlib.Core.Logic.{_⊎_, ⊎-elim}
+use mathlib.Core.List.{List, [], _∷_, _++_, List·Memᴰ as In, List·Memᴰ·head as here, List·Memᴰ·tail as there, List·Memᴰ·not-nil as not-nil, List·Memᴰ·cases-cons as in-cons, Memᴰ·cast}
+use mathlib.Core.Bool.{Bool, true, false, _&&_, cond}
+use Prim.Native.Nat.{ℕ, zero, suc, _+_, _<_, _≤_}
+use native.Mathlib.Omega.{arith}
+use native.Mathlib.Decide.{decLt}
+use lib.Dec.{T, eqb, eqb→eq}
+use lib.ListN.{length, getD, set, length-set, length-append}
+use lib.Seq.{getD-set-same, getD-set-other, getD-append-seam}
+use Rattle.model.specs.Limits.{maxChildren}
+use Rattle.model.specs.Lists.{any}
+use Rattle.model.specs.Automaton.{Automaton}
+use Rattle.model.specs.Table.{Row, rowAt}
+use Rattle.model.specs.Written.{ruleAt}
+use Rattle.model.specs.Annotation.{Memory, Annotation, emptyMemory, agree?, joined, finish, eqAnnotation}
+use Rattle.model.proofs.Members.{T-and, in-concatMap, in-map, in-only}
+use Rattle.model.proofs.Memory.{Within, within-left, within-right}
+use Rattle.membership.specs.Entries.{Entry, annotationsOf, addEntry, addEntries}
+use Rattle.membership.specs.Search.{span, fits?}
+use Rattle.membership.specs.Listing.{lastStep, taken, made, noChildren, ruleEntries, byRule, rowEntries}
+use Rattle.membership.specs.Sources.{annotationAt}
+use Rattle.membership.proofs.Adding.{noEntry, ext-at, ext-entries}
+
+pub in-span : (i n j : ℕ) → In j (span i n) → (i ≤ j) × (j < i + n)
+in-span i zero j h = absurd (not-nil h)
+in-span i (suc n) j h = ⊎-elim (λ e. (omega arith, omega arith)) (λ m. let (a, b) = in-span (suc i) n j m in (omega arith, omega arith)) (in-cons h)
+
+-- annotation j stands for a child on row c in state q, and what it remembers y does too
+pub record Child (known : List Annotation) (j c q : ℕ) (y : Memory) : Type 0 where
+  pub is-known : j < length known
+  pub row : (annotationAt known j) .row ≡ c
+  pub state : (annotationAt known j) .state ≡ q
+  pub within : Within ((annotationAt known j) .memory) y
+
+-- an entry that a rule's places from p on make
+pub record FromRule (A : Automaton) (known : List Annotation) (i q r p : ℕ) (m : Memory) (children cs qs : List ℕ) (e : Entry) : Type 0 where
+  pub row : e .annotation .row ≡ i
+  pub state : e .annotation .state ≡ q
+  pub rule : e .rule ≡ r
+  pub memory : Memory
+  pub last : In (e .annotation .memory) (finish A q i memory)
+  pub grown : Within m memory
+  pub as-many : length qs ≡ length cs
+  pub earlier : (k : ℕ) → k < p → getD (e .children) k 0 ≡ getD children k 0
+  pub rest : (k : ℕ) → p + length cs ≤ k → getD (e .children) k 0 ≡ getD children k 0
+  pub later : (k : ℕ) → k < length cs → Child known (getD (e .children) (p + k) 0) (getD cs k 0) (getD qs k 0) memory
+
+module _ (A : Automaton) (known : List Annotation) (i q r : ℕ) where
+  from-last : (p : ℕ) (m : Memory) (children : List ℕ) (e : Entry) → In e (lastStep A i q r m children) → FromRule A known i q r p m children [] [] e
+  from-last p m children e h =
+      let (y, iy, q) = in-map _ (finish A q i m) h in
+      record {
+        row = ap (λ (z : Entry). z .annotation .row) q;
+        state = ap (λ (z : Entry). z .annotation .state) q;
+        rule = ap (λ (z : Entry). z .rule) q;
+        memory = m;
+        last = Memᴰ·cast (ap (λ (z : Entry). z .annotation .memory) q) iy;
+        grown = λ k j g. g;
+        as-many = refl;
+        earlier = λ k l. ap (λ (z : Entry). getD (z .children) k 0) q;
+        rest = λ k l. ap (λ (z : Entry). getD (z .children) k 0) q;
+        later = λ k l. let z : ⊥ = omega arith in absurd z;
+      }
+
+  -- one child more in front
+  from-more : (p : ℕ) (m : Memory) (children : List ℕ) (c s : ℕ) (cs qs : List ℕ) (j : ℕ) (e : Entry) → p < length children → j < length known → (annotationAt known j) .row ≡ c → (annotationAt known j) .state ≡ s → T (agree? m ((annotationAt known j) .memory)) → FromRule A known i q r (suc p) (joined m ((annotationAt known j) .memory)) (set children p j) cs qs e → FromRule A known i q r p m children (c ∷ cs) (s ∷ qs) e
+  from-more p m children c s cs qs j e lp lj er es ag f =
+      let x = (annotationAt known j) .memory in
+      let first : getD (e .children) p 0 ≡ j = f .earlier p (omega arith) ∙ getD-set-same children p j 0 lp in
+      record {
+        row = f .row;
+        state = f .state;
+        rule = f .rule;
+        memory = f .memory;
+        last = f .last;
+        grown = λ k g h. f .grown k g (within-left m x k g h);
+        as-many = ap suc (f .as-many);
+        earlier = λ k l. f .earlier k (omega arith) ∙ getD-set-other children p k j 0 (λ z. omega arith);
+        rest = λ k l. f .rest k (omega arith) ∙ getD-set-other children p k j 0 (λ z. omega arith);
+        later = λ k. elim k [
+          | zero ↦ λ l.
+              let z : p + 0 ≡ p = omega arith in
+              subst (λ z. Child known (getD (e .children) z 0) c s (f .memory)) (sym z)
+              (subst (λ z. Child known z c s (f .memory)) (sym first) (record { is-known = lj; row = er; state = es; within = λ g n h. f .grown g n (within-right m x ag g n h) }))
+          | suc k′ ↦ λ l.
+              let z : suc p + k′ ≡ p + suc k′ = omega arith in
+              subst (λ z. Child known (getD (e .children) z 0) (getD cs k′ 0) (getD qs k′ 0) (f .memory)) z (f .later k′ (omega arith))
+        ];
+      }
+
+  from-made : (p : ℕ) (m : Memory) (children cs qs : List ℕ) → p + length cs ≤ length children → (e : Entry) → In e (made known (lastStep A i q r) p m children cs qs) → FromRule A known i q r p m children cs qs e
+  unfolding made
+  from-made p m children [] [] few e h = from-last p m children e h
+  from-made p m children [] (s ∷ qs) few e h = absurd (not-nil h)
+  from-made p m children (c ∷ cs) [] few e h = absurd (not-nil h)
+  from-made p m children (c ∷ cs) (s ∷ qs) few e h =
+      let (j, ij, it) = in-concatMap (taken known p c s (λ x d. made known (lastStep A i q r) (suc p) x d cs qs) m children) (span 0 (length known)) h in
+      let (a, lj) = in-span 0 (length known) j ij in
+      let b = annotationAt known j in
+      let (t, im) = in-only (eqb (b .row) c && fits? s m b) _ it in
+      let (t₁, t′) = T-and (eqb (b .row) c) (fits? s m b) t in
+      let (t₂, t₃) = T-and (eqb (b .state) s) (agree? m (b .memory)) t′ in
+      from-more p m children c s cs qs j e (omega arith) (omega arith) (eqb→eq _ _ t₁) (eqb→eq _ _ t₂) t₃
+      (from-made (suc p) (joined m (b .memory)) (set children p j) cs qs (let l = length-set children p j in omega arith) e im)
+
+-- an entry that a row's rules make
+module _ (A : Automaton) (rows : List Row) (known : List Annotation) (i : ℕ) (few : length ((rowAt rows i) .children) ≤ maxChildren) where
+  pub record FromRow (e : Entry) : Type 0 where
+    pub rule : ℕ
+    pub known-rule : rule < length (A .rules)
+    pub same-symbol : (ruleAt A rule) .symbol ≡ (rowAt rows i) .symbol
+    pub from : FromRule A known i ((ruleAt A rule) .target) rule 0 (emptyMemory A) noChildren ((rowAt rows i) .children) ((ruleAt A rule) .children) e
+
+  pub from-row : (e : Entry) → In e (rowEntries A rows known i) → FromRow e
+  from-row e h =
+      let (r, ir, ie) = in-concatMap (byRule A rows known i) (span 0 (length (A .rules))) h in
+      let (a, lr) = in-span 0 (length (A .rules)) r ir in
+      let (t, im) = in-only (eqb ((ruleAt A r) .symbol) ((rowAt rows i) .symbol)) (ruleEntries A rows known i r) ie in
+      record {
+        rule = r;
+        known-rule = omega arith;
+        same-symbol = eqb→eq _ _ t;
+        from = from-made A known i ((ruleAt A r) .target) r 0 (emptyMemory A) noChildren ((rowAt rows i) .children) ((ruleAt A r) .children) (omega arith) e im;
+      }
+
+-- what was added is one of the entries to add
+last-added : (x : Entry) (known : List Entry) (j : ℕ) → length known ≤ j → j < length (addEntry known x) → getD (addEntry known x) j noEntry ≡ x
+unfolding addEntry
+last-added x known j a = go (any (eqAnnotation (x .annotation)) (annotationsOf known))
+  where
+    go : (b : Bool) → j < length (cond b known (known ++ x ∷ [])) → getD (cond b known (known ++ x ∷ [])) j noEntry ≡ x
+    go true l = let z : ⊥ = omega arith in absurd z
+    go false l = let n = length-append known (x ∷ []) in let e : j ≡ length known = omega arith in ap (λ k. getD (known ++ x ∷ []) k noEntry) e ∙ getD-append-seam known x [] noEntry
+
+pub added : (xs known : List Entry) (j : ℕ) → length known ≤ j → j < length (addEntries known xs) → In (getD (addEntries known xs) j noEntry) xs
+unfolding addEntries
+added [] known j a b = let z : ⊥ = omega arith in absurd z
+added (x ∷ xs) known j a b = go (decLt j (length (addEntry known x))) (λ l. added xs (addEntry known x) j l b)
+  where
+    go : Dec (j < length (addEntry known x)) → (length (addEntry known x) ≤ j → In (getD (addEntries (addEntry known x) xs) j noEntry) xs) → In (getD (addEntries (addEntry known x) xs) j noEntry) (x ∷ xs)
+    go (yes l) rest = here (ext-at (addEntry known x) (addEntries (addEntry known x) xs) j (ext-entries xs (addEntry known x)) l ∙ last-added x known j a l)
+    go (no l) rest = there (rest (omega (arith, l)))

@@ -1,0 +1,11 @@
+pub mod Cells
+pub mod Index
+pub mod Entries
+pub mod Search
+pub mod Listing
+pub mod Plan
+pub mod Sources
+pub mod Annotated
+pub mod Trace
+pub mod Handed
+pub mod Judge
