@@ -1,0 +1,11 @@
+pub mod Concat
+pub mod Laying
+pub mod Merging
+pub mod Packing
+pub mod Windows
+pub mod Results
+pub mod Refusing
+pub mod Stating
+pub mod Keying
+pub mod Writing
+pub mod Meaning

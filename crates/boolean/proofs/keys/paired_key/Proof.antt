@@ -1,0 +1,83 @@
+-- `boolean::keys::paired_key` meets its contract: the loop has pushed the places before its index. Assumes nothing.
+use borrow.Author.Needs.{needs}
+use native.Mathlib.Omega.{arith}
+use mathlib.Core.Path.{_≡_, ap, sym, subst, _∙_}
+use Prim.Native.Nat.{ℕ, _+_, _-_, _*_, _^_, _<_}
+use lib.ListN.{getD}
+use Rattle.model.specs.Limits.{maxChildren}
+use Rattle.boolean.specs.Key.{digitWidth, pushed, pairedPlace}
+use Rattle.boolean.proofs.Packing.{Pushing, pushing-none, pushing-more, pushing-all, product-low}
+use Rattle.boolean.proofs.keys.paired_key.Statement.{statement}
+use Rattle.boolean.proofs.keys.paired_key.Tie as tie
+
+abbrev Inv-loop : tie.InvT-loop
+Inv-loop r s n firsts seconds x₀ k₀ x k = Pushing (r .symbol) (λ j. pairedPlace n (getD (r .places) j 0) (getD (s .places) j 0)) x k
+
+abbrev μ-loop : tie.MeasureT-loop
+μ-loop r s n firsts seconds x₀ k₀ x k = maxChildren - k
+
+push-requires : tie.Need-push-requires Inv-loop μ-loop
+push-requires c κs = search needs
+
+loop-holds : tie.Need-loop-holds Inv-loop μ-loop
+loop-holds c = pushing-none _ _ _ (c .push .ensures .0 ∙ ap (pushed 0) (c .before .wide .ensures .0)) (c .push .ensures .1)
+
+push-requires-2 : tie.Need-push-requires-2 Inv-loop μ-loop
+push-requires-2 c κs =
+    let e = c .wide2 .ensures .0 in
+    let l = c .before .before .loop-test .taken in
+    (subst (λ (w : ℕ). c .before .before .before .loop .x < 2 ^ (digitWidth * (w + 1))) (sym e) (c .before .before .before .loop .inv .low), omega arith)
+
+loop-again : tie.Need-loop-again Inv-loop μ-loop
+loop-again c =
+    let e = c .before .wide2 .ensures .0 in
+    pushing-more _ _ _ _ (c .before .before .before .before .loop .inv) _ _ (c .before .before .before .loop-test .taken) (c .before .before .paired-place .ensures) (c .push2 .ensures .0)
+    (subst (λ (w : ℕ). c .push2 .result < 2 ^ (digitWidth * (w + 1 + 1))) e (c .push2 .ensures .1))
+
+mul-push : tie.Need-mul-push Inv-loop μ-loop
+mul-push c = let e = product-low (c .wide3 .result) (c .before .before .before .before .before .before .before .args .n) (c .wide3 .ensures .1) (c .before .before .before .before .before .before .before .pre) in omega arith
+
+add-push-2 : tie.Need-add-push-2 Inv-loop μ-loop
+add-push-2 c = let e = product-low (c .before .wide3 .result) (c .before .before .before .before .before .before .before .before .args .n) (c .before .wide3 .ensures .1) (c .before .before .before .before .before .before .before .before .pre) in let f = c .wide4 .ensures .1 in omega arith
+
+push-requires-3 : tie.Need-push-requires-3 Inv-loop μ-loop
+push-requires-3 c κs =
+    let h = c .before .before .before .loop .inv in
+    let l = c .before .before .loop-test .left in
+    let m = h .few in
+    let z : c .before .before .before .loop .k ≡ 4 = omega arith in
+    (subst (λ (k : ℕ). c .before .before .before .loop .x < 2 ^ (digitWidth * (k + 1))) z (h .low), omega arith)
+
+returns : tie.Need-returns Inv-loop μ-loop
+returns c =
+    let a = c .before .before .before .before .before .before .before .before .before .args in
+    pushing-all _ _ _ _ (c .before .before .before .before .loop .inv) _ _ (c .before .before .before .loop-test .left)
+    (c .push3 .ensures .0 ∙ ap (λ (z : ℕ). pushed (c .before .before .before .before .loop .x) (z * a .n + c .before .wide4 .result)) (c .before .before .wide3 .ensures .0) ∙ ap (λ (z : ℕ). pushed (c .before .before .before .before .loop .x) (a .r .target .0 * a .n + z)) (c .before .wide4 .ensures .0))
+
+pub paired-key-spec : {M : Type 1} → statement M
+paired-key-spec =
+    tie.close
+    (tie.spec
+    Inv-loop
+    μ-loop
+    (λ c κs. search needs)
+    push-requires
+    loop-holds
+    (λ c. search needs)
+    (λ c. search needs)
+    (λ c. search needs)
+    (λ c. search needs)
+    (λ c. search needs)
+    (λ c κs. search needs)
+    (λ c κs. search needs)
+    (λ c. search needs)
+    push-requires-2
+    (λ c. search needs)
+    (λ c. search needs)
+    loop-again
+    (λ c κs. search needs)
+    mul-push
+    (λ c κs. search needs)
+    add-push-2
+    push-requires-3
+    returns)

@@ -1,0 +1,42 @@
+-- Which number turns two stored automata away at a union or a product, and what is written (document 01, sections "Joining, demanding both, and the sample" and "Turned away, by place"). Assumes nothing.
+use mathlib.Core.List.{List}
+use mathlib.Core.Bool.{Bool, _&&_}
+use Prim.Native.Nat.{ℕ}
+use lib.Dec.{leb, eqb}
+use lib.ListN.{length}
+use Rattle.model.specs.Limits.{maxStates, maxTags, maxRules}
+use Rattle.model.specs.Lists.{allBelow}
+use Rattle.model.specs.Refusal.{demand, andAfter}
+use Rattle.model.specs.Automaton.{Automaton, arityOf}
+use Rattle.model.specs.Boolean.{union, product}
+use Rattle.automaton.specs.Stored.{decode}
+use Rattle.automaton.specs.Check.{checkOf}
+use Rattle.automaton.specs.Encode.{encodedLength}
+
+-- 51: as many symbols, each with as many children
+unfoldable pub sameSymbols : Automaton → Automaton → Bool
+sameSymbols A B = eqb (length (A .arities)) (length (B .arities)) && allBelow (length (A .arities)) (λ f. eqb (arityOf A f) (arityOf B f))
+
+-- 52: so many states, tags and rules are within the limits
+unfoldable pub withinLimits : ℕ → ℕ → ℕ → Bool
+withinLimits states tags rules = leb states maxStates && leb tags maxTags && leb rules maxRules
+
+-- 52 and 53: the result in a space of so many bytes
+unfoldable pub resultCheckOf : Automaton → ℕ → ℕ
+resultCheckOf R space =
+    demand (withinLimits (length (R .states)) (R .tags) (length (R .rules))) 52
+    (demand (leb (encodedLength R) space) 53 0)
+
+-- The number for two sets of which `result` is to be made in a space of so many bytes, 0 for none: the first set, the second, then both.
+unfoldable pub combineCheckOf : (Automaton → Automaton → Automaton) → List ℕ → List ℕ → ℕ → ℕ
+combineCheckOf result first second space =
+    andAfter (checkOf first)
+    (andAfter (checkOf second)
+    (demand (sameSymbols (decode first) (decode second)) 51
+    (resultCheckOf (result (decode first) (decode second)) space)))
+
+abbrev pub unionCheckOf : List ℕ → List ℕ → ℕ → ℕ
+unionCheckOf = combineCheckOf union
+
+abbrev pub productCheckOf : List ℕ → List ℕ → ℕ → ℕ
+productCheckOf = combineCheckOf product
