@@ -1,0 +1,5 @@
+pub mod Places
+pub mod Marking
+pub mod Tags
+pub mod Building
+pub mod Answer
