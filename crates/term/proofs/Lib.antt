@@ -1,0 +1,13 @@
+pub mod Bytes
+pub mod Leading
+pub mod Numbers
+pub mod Scalars
+pub mod Ending
+pub mod Symbols
+pub mod Listing
+pub mod Reading
+pub mod Meaning
+pub mod Texts
+pub mod Whole
+pub mod TextTable
+pub mod Refusals

@@ -1,0 +1,44 @@
+-- What the reader's parts work on and answer: rows so far in cells, with an index over them. Assumes nothing.
+use mathlib.Core.Path.{_≡_}
+use mathlib.Core.List.{List, List·Memᴰ as In}
+use Prim.Native.Nat.{ℕ, _*_, _<_, _≤_}
+use lib.ListN.{length, take}
+use Rattle.model.specs.Limits.{maxRows, unused}
+use Rattle.model.specs.Automaton.{arityOf}
+use Rattle.automaton.specs.Stored.{decode}
+use Rattle.document.specs.Rows.{rowCells, rowsBelow, placesOf, encodeRows}
+use Rattle.document.specs.Index.{numbered}
+use Rattle.document.specs.Builder.{Built}
+use Rattle.names.specs.Names.{findIn}
+use Rattle.names.specs.Table.{nameIn}
+use Rattle.term.specs.Grammar.{Setting, Outcome, good, refused, Named, named, unnamed}
+use Rattle.term.specs.declared.reader.SymbolRead.{SymbolRead}
+use Rattle.term.specs.declared.reader.SymbolRead.the-variants.{Symbol, Unnamed}
+use Rattle.term.specs.declared.reader.TermPart.{TermPart}
+use Rattle.term.specs.declared.reader.TermPart.the-variants.{Read, Refused}
+
+-- a stored set, a table of names for so many symbols, and the most rows
+abbrev pub settingOf : List ℕ → List ℕ → ℕ → ℕ → Setting
+settingOf set names symbols limit = record { symbol = findIn symbols (nameIn names); arity = arityOf (decode set); limit = limit }
+
+-- so many rows in the cells, which the slots index, and room for as many as the limit
+pub record Ready (cells slots : List ℕ) (rows limit : ℕ) : Type 0 where
+  pub built : Built cells slots rows
+  pub encoded : take (rows * rowCells) cells ≡ encodeRows (rowsBelow cells rows)
+  pub few : limit ≤ maxRows
+  pub room : limit * rowCells ≤ length cells
+
+-- the children js are so many, and the first of them are in the places
+pub record Held (js : List ℕ) (count : ℕ) (places : List ℕ) : Type 0 where
+  pub number : count ≡ length js
+  pub first : places ≡ placesOf js
+  pub rows : (j : ℕ) → In j js → j < unused
+
+-- what an answer, with the cells and slots left behind, says of what was to be read
+abbrev pub Says : List ℕ → List ℕ → ℕ → TermPart → Outcome ℕ → Type 0
+Says cells slots limit r (good j next rows) = (r ≡ Read (numbered j) next (length rows)) × (rows ≡ rowsBelow cells (length rows)) × Ready cells slots (length rows) limit
+Says cells slots limit r (refused w p) = r ≡ Refused w p
+
+abbrev pub namedOf : SymbolRead → Named
+namedOf (Symbol s next) = named s next
+namedOf (Unnamed w p) = unnamed w p

@@ -1,0 +1,246 @@
+// Terms and argument lists: the two readers call each other, the level falling; siblings are a loop.
+use crate::scan::ScalarRead;
+use crate::scan::byte_at;
+use crate::scan::name_bytes;
+use crate::scan::scalar_at;
+use crate::scan::size;
+use automaton::arity;
+use document::Scalar;
+use document::builder::Placed;
+use document::builder::find_or_add;
+use document::fields::RowFields;
+use document::rows::Row;
+use document::rows::UNUSED;
+use names::bytes::is_letter;
+use names::lines::MAX_NAME;
+use names::table::Found;
+use names::table::find;
+ghost use mathlib.Core.Path.{_≡_};
+ghost use mathlib.Core.Bool.{true, cond};
+ghost use mathlib.Core.Option.{Option};
+ghost use mathlib.Core.List.{List};
+ghost use Prim.Native.Nat.{ℕ, _+_, _-_, _<_};
+ghost use lib.Dec.{ltb};
+ghost use lib.ListN.{length, set};
+ghost use Rattle.model.specs.Automaton.{arityOf};
+ghost use Rattle.automaton.specs.Stored.{decode};
+ghost use Rattle.automaton.specs.Check.{checkOf};
+ghost use Rattle.document.specs.Rows.{rowsBelow};
+ghost use Rattle.document.specs.Scalars.{kindOf, payloadOf};
+ghost use Rattle.names.specs.Names.{letter?, findIn};
+ghost use Rattle.names.specs.Table.{nameIn};
+ghost use Rattle.term.specs.Scan.{byteAt, nameAt, scalar, scalarAt};
+ghost use Rattle.term.specs.Grammar.{rowOf, endTerm, afterArgs, afterScalar, readArgs, symbolOf, readTerm};
+ghost use Rattle.term.specs.State.{settingOf, Ready, Held, Says, namedOf};
+
+// A symbol and the place after its name, or a refusal's number and place.
+pub(crate) enum SymbolRead {
+    Symbol(u16, usize),
+    Unnamed(u16, usize),
+}
+
+// A term's row, the place after it and the rows so far, or a refusal's number and place.
+pub(crate) enum TermPart {
+    Read(Row, usize, u16),
+    Refused(u16, usize),
+}
+
+// The symbol that is named at a place, where a letter stands.
+fn symbol_at(text: &[u8], names: &[u8], symbols: u16, at: usize) -> SymbolRead
+    requires { ⌜ letter? (byteAt (now text) at) ≡ true ⌝ }
+    ensures { λ r. ⌜ namedOf r ≡ symbolOf (findIn symbols (nameIn (now (names .entry)))) at (nameAt (now (text .entry)) at) ⌝ }
+{
+    let n = name_bytes(text, at);
+    if n > MAX_NAME {
+        return SymbolRead::Unnamed(63, at + MAX_NAME);
+    }
+    let end = at + n;
+    match find(names, symbols, &text[at..end]) {
+        Found::Symbol(s) => SymbolRead::Symbol(s, end),
+        Found::Unknown => SymbolRead::Unnamed(65, at),
+    }
+}
+
+// The term that began at `at` ends before `next`: its row is looked for, and added where it is new.
+fn end_term(
+    set: &[u8],
+    rows: &mut [u16],
+    slots: &mut [u16; 2048],
+    used: u16,
+    limit: u16,
+    at: usize,
+    next: usize,
+    children: usize,
+    fields: RowFields,
+) -> TermPart
+    requires ready { ⌜ Ready (now rows) (now slots) used limit ⌝ }
+    requires sound { ⌜ checkOf (now set) ≡ 0 ⌝ }
+    ensures { λ r. ⌜ ((js : List ℕ) → Held js children (fields .places) → Says (now (rows .exit)) (now (slots .exit)) limit r (endTerm (arityOf (decode (now (set .entry)))) limit at (rowOf (fields .symbol) (scalar (kindOf (fields .scalar)) (payloadOf (fields .scalar))) js) next (rowsBelow (now (rows .entry)) used))) ⌝ }
+{
+    if children != size(arity(set, fields.symbol)) {
+        return TermPart::Refused(66, at);
+    }
+    match find_or_add(rows, slots, used, limit, fields) {
+        Placed::Known(i) => TermPart::Read(i, next, used),
+        Placed::Added(i) => TermPart::Read(i, next, used + 1),
+        Placed::Full => TermPart::Refused(67, at),
+    }
+}
+
+// A term without children: the scalar behind its name, then its end.
+fn leaf(
+    text: &[u8],
+    set: &[u8],
+    rows: &mut [u16],
+    slots: &mut [u16; 2048],
+    used: u16,
+    limit: u16,
+    at: usize,
+    symbol: u16,
+    end: usize,
+) -> TermPart
+    requires ready { ⌜ Ready (now rows) (now slots) used limit ⌝ }
+    requires sound { ⌜ checkOf (now set) ≡ 0 ⌝ }
+    ensures { λ r. ⌜ ((find : List ℕ → Option ℕ) → Says (now (rows .exit)) (now (slots .exit)) limit r (afterScalar (record { symbol = find; arity = arityOf (decode (now (set .entry))); limit = limit }) at symbol (rowsBelow (now (rows .entry)) used) (scalarAt (now (text .entry)) end))) ⌝ }
+{
+    match scalar_at(text, end) {
+        ScalarRead::Is(s, next) => {
+            let fields = RowFields {
+                symbol: symbol,
+                places: [UNUSED; 4],
+                scalar: s,
+            };
+            end_term(set, rows, slots, used, limit, at, next, 0, fields)
+        },
+        ScalarRead::Fault(p) => TermPart::Refused(63, p),
+    }
+}
+
+// One more child into the places; past the fourth they stay as they are.
+fn put_child(places: &mut [u16; 4], k: usize, j: Row)
+    ensures { λ r. ⌜ now (places .exit) ≡ cond (ltb k 4) (set (now (places .entry)) k (j .0)) (now (places .entry)) ⌝ }
+{
+    if k < 4 {
+        places[k] = j.0;
+    }
+}
+
+// The term at a place, of at most so many levels.
+pub(crate) fn term(
+    text: &[u8],
+    set: &[u8],
+    names: &[u8],
+    symbols: u16,
+    limit: u16,
+    rows: &mut [u16],
+    slots: &mut [u16; 2048],
+    used: u16,
+    level: usize,
+    at: usize,
+) -> TermPart
+    requires ready { ⌜ Ready (now rows) (now slots) used limit ⌝ }
+    requires sound { ⌜ checkOf (now set) ≡ 0 ⌝ }
+    requires counted { ⌜ symbols ≡ length ((decode (now set)) .arities) ⌝ }
+    ensures { λ r. ⌜ Says (now (rows .exit)) (now (slots .exit)) limit r (readTerm (settingOf (now (set .entry)) (now (names .entry)) symbols limit) (now (text .entry)) level at (rowsBelow (now (rows .entry)) used)) ⌝ }
+{
+    if !is_letter(byte_at(text, at)) {
+        return TermPart::Refused(63, at);
+    }
+    if level == 0 {
+        return TermPart::Refused(64, at);
+    }
+    match symbol_at(text, names, symbols, at) {
+        SymbolRead::Unnamed(w, p) => TermPart::Refused(w, p),
+        SymbolRead::Symbol(s, end) => {
+            if byte_at(text, end) != b'(' {
+                return leaf(text, set, rows, slots, used, limit, at, s, end);
+            }
+            arguments(
+                text,
+                set,
+                names,
+                symbols,
+                limit,
+                rows,
+                slots,
+                used,
+                level - 1,
+                end + 1,
+                at,
+                s,
+            )
+        },
+    }
+}
+
+// An argument list after its bracket, then the end of its term, which began at `first`: one turn of the loop for each child.
+fn arguments(
+    text: &[u8],
+    set: &[u8],
+    names: &[u8],
+    symbols: u16,
+    limit: u16,
+    rows: &mut [u16],
+    slots: &mut [u16; 2048],
+    used: u16,
+    level: usize,
+    start: usize,
+    first: usize,
+    symbol: u16,
+) -> TermPart
+    requires ready { ⌜ Ready (now rows) (now slots) used limit ⌝ }
+    requires sound { ⌜ checkOf (now set) ≡ 0 ⌝ }
+    requires counted { ⌜ symbols ≡ length ((decode (now set)) .arities) ⌝ }
+    ensures { λ r. ⌜ Says (now (rows .exit)) (now (slots .exit)) limit r (afterArgs (settingOf (now (set .entry)) (now (names .entry)) symbols limit) first symbol (readArgs (readTerm (settingOf (now (set .entry)) (now (names .entry)) symbols limit) (now (text .entry)) level) (now (text .entry)) (length (now (text .entry)) - start) start (rowsBelow (now (rows .entry)) used))) ⌝ }
+{
+    let mut at = start;
+    let mut known = used;
+    let mut children = 0;
+    let mut places = [UNUSED; 4];
+    loop {
+        match term(
+            text,
+            set,
+            names,
+            symbols,
+            limit,
+            &mut *rows,
+            &mut *slots,
+            known,
+            level,
+            at,
+        ) {
+            TermPart::Refused(w, p) => {
+                return TermPart::Refused(w, p);
+            },
+            TermPart::Read(j, next, n) => {
+                put_child(&mut places, children, j);
+                children += 1;
+                known = n;
+                let b = byte_at(text, next);
+                if b == b')' {
+                    let fields = RowFields {
+                        symbol: symbol,
+                        places: places,
+                        scalar: Scalar::Bare,
+                    };
+                    return end_term(
+                        set,
+                        rows,
+                        slots,
+                        known,
+                        limit,
+                        first,
+                        next + 1,
+                        children,
+                        fields,
+                    );
+                }
+                if b != b',' {
+                    return TermPart::Refused(63, next);
+                }
+                at = next + 1;
+            },
+        }
+    }
+}
