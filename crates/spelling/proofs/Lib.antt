@@ -1,0 +1,11 @@
+pub mod Decimal
+pub mod Pieces
+pub mod Texts
+pub mod Summing
+pub mod Putting
+pub mod Writing
+pub mod Standing
+pub mod Rereading
+pub mod Terms
+pub mod SameCells
+pub mod RoundTrip

@@ -1,0 +1,165 @@
+-- A scalar's text, made from its last byte to its first: what the loops know at their heads, and each kind of scalar. Assumes nothing.
+use mathlib.Core.Path.{_≡_, refl, sym, ap, subst, _∙_}
+use mathlib.Core.Bool.{true, cond}
+use mathlib.Core.List.{List, [], _∷_, _++_, append-assoc, append-nil}
+use Prim.Native.Nat.{ℕ, zero, suc, _+_, _-_, _/_, _%_, _^_, _<_, _≤_}
+use native.Mathlib.Omega.{arith}
+use borrow.Author.Needs.{needs}
+use borrow.Author.Tests.{lt-ltb, le-ltb}
+use lib.Dec.{T}
+use lib.ListN.{length, take, drop, set, length-append, length-set}
+use lib.Seq.{set-split, drop-at, length-take-le}
+use Rattle.model.specs.Table.{scalar?}
+use Rattle.model.proofs.Members.{T-true}
+use Rattle.names.specs.Names.{decimal}
+use Rattle.document.specs.declared.scalar.Scalar.{Scalar}
+use Rattle.document.specs.declared.scalar.Scalar.the-variants.{Bare, Count, Name}
+use Rattle.document.specs.declared.scalar.Decoded.the-variants.{Is, Not}
+use Rattle.document.specs.Scalars.{kindOf, payloadOf, scalarAt, decodeScalar}
+use Rattle.document.specs.Put.{orBare}
+use Rattle.document.proofs.Scalars.{there-and-back}
+use Rattle.spelling.specs.declared.piece.Piece.{Piece}
+use Rattle.spelling.specs.Text.{hexDigit, hexDigits, scalarText}
+use Rattle.spelling.specs.Parts.{pieceBytes, Holds}
+use Rattle.spelling.proofs.Decimal.{decimal-last, decimal-more, decimal-few, decimal-some}
+
+-- a byte more in front
+pub byte-before : (p : Piece) (b s : ℕ) → 0 < p .start → s ≡ p .start - 1 → (text : List ℕ) → Holds p text → Holds (record { bytes = set (p .bytes) s b; start = s }) (b ∷ text)
+byte-before p b s some e text h =
+    let inside : s < length (p .bytes) = omega (arith, h .size, h .long) in
+    let n : suc s ≡ p .start = omega arith in
+    record {
+      is =
+          ap (drop s) (set-split (p .bytes) s b inside)
+          ∙ drop-at (take s (p .bytes)) (b ∷ drop (suc s) (p .bytes)) s (length-take-le s (p .bytes) (omega arith))
+          ∙ ap (λ l. b ∷ l) (ap (λ k. drop k (p .bytes)) n ∙ h .is);
+      size = omega (arith, h .size);
+      long = length-set (p .bytes) s b ∙ h .long;
+    }
+
+-- what is still to come, and what the piece holds, make the whole
+pub record Joined (front whole : List ℕ) (p : Piece) : Type 0 where
+  pub text : List ℕ
+  pub holds : Holds p text
+  pub is : front ++ text ≡ whole
+
+-- p with the byte b in front
+abbrev pub Before : ℕ → Piece → Piece → Type 0
+Before b p q = (text : List ℕ) → Holds p text → Holds q (b ∷ text)
+
+joined-none : (whole : List ℕ) (p : Piece) → Holds p [] → Joined whole whole p
+joined-none whole p h = record { text = []; holds = h; is = append-nil whole }
+
+joined-size : (front whole : List ℕ) (p : Piece) → Joined front whole p → p .start + length whole ≡ pieceBytes + length front
+joined-size front whole p j = let e = ap length (j .is) in let f = length-append front (j .text) in omega (arith, j .holds .size)
+
+joined-more : (front whole : List ℕ) (p q : Piece) (b : ℕ) → Joined (front ++ b ∷ []) whole p → Before b p q → Joined front whole q
+joined-more front whole p q b j f = record { text = b ∷ j .text; holds = f (j .text) (j .holds); is = sym (append-assoc front (b ∷ []) (j .text)) ∙ j .is }
+
+joined-all : (whole : List ℕ) (p : Piece) → Joined [] whole p → Holds p whole
+joined-all whole p j = subst (Holds p) (j .is) (j .holds)
+
+-- decimal digits
+abbrev pub Digits : ℕ → ℕ → Piece → Type 0
+Digits n rest p = Joined (decimal rest) (decimal n) p
+
+pub digits-none : (n : ℕ) (p : Piece) → Holds p [] → Digits n n p
+digits-none n = joined-none (decimal n)
+
+module _ (n rest : ℕ) (p : Piece) (j : Digits n rest p) where
+  pub digits-room : n < 2 ^ 64 → (0 < p .start) × (p .start ≤ pieceBytes)
+  digits-room l =
+      let s = joined-size (decimal rest) (decimal n) p j in
+      let a = decimal-few n l in
+      let b = decimal-some rest in
+      (omega arith, omega (arith, j .holds .size))
+
+  module _ (q : Piece) (b : ℕ) (f : Before b p q) where
+    pub digits-more : 10 ≤ rest → b ≡ 48 + rest % 10 → Digits n (rest / 10) q
+    digits-more l e =
+        joined-more (decimal (rest / 10)) (decimal n) p q b
+        (subst (λ l. Joined l (decimal n) p) (decimal-more rest l ∙ ap (λ d. decimal (rest / 10) ++ d ∷ []) (sym e)) j) f
+
+    pub digits-all : n < 2 ^ 64 → rest < 10 → b ≡ 48 + rest → Holds q (decimal n) × (0 < q .start)
+    digits-all m l e =
+        let h = joined-all (decimal n) q (joined-more [] (decimal n) p q b (subst (λ l. Joined l (decimal n) p) (decimal-last rest l ∙ ap (λ d. d ∷ []) (sym e)) j) f) in
+        (h, omega (arith, h .size, decimal-few n m))
+
+-- hex digits
+pub hex-low : (n b : ℕ) → n < 10 → b ≡ 48 + n → b ≡ hexDigit n
+unfolding hexDigit
+hex-low n b l e = rw (lt-ltb _ _ l) e
+
+pub hex-high : (n b : ℕ) → 10 ≤ n → b ≡ 97 + (n - 10) → b ≡ hexDigit n
+unfolding hexDigit
+hex-high n b l e = rw (le-ltb _ _ l) (omega arith)
+
+pub record Hex (n left rest : ℕ) (p : Piece) : Type 0 where
+  pub joined : Joined (hexDigits left rest) (hexDigits 16 n) p
+  pub place : p .start ≡ 5 + left
+
+pub hex-length : (k n : ℕ) → length (hexDigits k n) ≡ k
+unfolding hexDigits
+hex-length zero n = refl
+hex-length (suc k) n = let h = hex-length k (n / 16) in rw length-append (omega arith)
+
+module _ (n : ℕ) where
+  pub hex-none : (p : Piece) → Holds p [] → Hex n 16 n p
+  hex-none p h = record { joined = joined-none (hexDigits 16 n) p h; place = let s = h .size in omega arith }
+
+  module _ (left rest : ℕ) (p : Piece) (j : Hex n left rest p) where
+    pub hex-room : left ≤ 16 → (0 < p .start) × (p .start ≤ pieceBytes)
+    hex-room l = (omega (arith, j .place), omega (arith, j .place))
+
+    pub hex-more : (q : Piece) (b k : ℕ) → 0 < left → k ≡ left - 1 → b ≡ hexDigit (rest % 16) → Before b p q → Hex n k (rest / 16) q
+    unfolding hexDigits
+    hex-more q b k l e d f =
+        let m : left ≡ suc k = omega arith in
+        let i : Joined (hexDigits k (rest / 16) ++ b ∷ []) (hexDigits 16 n) p = subst (λ x. Joined (hexDigits k (rest / 16) ++ x ∷ []) (hexDigits 16 n) p) (sym d) (subst (λ x. Joined (hexDigits x rest) (hexDigits 16 n) p) m (j .joined)) in
+        let next = joined-more (hexDigits k (rest / 16)) (hexDigits 16 n) p q b i f in
+        let s = joined-size (hexDigits k (rest / 16)) (hexDigits 16 n) q next in
+        let a = hex-length k (rest / 16) in
+        let z = hex-length 16 n in
+        record { joined = next; place = omega arith }
+
+    pub hex-all : left ≤ 0 → Holds p (hexDigits 16 n)
+    unfolding hexDigits
+    hex-all l = let z : left ≡ 0 = omega arith in joined-all (hexDigits 16 n) p (subst (λ x. Joined (hexDigits x rest) (hexDigits 16 n) p) z (j .joined))
+
+-- one kind of scalar each
+pub by-scalar : {s t : Scalar} (p : Piece) → s ≡ t → Holds p (scalarText (kindOf t) (payloadOf t)) → Holds p (scalarText (kindOf s) (payloadOf s))
+by-scalar p e h = rw e h
+
+module _ (p : Piece) where
+  pub bare-holds : Holds p [] → Holds p (scalarText (kindOf Bare) (payloadOf Bare))
+  unfolding scalarText
+  bare-holds h = h
+
+  module _ (n : ℕ) (q : Piece) where
+    pub count-holds : Before 61 q p → Holds q (decimal n) → Holds p (scalarText (kindOf (Count n)) (payloadOf (Count n)))
+    unfolding scalarText
+    count-holds f h = f (decimal n) h
+
+    pub rate-holds : (bits : ℕ) → bits ≡ n → Before 126 q p → Holds q (hexDigits 16 bits) → Holds p (scalarText 3 n)
+    unfolding scalarText
+    rate-holds bits e f h = subst (λ m. Holds p (126 ∷ hexDigits 16 m)) e (f (hexDigits 16 bits) h)
+
+    pub name-holds : Before 35 q p → Holds q (decimal n) → Holds p (scalarText (kindOf (Name n)) (payloadOf (Name n)))
+    unfolding scalarText
+    name-holds f h = f (decimal n) h
+
+-- the scalar of a row that has one
+pub row-scalar : (k n : ℕ) (s : Scalar) (p : Piece) → T (scalar? k n) → s ≡ orBare (decodeScalar k n) → Holds p (scalarText (kindOf s) (payloadOf s)) → Holds p (scalarText k n)
+row-scalar k n s p t e h =
+    let is : scalar? k n ≡ true = T-true (scalar? k n) .0 t in
+    let q : s ≡ scalarAt k n = e ∙ ap (λ b. orBare (cond b (Is (scalarAt k n)) Not)) is in
+    let b = there-and-back k n t in
+    subst (Holds p) (λ i. scalarText ((ap kindOf q ∙ b .kind) i) ((ap payloadOf q ∙ b .payload) i)) h
+
+-- room for a byte before the digits
+pub hex-start : (n : ℕ) (p : Piece) → Holds p (hexDigits 16 n) → (0 < p .start) × (p .start ≤ pieceBytes)
+hex-start n p h = let a = hex-length 16 n in let s = h .size in (omega arith, omega arith)
+
+pub ruleset digits = (digits-none, digits-room, digits-more, digits-all, needs)
+
+pub ruleset hexes = (hex-none, hex-room, hex-more, hex-all, needs)

@@ -1,0 +1,17 @@
+-- `spelling::piece::hex_digit` meets its contract. Assumes nothing.
+use borrow.Author.Needs.{needs}
+use Rattle.spelling.proofs.Pieces.{hex-low, hex-high}
+use Rattle.spelling.proofs.piece.hex_digit.Statement.{statement}
+use Rattle.spelling.proofs.piece.hex_digit.Tie as tie
+
+pub hex-digit-spec : {M : Type 1} → statement M
+hex-digit-spec =
+    tie.close
+    (tie.spec
+    (λ c. search needs)
+    (λ c. search needs)
+    (λ c. hex-low _ _ (search needs) (search needs))
+    (λ c. search needs)
+    (λ c. search needs)
+    (λ c. search needs)
+    (λ c. hex-high _ _ (search needs) (search needs)))

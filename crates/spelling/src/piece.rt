@@ -1,0 +1,133 @@
+// The text of a scalar, made from its last byte to its first.
+use document::Scalar;
+use document::rows::Row;
+use document::rows::fields_at;
+use document::scalar::bits_of;
+ghost use mathlib.Core.Path.{_≡_};
+ghost use mathlib.Core.List.{List, [], _∷_};
+ghost use Prim.Native.Nat.{ℕ, _+_, _<_, _≤_};
+ghost use lib.Dec.{T};
+ghost use Rattle.model.specs.Table.{scalar?};
+ghost use Rattle.names.specs.Names.{decimal};
+ghost use Rattle.document.specs.Rows.{rowIn};
+ghost use Rattle.document.specs.Scalars.{kindOf, payloadOf};
+ghost use Rattle.document.specs.declared.scalar.Scalar.the-variants.{Flag};
+ghost use Rattle.spelling.specs.Text.{hexDigit, hexDigits, scalarText};
+ghost use Rattle.spelling.specs.Parts.{pieceBytes, Holds};
+
+// The most bytes of a scalar.
+pub(crate) const PIECE: usize = 21;
+
+const HEX_DIGITS: usize = 16;
+
+// The text stands from `start` to the end of the bytes.
+pub struct Piece {
+    pub bytes: [u8; PIECE],
+    pub start: usize,
+}
+
+fn nothing() -> Piece
+    ensures { λ r. ⌜ Holds r [] ⌝ }
+{
+    Piece {
+        bytes: [0; PIECE],
+        start: PIECE,
+    }
+}
+
+// A byte before a text.
+fn before(b: u8, p: Piece) -> Piece
+    requires { ⌜ (0 < p .start) × (p .start ≤ pieceBytes) ⌝ }
+    ensures { λ r. ⌜ ((text : List ℕ) → Holds p text → Holds r (b ∷ text)) ⌝ }
+{
+    let mut bytes = p.bytes;
+    let start = p.start - 1;
+    bytes[start] = b;
+    Piece { bytes, start }
+}
+
+// The digit of a number below ten.
+fn digit(n: u64) -> u8
+    requires { ⌜ n < 10 ⌝ }
+    ensures { λ r. ⌜ r ≡ 48 + n ⌝ }
+{
+    b'0' + n as u8
+}
+
+// The hex digit of a number below sixteen.
+fn hex_digit(n: u64) -> u8
+    requires { ⌜ n < 16 ⌝ }
+    ensures { λ r. ⌜ r ≡ hexDigit n ⌝ }
+{
+    if n < 10 {
+        return b'0' + n as u8;
+    }
+    b'a' + (n as u8 - 10)
+}
+
+// A number in decimal, which leaves room for a byte before it.
+pub fn decimal_of(n: u64) -> Piece
+    ensures { λ r. ⌜ Holds r (decimal n) × (0 < r .start) ⌝ }
+{
+    let mut rest = n;
+    let mut p = nothing();
+    while rest >= 10 {
+        p = before(digit(rest % 10), p);
+        rest = rest / 10;
+    }
+    before(digit(rest), p)
+}
+
+// All bits of a number in hex.
+fn hex_of(n: u64) -> Piece
+    ensures { λ r. ⌜ Holds r (hexDigits 16 n) ⌝ }
+{
+    let mut rest = n;
+    let mut left = HEX_DIGITS;
+    let mut p = nothing();
+    while left > 0 {
+        p = before(hex_digit(rest % 16), p);
+        rest = rest / 16;
+        left -= 1;
+    }
+    p
+}
+
+fn flag_of(b: bool) -> Piece
+    ensures { λ r. ⌜ Holds r (scalarText 1 (payloadOf (Flag b))) ⌝ }
+{
+    if b {
+        return Piece {
+            bytes: *b"                =true",
+            start: 16,
+        };
+    }
+    Piece {
+        bytes: *b"               =false",
+        start: 15,
+    }
+}
+
+// The text of a scalar.
+fn scalar_text(s: Scalar) -> Piece
+    ensures { λ r. ⌜ Holds r (scalarText (kindOf s) (payloadOf s)) ⌝ }
+{
+    match s {
+        Scalar::Bare => nothing(),
+        Scalar::Flag(b) => flag_of(b),
+        Scalar::Count(n) => before(b'=', decimal_of(n)),
+        Scalar::Rate(x) => before(b'~', hex_of(bits_of(x))),
+        Scalar::NanRate(bits) => before(b'~', hex_of(bits)),
+        Scalar::Name(n) => before(b'#', decimal_of(n as u64)),
+    }
+}
+
+// The text of a row's scalar.
+pub(crate) fn scalar_at(rows: &[u16], i: Row) -> Piece
+    requires { ⌜ T (scalar? ((rowIn (now rows) (i .0)) .kind) ((rowIn (now rows) (i .0)) .payload)) ⌝ }
+    ensures { λ r. ⌜ Holds r (scalarText ((rowIn (now (rows .entry)) (i .0)) .kind) ((rowIn (now (rows .entry)) (i .0)) .payload)) ⌝ }
+{
+    let f = fields_at(rows, i);
+    let s = f.scalar;
+    scalar_text(s)
+}
