@@ -1,0 +1,421 @@
+// The cases and edges of document 01, section "Examples, with the edges", run: a line for each, and `stdout` has what the paper says.
+use automaton::Checked;
+use boolean::Combined;
+use console::OUTPUT;
+use document::Scalar;
+use document::fields::RowFields;
+use document::rows::Row;
+use document::rows::UNUSED;
+use document::rows::put_row;
+use libc::STDOUT_FILENO;
+use membership::Judged;
+use names::bytes::put;
+
+// Set E: state 0 with tag 0, state 1 final; pair(0,0) to 1, a to 0, b to 0.
+const E: [u8; 59] = [
+    3,
+    0,
+    2,
+    0,
+    1,
+    0,
+    3,
+    0,
+    16,
+    0,
+    19,
+    0,
+    23,
+    0,
+    59,
+    0,
+    2,
+    0,
+    0,
+    0,
+    1,
+    1,
+    0,
+    0,
+    0,
+    1,
+    0,
+    0,
+    0,
+    0,
+    0,
+    255,
+    255,
+    255,
+    255,
+    1,
+    0,
+    0,
+    0,
+    255,
+    255,
+    255,
+    255,
+    255,
+    255,
+    255,
+    255,
+    2,
+    0,
+    0,
+    0,
+    255,
+    255,
+    255,
+    255,
+    255,
+    255,
+    255,
+    255,
+];
+
+// Set G: q = 0 final, r = 1 with tag 0; g(q) to r, g(r) to q, a to q.
+const G: [u8; 58] = [
+    2,
+    0,
+    2,
+    0,
+    1,
+    0,
+    3,
+    0,
+    16,
+    0,
+    18,
+    0,
+    22,
+    0,
+    58,
+    0,
+    1,
+    0,
+    1,
+    0,
+    0,
+    1,
+    0,
+    0,
+    1,
+    0,
+    0,
+    0,
+    255,
+    255,
+    255,
+    255,
+    255,
+    255,
+    0,
+    0,
+    0,
+    0,
+    1,
+    0,
+    255,
+    255,
+    255,
+    255,
+    255,
+    255,
+    1,
+    0,
+    0,
+    0,
+    255,
+    255,
+    255,
+    255,
+    255,
+    255,
+    255,
+    255,
+];
+
+// Set D: only pair(0,0) to 0, state 0 final.
+const D: [u8; 33] = [
+    3,
+    0,
+    1,
+    0,
+    0,
+    0,
+    1,
+    0,
+    16,
+    0,
+    19,
+    0,
+    21,
+    0,
+    33,
+    0,
+    2,
+    0,
+    0,
+    1,
+    0,
+    0,
+    0,
+    0,
+    0,
+    0,
+    0,
+    0,
+    0,
+    255,
+    255,
+    255,
+    255,
+];
+
+// Set B, untagged: a to 0, a to 1, pair(0,1) to 2, 2 final.
+const B: [u8; 61] = [
+    3,
+    0,
+    3,
+    0,
+    0,
+    0,
+    3,
+    0,
+    16,
+    0,
+    19,
+    0,
+    25,
+    0,
+    61,
+    0,
+    2,
+    0,
+    0,
+    0,
+    0,
+    0,
+    0,
+    1,
+    0,
+    0,
+    0,
+    2,
+    0,
+    0,
+    0,
+    1,
+    0,
+    255,
+    255,
+    255,
+    255,
+    1,
+    0,
+    0,
+    0,
+    255,
+    255,
+    255,
+    255,
+    255,
+    255,
+    255,
+    255,
+    1,
+    0,
+    1,
+    0,
+    255,
+    255,
+    255,
+    255,
+    255,
+    255,
+    255,
+    255,
+];
+
+// The cells of 1,025 rows.
+const CELLS: usize = 10250;
+
+fn say(bytes: &[u8]) {
+    io::write_all(STDOUT_FILENO, bytes);
+}
+
+fn refused(n: u16) {
+    say(b"refused ");
+    io::print_decimal(STDOUT_FILENO, n as u64);
+    say(b"\n");
+}
+
+fn checked(c: Checked) {
+    match c {
+        Checked::Sound => say(b"sound\n"),
+        Checked::Refused(n) => refused(n),
+    }
+}
+
+// A case's name, and what the judging program prints for a set and a text.
+fn judge(case: &[u8], set: &[u8], text: &[u8]) {
+    say(case);
+    if set.len() > 128 {
+        return;
+    }
+    if text.len() > 128 {
+        return;
+    }
+    let mut input = [0u8; 256];
+    put(&mut input, 0, set);
+    put(&mut input, set.len(), text);
+    let n = set.len() + text.len();
+    let mut output = [0u8; OUTPUT];
+    let k = console::judge(&input[..n], &mut output);
+    say(&output[..k]);
+}
+
+// A case's name, and what the sample program prints for a set.
+fn sample(case: &[u8], set: &[u8]) {
+    say(case);
+    let mut output = [0u8; OUTPUT];
+    let k = console::sample(set, &mut output);
+    say(&output[..k]);
+}
+
+// The sets of document 01 and their texts.
+fn documents() {
+    judge(b"E, pair(a=7,a=7): ", &E, b"s0(s1=7,s1=7)");
+    judge(b"E, pair(a=7,a=8): ", &E, b"s0(s1=7,s1=8)");
+    judge(b"E, pair(a,b): ", &E, b"s0(s1,s2)");
+    judge(b"E, a: ", &E, b"s1");
+    judge(
+        b"E, the two zeros: ",
+        &E,
+        b"s0(s1~0000000000000000,s1~8000000000000000)",
+    );
+    judge(b"G, g(g(a)): ", &G, b"s0(s0(s1))");
+    judge(b"G, g(g(g(g(a)))): ", &G, b"s0(s0(s0(s0(s1))))");
+    judge(b"B, pair(a,a): ", &B, b"s0(s1,s1)");
+}
+
+// E and B demanded together.
+fn together() {
+    let mut both = [0u8; 128];
+    let n = match boolean::product(&E, &B, &mut both) {
+        Combined::Length(n) => n,
+        Combined::Refused(_) => 0,
+    };
+    if n > 128 {
+        return;
+    }
+    judge(b"E and B, pair(a=1,a=2): ", &both[..n], b"s0(s1=1,s1=2)");
+    judge(b"E and B, pair(a,a): ", &both[..n], b"s0(s1,s1)");
+    sample(b"E and B at the sample: ", &both[..n]);
+}
+
+// pair(a=7,a=7) with room for one annotation.
+fn little_room() {
+    let mut cells = [0u16; 20];
+    put_row(&mut cells, Row(0), leaf(7));
+    put_row(&mut cells, Row(1), pair(0, 0));
+    let mut work = [0u16; 32];
+    let mut run = [0u16; 6];
+    say(b"E, pair(a=7,a=7), room 1: ");
+    match membership::judge(&E, &cells, &mut work, &mut run) {
+        Judged::Yes(_) => say(b"yes\n"),
+        Judged::No => say(b"no\n"),
+        Judged::Refused(n) => refused(n),
+    }
+}
+
+// A set of so many symbols, one state and no rules, all numbers below 256.
+fn symbols(case: &[u8], n: u8) {
+    say(case);
+    if n > 100 {
+        return;
+    }
+    let mut set = [0u8; 128];
+    put(
+        &mut set,
+        0,
+        &[
+            n,
+            0,
+            1,
+            0,
+            0,
+            0,
+            0,
+            0,
+            16,
+            0,
+            16 + n,
+            0,
+            18 + n,
+            0,
+            18 + n,
+            0,
+        ],
+    );
+    let end = 18 + n as usize;
+    checked(automaton::check(&set[..end]));
+}
+
+fn leaf(count: u16) -> RowFields {
+    RowFields {
+        symbol: 1,
+        places: [UNUSED; 4],
+        scalar: Scalar::Count(count as u64),
+    }
+}
+
+fn pair(a: u16, b: u16) -> RowFields {
+    RowFields {
+        symbol: 0,
+        places: [a, b, UNUSED, UNUSED],
+        scalar: Scalar::Bare,
+    }
+}
+
+// Row i of a table: 512 leaves, 511 pairs that join them to one tree, and pairs of all so far with the first leaf.
+fn row(i: u16) -> RowFields {
+    if i < 512 {
+        return leaf(i);
+    }
+    if i < 1023 {
+        return pair(2 * (i - 512), 2 * (i - 512) + 1);
+    }
+    pair(i - 1, 0)
+}
+
+// A table of so many rows.
+fn table(case: &[u8], rows: u16) {
+    say(case);
+    let mut cells = [0u16; CELLS];
+    let mut i = 0;
+    while i < rows {
+        put_row(&mut cells, Row(i), row(i));
+        i += 1;
+    }
+    let n = rows as usize * 10;
+    if n > CELLS {
+        return;
+    }
+    checked(document::check(&E, &cells[..n]));
+}
+
+fn main() {
+    documents();
+    little_room();
+    together();
+    sample(b"E at the sample: ", &E);
+    sample(b"D at the sample: ", &D);
+    say(b"58 bytes of E: ");
+    checked(automaton::check(&E[..58]));
+    symbols(b"64 symbols: ", 64);
+    symbols(b"65 symbols: ", 65);
+    table(b"1,024 rows: ", 1024);
+    table(b"1,025 rows: ", 1025);
+}
