@@ -1,30 +1,36 @@
 // The C interface: slices pass as pointer and count of elements, and every function answers one 64-bit number (include/cidhomba.h).
-use automaton::Checked;
+mod code; // code.rt: answers as numbers
+
+use code::check_code;
+use code::combined_code;
+use code::judged_code;
+use code::refusal_code;
+use code::witness_code;
+use code::write_code;
+use term::TermRead;
 ghost use mathlib.Core.Path.{_≡_};
+ghost use lib.ListN.{length};
+ghost use Rattle.model.specs.Boolean.{union, product};
 ghost use Rattle.automaton.specs.Check.{checkOf};
 ghost use Rattle.automaton.specs.Answer.{checkedOf};
 ghost use Rattle.document.specs.Check.{documentCheckOf};
 ghost use Rattle.runs.specs.Check.{checkRunOf};
-ghost use Rattle.cidhomba.specs.Code.{checkCode};
-
-// The highest bit tells a refusal.
-const REFUSED: u64 = 9223372036854775808;
-
-fn code_of(c: Checked) -> u64
-    ensures { λ r. ⌜ r ≡ checkCode c ⌝ }
-{
-    match c {
-        Checked::Sound => 0,
-        Checked::Refused(n) => REFUSED + n as u64,
-    }
-}
+ghost use Rattle.boolean.specs.Answer.{combinedOf, combinedSpace};
+ghost use Rattle.emptiness.specs.Answer.{emptinessOf};
+ghost use Rattle.emptiness.specs.Answer.{spaceAfter as witnessSpace};
+ghost use Rattle.term.specs.Read.{readOf, answerOf};
+ghost use Rattle.term.specs.Read.{spaceAfter as readSpace};
+ghost use Rattle.spelling.specs.Write.{writeOf};
+ghost use Rattle.spelling.specs.Write.{answerOf as writtenOf};
+ghost use Rattle.spelling.specs.Write.{spaceAfter as writeSpace};
+ghost use Rattle.cidhomba.specs.Code.{checkCode, JudgingCode, combinedCode, witnessCode, readCode, writeCode};
 
 // 0, or the refusal of the set.
 #[no_mangle]
 pub extern "C" fn cidhomba_check_automaton(set: &[u8]) -> u64
     ensures { λ r. ⌜ r ≡ checkCode (checkedOf (checkOf (now (set .entry)))) ⌝ }
 {
-    code_of(automaton::check(set))
+    check_code(automaton::check(set))
 }
 
 // 0, or the refusal of the set or of the table.
@@ -32,7 +38,7 @@ pub extern "C" fn cidhomba_check_automaton(set: &[u8]) -> u64
 pub extern "C" fn cidhomba_check_document(set: &[u8], rows: &[u16]) -> u64
     ensures { λ r. ⌜ r ≡ checkCode (checkedOf (documentCheckOf (now (set .entry)) (now (rows .entry)))) ⌝ }
 {
-    code_of(document::check(set, rows))
+    check_code(document::check(set, rows))
 }
 
 // 0, or the refusal of the set, of the table or of the run.
@@ -40,5 +46,78 @@ pub extern "C" fn cidhomba_check_document(set: &[u8], rows: &[u16]) -> u64
 pub extern "C" fn cidhomba_check_run(set: &[u8], rows: &[u16], run: &[u16]) -> u64
     ensures { λ r. ⌜ r ≡ checkCode (checkedOf (checkRunOf (now (set .entry)) (now (rows .entry)) (now (run .entry)))) ⌝ }
 {
-    code_of(runs::check(set, rows, run))
+    check_code(runs::check(set, rows, run))
+}
+
+// The number of steps of the run handed back for a yes, 0 for a no, or the refusal of the set, of the table or of the judging.
+#[no_mangle]
+pub extern "C" fn cidhomba_membership(
+    set: &[u8],
+    rows: &[u16],
+    work: &mut [u16],
+    run: &mut [u16],
+) -> u64
+    ensures { λ r. ⌜ JudgingCode (now (set .entry)) (now (rows .entry)) (now (work .entry)) (now (run .entry)) r (now (work .exit)) (now (run .exit)) ⌝ }
+{
+    judged_code(membership::judge(set, rows, work, run))
+}
+
+// The length of the union written, or the refusal of the first set, of the second, or of both.
+#[no_mangle]
+pub extern "C" fn cidhomba_union(first: &[u8], second: &[u8], out: &mut [u8]) -> u64
+    ensures answer { λ r. ⌜ r ≡ combinedCode (combinedOf union (now (first .entry)) (now (second .entry)) (now (out .entry))) ⌝ }
+    ensures space { λ _. ⌜ now (out .exit) ≡ combinedSpace union (now (first .entry)) (now (second .entry)) (now (out .entry)) ⌝ }
+{
+    combined_code(boolean::union(first, second, out))
+}
+
+// The length of the product written, or the refusal of the first set, of the second, or of both.
+#[no_mangle]
+pub extern "C" fn cidhomba_product(first: &[u8], second: &[u8], out: &mut [u8]) -> u64
+    ensures answer { λ r. ⌜ r ≡ combinedCode (combinedOf product (now (first .entry)) (now (second .entry)) (now (out .entry))) ⌝ }
+    ensures space { λ _. ⌜ now (out .exit) ≡ combinedSpace product (now (first .entry)) (now (second .entry)) (now (out .entry)) ⌝ }
+{
+    combined_code(boolean::product(first, second, out))
+}
+
+// 0 for dead; for live the number of rows, which stand at the front of the space, and 65536 times the levels; or the refusal.
+#[no_mangle]
+pub extern "C" fn cidhomba_witness(set: &[u8], rows: &mut [u16]) -> u64
+    ensures answer { λ r. ⌜ r ≡ witnessCode (emptinessOf (now (set .entry)) (length (now (rows .entry)))) ⌝ }
+    ensures space { λ _. ⌜ now (rows .exit) ≡ witnessSpace (now (set .entry)) (now (rows .entry)) ⌝ }
+{
+    witness_code(emptiness::witness(set, rows))
+}
+
+// The number of rows written, or the refusal of the set, of the names or of the text.
+#[no_mangle]
+pub extern "C" fn cidhomba_read_term<'a>(
+    set: &[u8],
+    site: &'a [u8],
+    built_in: &'a [u8],
+    text: &[u8],
+    rows: &mut [u16],
+) -> u64
+    ensures answer { λ r. ⌜ r ≡ readCode (answerOf (readOf (now (set .entry)) (now (site .entry)) (now («built_in» .entry)) (now (text .entry)) (length (now (rows .entry))))) ⌝ }
+    ensures space { λ _. ⌜ now (rows .exit) ≡ readSpace (readOf (now (set .entry)) (now (site .entry)) (now («built_in» .entry)) (now (text .entry)) (length (now (rows .entry)))) (now (rows .entry)) ⌝ }
+{
+    match term::read(set, site, built_in, text, rows) {
+        TermRead::Rows(n) => n as u64,
+        TermRead::Refused(n, p) => refusal_code(n, p),
+    }
+}
+
+// The number of bytes written, or the refusal of the set, of the names, of the table or of the space.
+#[no_mangle]
+pub extern "C" fn cidhomba_write_term<'a>(
+    set: &[u8],
+    site: &'a [u8],
+    built_in: &'a [u8],
+    rows: &[u16],
+    text: &mut [u8],
+) -> u64
+    ensures answer { λ r. ⌜ r ≡ writeCode (writtenOf (writeOf (now (set .entry)) (now (site .entry)) (now («built_in» .entry)) (now (rows .entry)) (length (now (text .entry))))) ⌝ }
+    ensures space { λ _. ⌜ now (text .exit) ≡ writeSpace (writeOf (now (set .entry)) (now (site .entry)) (now («built_in» .entry)) (now (rows .entry)) (length (now (text .entry)))) (now (text .entry)) ⌝ }
+{
+    write_code(spelling::write(set, site, built_in, rows, text))
 }

@@ -1,13 +1,13 @@
--- `cidhomba::code_of` meets its contract: a refusal's number is added to the highest bit. Assumes nothing.
+-- `cidhomba::code::check_code` meets its contract: a refusal's number is added to the highest bit. Assumes nothing.
 use mathlib.Core.Path.{ap}
 use native.Mathlib.Omega.{arith}
 use borrow.Author.Needs.{needs}
 use Rattle.cidhomba.specs.Code.{checkCode}
-use Rattle.cidhomba.proofs.code_of.Statement.{statement}
-use Rattle.cidhomba.proofs.code_of.Tie as tie
+use Rattle.cidhomba.proofs.code.check_code.Statement.{statement}
+use Rattle.cidhomba.proofs.code.check_code.Tie as tie
 
-pub code-of-spec : {M : Type 1} → statement M
-code-of-spec =
+pub check-code-spec : {M : Type 1} → statement M
+check-code-spec =
     tie.close
     (tie.spec
     (λ c. search needs)

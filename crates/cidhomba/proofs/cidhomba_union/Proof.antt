@@ -1,0 +1,15 @@
+-- `cidhomba::cidhomba_union` meets its contract: the answer of `boolean::union`, as a number. Assumes nothing.
+use mathlib.Core.Path.{ap, _∙_}
+use borrow.Author.Needs.{needs}
+use Rattle.cidhomba.specs.Code.{combinedCode}
+use Rattle.cidhomba.proofs.cidhomba_union.Statement.{statement}
+use Rattle.cidhomba.proofs.cidhomba_union.Tie as tie
+
+pub cidhomba-union-spec : {M : Type 1} → statement M
+cidhomba-union-spec =
+    tie.close
+    (tie.spec
+    (λ c κs. search needs)
+    (λ c κs. search needs)
+    (λ c. search needs)
+    (λ c. let s = c .before .before .before .union .ensures .1 in (c .combined-code .ensures ∙ ap combinedCode (s .0), s .1)))

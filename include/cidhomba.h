@@ -1,0 +1,155 @@
+/* Cidhomba: shape sets and the documents that they let in. The C interface of the verified library.
+ *
+ * A set is bytes in the stored form; a document is a table of rows of ten 16-bit cells; a run is steps of six
+ * 16-bit cells; all as document 01 lays them out. A slice passes as a pointer and a count of its elements, not of
+ * bytes. A pointer is never null, also where the count is 0; a space that is written overlaps nothing else that is
+ * lent. No more is asked of a caller: every input is either answered or refused. The library keeps no pointer past
+ * a call, allocates nothing, and has no state, so that calls on spaces of their own may run at the same time.
+ *
+ * Every function answers one 64-bit word. CIDHOMBA_REFUSED tells a refusal, whose number and place the two macros
+ * after it take out; else the word is the value that stands with the function. A refusal writes to no result
+ * space. A result fills the front of its space, and the rest is as it was.
+ *
+ * Link with libcidhomba.a, which `rt staticlib cidhomba` writes to target/staticlib.
+ */
+#ifndef CIDHOMBA_H
+#define CIDHOMBA_H
+
+#include <stddef.h>
+#include <stdint.h>
+
+#ifdef __cplusplus
+extern "C" {
+#endif
+
+/* Whether an answer is a refusal; its number; and its place in the text for the numbers 63 to 67 (0 is the first
+ * byte, else there is none and it reads 0; a place past 2^55 - 1 is told as that). */
+#define CIDHOMBA_REFUSED(answer) (((uint64_t)(answer) >> 63) != 0)
+#define CIDHOMBA_NUMBER(answer) ((unsigned)((uint64_t)(answer) & 255))
+#define CIDHOMBA_PLACE(answer) (((uint64_t)(answer) & (UINT64_MAX >> 1)) >> 8)
+
+/* 16-bit cells of a row, of a step, and of work space for one annotation. */
+#define CIDHOMBA_ROW_CELLS 10
+#define CIDHOMBA_STEP_CELLS 6
+#define CIDHOMBA_ANNOTATION_CELLS 32
+
+/* The limits: rows of a table, annotations for which there can be room (and steps of a run), states of a set, and
+ * bytes of the longest set. */
+#define CIDHOMBA_MAX_ROWS 1024
+#define CIDHOMBA_MAX_ROOM 4096
+#define CIDHOMBA_MAX_STATES 256
+#define CIDHOMBA_MAX_SET_BYTES 12880
+
+/* What stands in a child place or a step place that is not used. */
+#define CIDHOMBA_UNUSED 65535
+
+/* Why a call is refused. Each function tries its inputs in the order in which it names them, and within one input
+ * each number over the whole of it before the next; in text the first fault from the left counts. */
+enum cidhomba_refusal {
+    /* a set */
+    CIDHOMBA_SET_TOO_SHORT = 1,    /* fewer than 16 bytes */
+    CIDHOMBA_SET_COUNTS = 2,       /* symbols, states, tags or rules outside their range */
+    CIDHOMBA_SET_LENGTHS = 3,      /* an offset, the total, or the lent length differs from the formulas */
+    CIDHOMBA_SET_CHILDREN = 4,     /* a symbol with more than 4 children */
+    CIDHOMBA_SET_STATE = 5,        /* a final byte above 1, or a tag bit at or above the number of tags */
+    CIDHOMBA_SET_RULE = 6,         /* an unknown symbol or state, or an unused place that is not 65535 */
+    CIDHOMBA_SET_ORDER = 7,        /* rules that do not ascend strictly */
+    /* a table */
+    CIDHOMBA_TABLE_LENGTH = 11,    /* 0 or over 1,024 rows, or a row cut short */
+    CIDHOMBA_ROW_SYMBOL = 12,      /* an unknown symbol */
+    CIDHOMBA_ROW_CHILDREN = 13,    /* a child that is not lower, or an unused place that is not 65535 */
+    CIDHOMBA_ROW_SCALAR = 14,      /* kind or payload not those of a scalar that the row may have */
+    CIDHOMBA_ROWS_EQUAL = 15,      /* two equal rows */
+    CIDHOMBA_ROW_UNUSED = 16,      /* a row, not the last, that no later row uses */
+    CIDHOMBA_TABLE_HEIGHT = 17,    /* a tree higher than 256 */
+    /* a run */
+    CIDHOMBA_RUN_LENGTH = 21,      /* 0 or over 4,096 steps, or a step cut short */
+    CIDHOMBA_STEP_UNKNOWN = 22,    /* an unknown rule or row */
+    CIDHOMBA_STEP_MISFIT = 23,     /* symbols that differ, or a step place that is not as it should be */
+    CIDHOMBA_RUN_TAG = 24,         /* a tag with two rows, over all steps */
+    CIDHOMBA_RUN_END = 25,         /* a last step that is not on the last row, or not in a final state */
+    CIDHOMBA_STEP_UNUSED = 26,     /* a step, not the last, that no later step uses */
+    /* judging */
+    CIDHOMBA_NO_ROOM = 31,         /* more distinct annotations over all rows than the room */
+    CIDHOMBA_RUN_SPACE = 32,       /* a run space that holds fewer steps than the room; tried before 31 */
+    /* a lowest document */
+    CIDHOMBA_TAG_SHARED = 41,      /* two states that share a tag */
+    CIDHOMBA_ROW_SPACE = 42,       /* space for fewer rows than the set has states; tried before 41 */
+    /* two sets */
+    CIDHOMBA_SETS_DIFFER = 51,     /* numbers of symbols or of their children that differ */
+    CIDHOMBA_RESULT_LIMITS = 52,   /* a result with over 256 states, 8 tags or 1,024 rules */
+    CIDHOMBA_RESULT_SPACE = 53,    /* a space shorter than the result */
+    /* name lists */
+    CIDHOMBA_LIST_LINE = 61,       /* over 64 lines, or a line that is neither empty nor a name */
+    CIDHOMBA_NAMES_ALIKE = 62,     /* two symbols shown alike */
+    /* text, with a place */
+    CIDHOMBA_TEXT_FAULT = 63,      /* no legal continuation; place is that byte, or the end */
+    CIDHOMBA_TEXT_LEVEL = 64,      /* a letter that opens a term at level 257; place is that letter */
+    CIDHOMBA_NAME_UNKNOWN = 65,    /* an unknown name; place is its first byte */
+    CIDHOMBA_TERM_CHILDREN = 66,   /* a wrong number of children; place is the term's first byte */
+    CIDHOMBA_TEXT_ROWS = 67,       /* a row past the 1,024th or past the row space; place is the term's first byte */
+    /* writing text, and the programs */
+    CIDHOMBA_TEXT_SPACE = 68,      /* a text longer than the space */
+    CIDHOMBA_INPUT_LENGTH = 69     /* an input of a program with over 32,768 bytes */
+};
+
+/* Whether bytes are a sound set. Value: 0. Refuses: set. */
+uint64_t cidhomba_check_automaton(const uint8_t *set, size_t set_length);
+
+/* Whether rows are a sound table over the set's symbols. Value: 0. Refuses: set, table. */
+uint64_t cidhomba_check_document(const uint8_t *set, size_t set_length,
+                                 const uint16_t *rows, size_t rows_length);
+
+/* Whether steps are a run that shows that the set lets the document in. Value: 0. Refuses: set, table, run. */
+uint64_t cidhomba_check_run(const uint8_t *set, size_t set_length,
+                            const uint16_t *rows, size_t rows_length,
+                            const uint16_t *run, size_t run_length);
+
+/* Judges whether the set lets the document in. Value: 0 for no; for yes the number of steps of a run that shows
+ * it, written to the front of run. Refuses: set, table, 32, 31.
+ * The room is work_length / 32, at most 4,096; the run space must hold as many steps of six cells. The work space
+ * is all zeros afterwards, but untouched where set, table or 32 refuse. A no leaves the run space as it was.
+ * No number refuses for time: the question is NP-complete, and a set may make it hard. */
+uint64_t cidhomba_membership(const uint8_t *set, size_t set_length,
+                             const uint16_t *rows, size_t rows_length,
+                             uint16_t *work, size_t work_length,
+                             uint16_t *run, size_t run_length);
+
+/* The set that lets in what either set does, in the stored form. Value: the bytes written to the front of out.
+ * Refuses: first set, second set, 51, 52, 53. CIDHOMBA_MAX_SET_BYTES hold every result. */
+uint64_t cidhomba_union(const uint8_t *first, size_t first_length,
+                        const uint8_t *second, size_t second_length,
+                        uint8_t *out, size_t out_length);
+
+/* The set that lets in what both sets do; value and refusals as for the union. */
+uint64_t cidhomba_product(const uint8_t *first, size_t first_length,
+                          const uint8_t *second, size_t second_length,
+                          uint8_t *out, size_t out_length);
+
+/* Whether the set lets in anything. Value: 0 for dead; for live the number of rows + 65536 * the levels of a
+ * document that it lets in, none being lower, written to the front of rows. Refuses: set, 42, 41. */
+uint64_t cidhomba_witness(const uint8_t *set, size_t set_length,
+                          uint16_t *rows, size_t rows_length);
+
+/* Reads term text into rows. Value: the rows written to the front of rows. Refuses: set, names, text.
+ * Names come from two lists, line i for symbol i: the site's, else the built-in one's, else `s` and the number.
+ * A list of length 0 has no lines. Space for 1,024 rows serves every text. */
+uint64_t cidhomba_read_term(const uint8_t *set, size_t set_length,
+                            const uint8_t *site, size_t site_length,
+                            const uint8_t *built_in, size_t built_in_length,
+                            const uint8_t *text, size_t text_length,
+                            uint16_t *rows, size_t rows_length);
+
+/* Writes a table's tree as term text, without a byte 0 at its end. Value: the bytes written to the front of text.
+ * Refuses: set, names, table, 68. Reading undoes writing. */
+uint64_t cidhomba_write_term(const uint8_t *set, size_t set_length,
+                             const uint8_t *site, size_t site_length,
+                             const uint8_t *built_in, size_t built_in_length,
+                             const uint16_t *rows, size_t rows_length,
+                             uint8_t *text, size_t text_length);
+
+#ifdef __cplusplus
+}
+#endif
+
+#endif
