@@ -1,79 +1,87 @@
--- The starred cases of document 01, section "Examples, with the edges", from stored bytes and lent cells on. Assumes nothing.
+-- The starred cases of document 01, section "Examples, with the edges", from stored bytes, name lists and texts on, against the entry points' definitions. Assumes nothing.
+use mathlib.Core.Path.{_≡_}
 use mathlib.Core.List.{List, [], _∷_, _++_}
-use mathlib.Core.Option.{none, some}
-use mathlib.Core.Bool.{Bool, true, false, _&&_, not, cond, Bool·beq}
-use Prim.Native.Nat.{ℕ, _+_}
-use lib.Dec.{eqb, ltb}
-use lib.ListN.{length}
-use Rattle.model.specs.Lists.{eqList}
-use Rattle.model.specs.Tree.{levels}
+use mathlib.Core.Bool.{Bool, true, false, cond}
+use Prim.Native.Nat.{ℕ, _+_, _*_}
+use lib.Dec.{eqb}
+use lib.ListN.{length, replicate, drop}
 use Rattle.model.specs.Boolean.{product}
 use Rattle.model.specs.Annotation.{annotations, accepts?}
 use Rattle.model.specs.Written.{Step}
-use Rattle.model.specs.WrittenTest.{written?}
-use Rattle.model.specs.Witness.{witness, apart?}
-use Rattle.model.specs.Build.{rowsOf}
 use Rattle.automaton.specs.Stored.{decode}
-use Rattle.automaton.specs.Encode.{encode}
-use Rattle.automaton.specs.Check.{checkOf}
-use Rattle.document.specs.Rows.{decodeRows, encodeRows}
-use Rattle.document.specs.Check.{tableCheckOf}
-use Rattle.cases.specs.Sets.{setE, setG, setD, setB}
+use Rattle.document.specs.Rows.{rowCells, decodeRows, encodeRows}
+use Rattle.runs.specs.Steps.{stepCells, decodeSteps}
+use Rattle.runs.specs.Check.{checkRunOf}
+use Rattle.membership.specs.Cells.{annotationCells}
+use Rattle.membership.specs.Judge.{judgeCheckOf, judgedOf}
+use Rattle.membership.specs.declared.Judged.{Judged}
+use Rattle.boolean.specs.declared.Combined.{Combined}
+use Rattle.boolean.specs.Answer.{combinedOf, combinedSpace}
+use Rattle.emptiness.specs.declared.Emptiness.{Emptiness}
+use Rattle.emptiness.specs.Answer.{emptinessOf, spaceAfter}
+use Rattle.term.specs.Read.{rowsRead, turnedAway, readOf}
+use Rattle.cases.specs.Sets.{setE, setG, setD, setB, setEB}
 
--- a leaf's cells: symbol, kind, and a payload below 65536
-abbrev pub leaf : ℕ → ℕ → ℕ → List ℕ
-leaf s k p = s ∷ 65535 ∷ 65535 ∷ 65535 ∷ 65535 ∷ k ∷ p ∷ 0 ∷ 0 ∷ 0 ∷ []
+-- the name lists: pair, a, b; and g, a
+abbrev pub pairNames : List ℕ
+pairNames = 112 ∷ 97 ∷ 105 ∷ 114 ∷ 10 ∷ 97 ∷ 10 ∷ 98 ∷ []
 
-abbrev pub bare : ℕ → List ℕ
-bare s = leaf s 0 0
+abbrev pub gNames : List ℕ
+gNames = 103 ∷ 10 ∷ 97 ∷ []
 
--- a count is kind 2
-abbrev pub count : ℕ → ℕ → List ℕ
-count s n = leaf s 2 n
+-- texts: a, b, a=N, pair(..,..), g(..)
+abbrev pub a : List ℕ
+a = 97 ∷ []
 
-abbrev pub one : ℕ → ℕ → List ℕ
-one s i = s ∷ i ∷ 65535 ∷ 65535 ∷ 65535 ∷ 0 ∷ 0 ∷ 0 ∷ 0 ∷ 0 ∷ []
+abbrev pub b : List ℕ
+b = 98 ∷ []
 
-abbrev pub two : ℕ → ℕ → ℕ → List ℕ
-two s i j = s ∷ i ∷ j ∷ 65535 ∷ 65535 ∷ 0 ∷ 0 ∷ 0 ∷ 0 ∷ 0 ∷ []
+abbrev pub a= : ℕ → List ℕ
+a= n = 97 ∷ 61 ∷ (48 + n) ∷ []
 
-abbrev pub step : ℕ → ℕ → List ℕ → Step
-step r i js = record { rule = r; row = i; steps = js }
+abbrev pub pair : List ℕ → List ℕ → List ℕ
+pair x y = 112 ∷ 97 ∷ 105 ∷ 114 ∷ 40 ∷ (x ++ 44 ∷ (y ++ 41 ∷ []))
 
--- E and B demanded together, in the stored form
-abbrev pub setEB : List ℕ
-setEB = encode (product (decode setE) (decode setB))
+abbrev pub g : List ℕ → List ℕ
+g x = 103 ∷ 40 ∷ (x ++ 41 ∷ [])
+
+-- the cells of a text's rows, with the name list as the site's and space for 1,024; none where it is refused
+abbrev pub cellsFrom : List ℕ → List ℕ → List ℕ → List ℕ
+cellsFrom s names t = elim (readOf s names [] t 10240) [ rowsRead rows ↦ encodeRows rows | turnedAway w p ↦ [] ]
 
 pub data Case : Type 0 where
-  -- set and table are sound, the document is accepted or not, and has so many annotations
-  judged : List ℕ → List ℕ → Bool → ℕ → Case
-  -- there are more annotations than the room
-  over : List ℕ → List ℕ → ℕ → Case
-  -- the steps are a written run, with two steps on row 0
-  twice : List ℕ → List ℕ → List Step → Case
-  -- the sample's cells and height
-  live : List ℕ → List ℕ → ℕ → Case
+  -- set, names and text: so many rows, the judge says yes or no, and there are so many annotations, for which there is room
+  judged : List ℕ → List ℕ → List ℕ → ℕ → Bool → ℕ → Case
+  -- with room for so many annotations the judge refuses with a number
+  refused : List ℕ → List ℕ → List ℕ → ℕ → ℕ → Case
+  -- every run that passes the run check has two steps on row 0
+  twice : List ℕ → List ℕ → List ℕ → Case
+  -- two sets demanded together are these bytes
+  together : List ℕ → List ℕ → List ℕ → Case
+  -- the sample's text, rows and height
+  live : List ℕ → List ℕ → List ℕ → ℕ → ℕ → Case
   dead : List ℕ → Case
-  -- two states share a tag
-  shared : List ℕ → Case
+  -- turned away at the sample, with this number
+  away : List ℕ → ℕ → Case
 
 -- The list, in the paper's order.
 abbrev pub cases : List Case
 cases =
-    judged setE (count 1 7 ++ two 0 0 0) true 2
-    ∷ over setE (count 1 7 ++ two 0 0 0) 1
-    ∷ judged setE (count 1 7 ++ count 1 8 ++ two 0 0 1) false 2
-    ∷ judged setE (bare 1 ++ bare 2 ++ two 0 0 1) false 2
-    ∷ judged setE (bare 1) false 1
-    ∷ judged setG (bare 1 ++ one 0 0 ++ one 0 1) true 3
-    ∷ judged setG (bare 1 ++ one 0 0 ++ one 0 1 ++ one 0 2 ++ one 0 3) false 3
-    ∷ judged setB (bare 1 ++ two 0 0 0) true 3
-    ∷ twice setB (bare 1 ++ two 0 0 0) (step 1 0 [] ∷ step 2 0 [] ∷ step 0 1 (0 ∷ 1 ∷ []) ∷ [])
-    ∷ judged setEB (count 1 1 ++ count 1 2 ++ two 0 0 1) false 4
-    ∷ judged setEB (bare 1 ++ two 0 0 0) true 3
-    ∷ live setE (bare 1 ++ two 0 0 0) 2
+    judged setE pairNames (pair (a= 7) (a= 7)) 2 true 2
+    ∷ refused setE pairNames (pair (a= 7) (a= 7)) 1 31
+    ∷ judged setE pairNames (pair (a= 7) (a= 8)) 3 false 2
+    ∷ judged setE pairNames (pair a b) 3 false 2
+    ∷ judged setE pairNames a 1 false 1
+    ∷ judged setG gNames (g (g a)) 3 true 3
+    ∷ judged setG gNames (g (g (g (g a)))) 5 false 3
+    ∷ judged setB pairNames (pair a a) 2 true 3
+    ∷ twice setB pairNames (pair a a)
+    ∷ together setE setB setEB
+    ∷ judged setEB pairNames (pair (a= 1) (a= 2)) 3 false 4
+    ∷ judged setEB pairNames (pair a a) 2 true 3
+    ∷ live setE pairNames (pair a a) 2 2
     ∷ dead setD
-    ∷ shared setEB
+    ∷ away setEB 41
     ∷ []
 
 -- how many steps are on row 0
@@ -81,24 +89,36 @@ abbrev pub onFirst : List Step → ℕ
 onFirst [] = 0
 onFirst (s ∷ run) = cond (eqb (s .row) 0) 1 0 + onFirst run
 
-abbrev pub soundSet : List ℕ → Bool
-soundSet s = eqb (checkOf s) 0
+-- the judge's answer with room for n annotations and as many steps, where a yes has k steps
+abbrev pub answer : List ℕ → List ℕ → ℕ → ℕ → Judged
+answer s cells n k =
+    judgedOf (judgeCheckOf s cells (n * annotationCells) (n * stepCells)) (accepts? (decode s) (decodeRows cells)) k
 
-abbrev pub soundBoth : List ℕ → List ℕ → Bool
-soundBoth s cells = soundSet s && eqb (tableCheckOf (decode s) cells) 0
+-- what lies in the row space before the sample is asked for: room for the six states of E and B together, and a part of a row
+abbrev pub lent : List ℕ
+lent = replicate (6 * rowCells + 5) 9
 
-abbrev pub holds : Case → Bool
-holds (judged s cells b n) =
-    soundBoth s cells
-    && (Bool·beq (accepts? (decode s) (decodeRows cells)) b && eqb (length (annotations (decode s) (decodeRows cells))) n)
-holds (over s cells room) = soundBoth s cells && ltb room (length (annotations (decode s) (decodeRows cells)))
-holds (twice s cells run) = soundBoth s cells && (written? (decode s) (decodeRows cells) run && eqb (onFirst run) 2)
-holds (live s cells h) =
-    soundSet s
-    && (apart? (decode s) && elim (witness (decode s)) [ none ↦ false | some t ↦ eqList (encodeRows (rowsOf t)) cells && eqb (levels t) h ])
-holds (dead s) = soundSet s && (apart? (decode s) && elim (witness (decode s)) [ none ↦ true | some t ↦ false ])
-holds (shared s) = soundSet s && not (apart? (decode s))
+-- the sample's answer, and the cells that it leaves at the front of the space
+abbrev pub Sampled : List ℕ → Emptiness → List ℕ → Type 0
+Sampled s e cells = (emptinessOf s (length lent) ≡ e) × (spaceAfter s lent ≡ cells ++ drop (length cells) lent)
 
-abbrev pub allHold : List Case → Bool
-allHold [] = true
-allHold (c ∷ cs) = holds c && allHold cs
+-- the space that the product is written to
+abbrev pub zeros : List ℕ → List ℕ
+zeros bytes = replicate (length bytes) 0
+
+abbrev pub Holds : Case → Type 0
+Holds (judged s names t rows b n) =
+    let cells = cellsFrom s names t in
+    (length cells ≡ rows * rowCells)
+    × ((k : ℕ) → answer s cells n k ≡ cond b (Judged.Yes k) Judged.No)
+    × (length (annotations (decode s) (decodeRows cells)) ≡ n)
+Holds (refused s names t room n) = (k : ℕ) → answer s (cellsFrom s names t) room k ≡ Judged.Refused n
+Holds (twice s names t) = (run : List ℕ) → checkRunOf s (cellsFrom s names t) run ≡ 0 → onFirst (decodeSteps run) ≡ 2
+Holds (together s t bytes) = (combinedOf product s t (zeros bytes) ≡ Combined.Length (length bytes)) × (combinedSpace product s t (zeros bytes) ≡ bytes)
+Holds (live s names t n h) = Sampled s (Emptiness.Live n h) (cellsFrom s names t)
+Holds (dead s) = Sampled s Emptiness.Dead []
+Holds (away s k) = Sampled s (Emptiness.Refused k) []
+
+abbrev pub AllHold : List Case → Type 0
+AllHold [] = Unit {0}
+AllHold (c ∷ cs) = Holds c × AllHold cs
