@@ -2,12 +2,8 @@
 
 use std::fmt;
 
+use cidhomba::word::{parts, LARGEST_PLACE};
 use reference::Refusal;
-
-/// Set in the word of a refusal.
-const REFUSED: u64 = 1 << 63;
-/// The largest place that fits in a refusal's word; larger ones are cut to it.
-const LARGEST_PLACE: u64 = (1 << 55) - 1;
 
 /// What a call of the library answers.
 #[derive(Clone, Copy, Debug, PartialEq, Eq)]
@@ -21,13 +17,12 @@ pub enum Answer {
 }
 
 impl Answer {
-    /// Takes the library's word apart: `2^63 + place * 256 + number` for a refusal.
+    /// What the library's word says.
     pub fn of_library(word: u64) -> Answer {
-        if word < REFUSED {
-            return Answer::Value(word);
+        match parts(word) {
+            Ok(value) => Answer::Value(value),
+            Err((number, place)) => Answer::Refused { number, place },
         }
-        let rest = word - REFUSED;
-        Answer::Refused { number: (rest % 256) as u8, place: rest / 256 }
     }
 
     /// The number of a refusal.
@@ -64,13 +59,10 @@ mod tests {
     use super::*;
 
     #[test]
-    fn words_of_the_c_interface() {
-        assert_eq!(Answer::of_library(0), Answer::Value(0));
-        assert_eq!(Answer::of_library((1 << 63) - 1), Answer::Value((1 << 63) - 1));
-        assert_eq!(Answer::of_library((1 << 63) + 7), Answer::Refused { number: 7, place: 0 });
+    fn a_place_of_the_reference_is_that_of_a_word() {
         let word = (1 << 63) + 768 * 256 + 64;
-        assert_eq!(Answer::of_library(word), Answer::Refused { number: 64, place: 768 });
-        assert_eq!(Answer::of_library(u64::MAX), Answer::Refused { number: 255, place: LARGEST_PLACE });
         assert_eq!(Answer::of_reference(Err(Refusal::at(64, 768))), Answer::of_library(word));
+        let far = Refusal::at(63, usize::MAX);
+        assert_eq!(Answer::of_reference(Err(far)), Answer::of_library(u64::MAX - 255 + 63));
     }
 }

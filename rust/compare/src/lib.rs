@@ -7,5 +7,4 @@
 pub mod answer;
 pub mod case;
 pub mod lent;
-pub mod library;
 pub mod tally;

@@ -1,8 +1,8 @@
 //! The library's check of a stored set against the reference's.
 
+use cidhomba::interface::check_automaton;
 use compare::answer::Answer;
 use compare::case::{Case, Expected, Input};
-use compare::library::check::check_automaton;
 use compare::tally::{Tally, SET};
 use generate::{set_bytes, sets, Random};
 use reference::examples::{rule, set_b, set_d, set_e, set_g, state};
@@ -11,7 +11,7 @@ use reference::{Automaton, Rule};
 
 /// Compares one call, and answers what both answered.
 fn compare(set: &[u8]) -> Answer {
-    let library = check_automaton(set);
+    let library = Answer::of_library(check_automaton(set));
     let reference = Answer::of_reference(reference::check_automaton(set).map(|_| 0));
     let inputs = [("set", Input::Set(set))];
     let expected = Expected::Exactly(reference);

@@ -1,8 +1,8 @@
 //! The library's check of a row table against the reference's.
 
+use cidhomba::interface::check_document;
 use compare::answer::Answer;
 use compare::case::{Case, Expected, Input};
-use compare::library::check::check_document;
 use compare::tally::{Tally, SET, TABLE};
 use generate::{documents, rows, set_bytes, sets, Random};
 use reference::examples::set_e;
@@ -11,7 +11,7 @@ use reference::{Automaton, Row, Scalar};
 
 /// Compares one call, and answers what both answered.
 fn compare(set: &[u8], rows: &[u16]) -> Answer {
-    let library = check_document(set, rows);
+    let library = Answer::of_library(check_document(set, rows));
     let reference = Answer::of_reference(reference::check_document(set, rows).map(|_| 0));
     let inputs = [("set", Input::Set(set)), ("rows", Input::Cells(rows, ROW_CELLS))];
     let expected = Expected::Exactly(reference);

@@ -1,11 +1,12 @@
 //! The library's judging against the reference's, with the run handed back and both spaces.
 
+use cidhomba::interface::membership;
 use compare::answer::Answer;
 use compare::case::{Case, Expected, Input};
 use compare::lent::Lent;
-use compare::library;
 use compare::tally::{Tally, SET, TABLE};
 use generate::{documents, rows, set_bytes, sets, Random};
+use reference::boolean::multiplied;
 use reference::examples::{rule, set_b, set_d, set_e, set_g, state};
 use reference::limits::{ANNOTATION_CELLS, MAX_ROOM, ROW_CELLS, STEP_CELLS};
 use reference::{Automaton, Document, Judgement, Refusal, Row, Scalar};
@@ -20,7 +21,7 @@ fn compare(set: &[u8], rows: &[u16], work_cells: usize, run_cells: usize) -> Ans
         ("run", Input::Space(run_cells)),
     ];
     let (mut work, mut run) = (Lent::of_length(work_cells), Lent::of_length(run_cells));
-    let library = library::membership::membership(set, rows, work.space(), run.space());
+    let library = Answer::of_library(membership(set, rows, work.space(), run.space()));
     let reference = reference::membership(set, rows, work_cells, run_cells);
     let expected = expected(&reference);
     let case = Case { function: "membership", inputs: &inputs, library, expected };
@@ -238,4 +239,45 @@ fn a_chain_of_256_levels_with_tags() {
     assert!(matches!(compare_with_room(&set, &document, 1000), Answer::Value(30)));
     let document = documents::chain(&set, 256).expect("there is a leaf");
     assert_eq!(compare_with_room(&set, &document, MAX_ROOM).number(), Some(31));
+}
+
+/// Document 01, "Three traps on the way": the product with a tag for each of its tagged states.
+#[test]
+fn tagging_product_states_one_by_one_would_let_unequal_leaves_in() {
+    let unequal = example_document(&[Scalar::Count(1), Scalar::Count(2)]);
+    let both = multiplied(&set_e(), &set_b());
+    assert_eq!(compare_with_room(&both, &unequal, 9), Answer::Value(0));
+    let equal = example_document(&[Scalar::Bare]);
+    assert_eq!(compare_with_room(&both, &equal, 9), Answer::Value(3));
+    let mut one_by_one = both.clone();
+    one_by_one.tag_count = 0;
+    for state in one_by_one.states.iter_mut().filter(|state| state.tags != 0) {
+        state.tags = 1 << one_by_one.tag_count;
+        one_by_one.tag_count += 1;
+    }
+    assert_eq!(compare_with_room(&one_by_one, &unequal, 9), Answer::Value(3));
+}
+
+/// The second trap: the run of B has two steps on row 0, and with either one alone there is no run.
+#[test]
+fn one_state_per_row_would_lose_the_pair_of_b() {
+    let document = example_document(&[Scalar::Bare]);
+    let (mut work, mut run) = ([7; 3 * ANNOTATION_CELLS], [7; 3 * STEP_CELLS]);
+    let (set, rows) = (set_b().encode(), document.cells());
+    let answer = Answer::of_library(membership(&set, &rows, &mut work, &mut run));
+    assert_eq!(answer, Answer::Value(3));
+    assert_eq!(run.chunks(STEP_CELLS).filter(|step| step[1] == 0).count(), 2);
+    for dropped in [1, 2] {
+        let mut one_state = set_b();
+        one_state.rules.remove(dropped);
+        assert_eq!(compare_with_room(&one_state, &document, 9), Answer::Value(0));
+    }
+}
+
+/// The third trap: in G the rows that must be equal lie below each other.
+#[test]
+fn comparing_only_siblings_would_let_the_fourfold_g_in() {
+    let fold = |times: usize| documents::chain(&set_g(), times + 1).expect("G has a leaf");
+    assert_eq!(compare_with_room(&set_g(), &fold(2), 9), Answer::Value(3));
+    assert_eq!(compare_with_room(&set_g(), &fold(4), 9), Answer::Value(0));
 }

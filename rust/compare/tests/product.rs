@@ -2,7 +2,7 @@
 
 mod pairs;
 
-use compare::library::boolean::product;
+use cidhomba::interface::product;
 use pairs::{of_counts, Operation};
 use reference::examples::{set_b, set_d, set_e};
 

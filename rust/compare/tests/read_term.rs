@@ -1,9 +1,9 @@
 //! The library's reader of term text against the reference's.
 
+use cidhomba::interface::read_term;
 use compare::answer::Answer;
 use compare::case::{Case, Expected, Input};
 use compare::lent::Lent;
-use compare::library;
 use compare::tally::{Tally, NAMES, SET, TEXT};
 use generate::{documents, lists, set_bytes, sets, texts, Random};
 use reference::check_names;
@@ -21,7 +21,7 @@ fn compare(set: &[u8], site: &[u8], built_in: &[u8], text: &[u8], row_cells: usi
         ("rows", Input::Space(row_cells)),
     ];
     let mut rows = Lent::of_length(row_cells);
-    let library = library::term::read_term(set, site, built_in, text, rows.space());
+    let library = Answer::of_library(read_term(set, site, built_in, text, rows.space()));
     let result = reference::read_term(set, site, built_in, text, row_cells);
     let written = result.as_ref().map_or(Vec::new(), |document| document.cells());
     let reference = Answer::of_reference(result.map(|document| document.rows.len()));
@@ -172,6 +172,8 @@ fn long_texts_are_answered() {
     assert_eq!(compare_plain(letters.as_bytes()), Answer::Refused { number: 63, place: 16 });
     let pairs = format!("s0({}s1,s1)", "s0(s1,s1),".repeat(100_000));
     assert_eq!(compare_plain(pairs.as_bytes()), Answer::Refused { number: 66, place: 0 });
+    let forty_megabytes = format!("s0({}s1,s1)", "s0(s1,s1),".repeat(4 * million));
+    assert_eq!(compare_plain(forty_megabytes.as_bytes()), Answer::Refused { number: 66, place: 0 });
 }
 
 #[test]
@@ -200,8 +202,8 @@ fn names_of_16_bytes_for_64_symbols() {
     let list = names.join("\n");
     for (symbol, name) in names.iter().enumerate() {
         let mut rows = Lent::of_length(ROW_CELLS);
-        let answer = library::term::read_term(&set, list.as_bytes(), b"", name.as_bytes(), rows.space());
-        assert_eq!(answer, Answer::Value(1));
+        let word = read_term(&set, list.as_bytes(), b"", name.as_bytes(), rows.space());
+        assert_eq!(Answer::of_library(word), Answer::Value(1));
         assert_eq!(rows.contents()[0], symbol as u16);
         assert_eq!(compare(&set, b"", list.as_bytes(), name.as_bytes(), ROW_CELLS), Answer::Value(1));
         let same_twice = list.replace(name, &names[(symbol + 1) % 64]);

@@ -2,7 +2,7 @@
 
 mod pairs;
 
-use compare::library::boolean::union;
+use cidhomba::interface::union;
 use pairs::{of_counts, Operation};
 use reference::examples::{set_b, set_d, set_e};
 

@@ -1,9 +1,9 @@
 //! The library's dead or live with a sample against the reference's.
 
+use cidhomba::interface::witness;
 use compare::answer::Answer;
 use compare::case::{Case, Expected, Input};
 use compare::lent::Lent;
-use compare::library;
 use compare::tally::{Tally, SET};
 use generate::{set_bytes, sets, Random};
 use reference::examples::{rule, set_b, set_d, set_e, set_g, state};
@@ -14,7 +14,7 @@ use reference::{Automaton, Document};
 fn compare(set: &[u8], row_cells: usize) -> Answer {
     let inputs = [("set", Input::Set(set)), ("rows", Input::Space(row_cells))];
     let mut rows = Lent::of_length(row_cells);
-    let library = library::witness::witness(set, rows.space());
+    let library = Answer::of_library(witness(set, rows.space()));
     let sample = reference::witness(set, row_cells);
     let written = sample.as_ref().ok().and_then(Option::as_ref).map(Document::cells);
     let reference = Answer::of_reference(sample.map(|sample| sample.map_or(0, as_value)));

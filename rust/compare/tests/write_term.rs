@@ -1,9 +1,9 @@
 //! The library's writer of term text against the reference's.
 
+use cidhomba::interface::write_term;
 use compare::answer::Answer;
 use compare::case::{Case, Expected, Input};
 use compare::lent::Lent;
-use compare::library;
 use compare::tally::{Tally, NAMES, SET, TABLE};
 use generate::{documents, lists, rows, set_bytes, sets, Random};
 use reference::examples::{set_e, set_g};
@@ -20,7 +20,7 @@ fn compare(set: &[u8], site: &[u8], built_in: &[u8], rows: &[u16], space: usize)
         ("text", Input::Space(space)),
     ];
     let mut text = Lent::of_length(space);
-    let library = library::term::write_term(set, site, built_in, rows, text.space());
+    let library = Answer::of_library(write_term(set, site, built_in, rows, text.space()));
     let result = reference::write_term(set, site, built_in, rows, space);
     let written = result.clone().unwrap_or_default();
     let reference = Answer::of_reference(result.map(|text| text.len()));

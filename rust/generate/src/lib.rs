@@ -3,6 +3,8 @@
 //! Every input follows from a seed, so a test that fails can be run again on the same input.
 
 pub mod documents;
+pub mod example_files;
+pub mod export;
 pub mod lists;
 pub mod pairs;
 pub mod random;
@@ -11,5 +13,6 @@ pub mod runs;
 pub mod set_bytes;
 pub mod sets;
 pub mod texts;
+pub mod trees;
 
 pub use random::Random;

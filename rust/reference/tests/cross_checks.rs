@@ -3,12 +3,12 @@
 use generate::sets::{
     layered, layered_over_symbols, over_symbols, separate_tags, small_sizes, tiny_sizes, Sizes,
 };
-use generate::{documents, runs, Random};
+use generate::{documents, runs, trees, Random};
 use reference::boolean::{multiplied, united};
 use reference::brute_force::{self, lets_in, Tree};
 use reference::membership::{all_annotations, judge};
 use reference::run::{check_steps, run_cells};
-use reference::{check_automaton, witness, Automaton, Document, Row, Scalar};
+use reference::{check_automaton, witness, Automaton, Document};
 
 /// Most labellings that a test tries on one tree.
 const MOST_LABELLINGS: usize = 20_000;
@@ -137,57 +137,16 @@ fn union_and_product_mean_either_and_both() {
     assert!(both_yes > 100 && differing > 100, "{both_yes} both, {differing} differing");
 }
 
-/// Every tree of at most so many levels with bare leaves, as tables.
-fn all_trees(arities: &[u8], levels: usize) -> Vec<Tree> {
-    if levels == 0 {
-        return Vec::new();
-    }
-    let below = all_trees(arities, levels - 1);
-    let mut trees = Vec::new();
-    for (symbol, &arity) in arities.iter().enumerate() {
-        for children in all_lists(&below, usize::from(arity)) {
-            trees.push(Tree { symbol, scalar: Scalar::Bare, children });
-        }
-    }
-    trees
-}
-
-/// Every list of so many trees.
-fn all_lists(trees: &[Tree], length: usize) -> Vec<Vec<Tree>> {
-    if length == 0 {
-        return vec![Vec::new()];
-    }
-    let mut lists = Vec::new();
-    for list in all_lists(trees, length - 1) {
-        for tree in trees {
-            lists.push([&list[..], std::slice::from_ref(tree)].concat());
-        }
-    }
-    lists
-}
-
-/// A sound table of a tree.
-fn table_of(tree: &Tree) -> Document {
-    fn add(tree: &Tree, rows: &mut Vec<Row>) -> usize {
-        let children = tree.children.iter().map(|child| add(child, rows)).collect();
-        rows.push(Row { symbol: tree.symbol, children, scalar: tree.scalar });
-        rows.len() - 1
-    }
-    let mut rows = Vec::new();
-    add(tree, &mut rows);
-    documents::thinned(&rows)
-}
-
 /// The levels of the lowest tree, of at most three levels, that a set lets in.
 fn lowest_tree_let_in(automaton: &Automaton, trees: &[Tree]) -> Option<usize> {
-    trees.iter().filter(|tree| says_yes(automaton, &table_of(tree))).map(Tree::height).min()
+    trees.iter().filter(|tree| says_yes(automaton, &trees::table_of(tree))).map(Tree::height).min()
 }
 
 #[test]
 fn no_tree_let_in_is_lower_than_the_sample() {
     let (mut seen_live, mut seen_dead, mut seen_high) = (0, 0, 0);
     for arities in [vec![2, 0, 0], vec![1, 2, 0], vec![1, 0, 0, 1]] {
-        let trees = all_trees(&arities, 3);
+        let trees = trees::all(&arities, 3);
         for seed in 0..400 {
             let random = &mut Random::new(seed);
             let sizes = Sizes { states: 1..=4, tags: 0..=3, rules: 0..=8, ..tiny_sizes() };

@@ -14,7 +14,7 @@ type ByReference = fn(&[u8], &[u8], usize) -> Result<Vec<u8>, Refusal>;
 /// One of the two operations, as the library and as the reference have it.
 pub struct Operation {
     pub name: &'static str,
-    pub library: fn(&[u8], &[u8], &mut [u8]) -> Answer,
+    pub library: fn(&[u8], &[u8], &mut [u8]) -> u64,
     pub reference: ByReference,
 }
 
@@ -24,7 +24,7 @@ impl Operation {
         let inputs =
             [("first", Input::Set(first)), ("second", Input::Set(second)), ("out", Input::Space(space))];
         let mut out = Lent::of_length(space);
-        let library = (self.library)(first, second, out.space());
+        let library = Answer::of_library((self.library)(first, second, out.space()));
         let result = (self.reference)(first, second, space);
         let written = result.clone().unwrap_or_default();
         let reference = Answer::of_reference(result.map(|bytes| bytes.len()));
@@ -68,9 +68,17 @@ impl Operation {
         }
     }
 
-    /// Whether the result of two sets is refused, with plenty of space.
+    /// Whether the result of two sets is refused, with plenty of space. One that is not also fits a space of
+    /// just its length, and no space that is a byte shorter.
     pub fn number(&self, first: &Automaton, second: &Automaton) -> Option<u8> {
-        self.compare(&first.encode(), &second.encode(), 20_000).number()
+        let (first, second) = (first.encode(), second.encode());
+        let number = self.compare(&first, &second, 20_000).number();
+        if number.is_none() {
+            let length = self.result_length(&first, &second);
+            assert_eq!(self.compare(&first, &second, length).number(), None);
+            assert_eq!(self.compare(&first, &second, length - 1).number(), Some(53));
+        }
+        number
     }
 
     /// The first set is tried whole before the second, and both before 51.

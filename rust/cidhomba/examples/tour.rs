@@ -3,8 +3,7 @@
 use std::fs;
 use std::path::{Path, PathBuf};
 
-use compare::answer::Answer;
-use compare::library::check::{check_automaton, check_document};
+use cidhomba::{check_automaton, check_document, Refusal};
 
 fn example(name: &str) -> Vec<u8> {
     let path: PathBuf = Path::new(env!("CARGO_MANIFEST_DIR")).join("../../examples").join(name);
@@ -15,10 +14,10 @@ fn cells(bytes: &[u8]) -> Vec<u16> {
     bytes.chunks_exact(2).map(|pair| u16::from_le_bytes([pair[0], pair[1]])).collect()
 }
 
-fn told(what: &str, answer: Answer) {
+fn told(what: &str, answer: Result<(), Refusal>) {
     match answer {
-        Answer::Value(_) => println!("{what}: sound"),
-        Answer::Refused { number, .. } => println!("{what}: refused {number}"),
+        Ok(()) => println!("{what}: sound"),
+        Err(refusal) => println!("{what}: {refusal}"),
     }
 }
 

@@ -3,7 +3,7 @@
 use std::env;
 use std::path::PathBuf;
 
-/// Where to look instead of the repository's own build, for trying the comparison on another library.
+/// Where to look instead of the repository's own build, for trying another library.
 const OTHER_DIRECTORY: &str = "CIDHOMBA_LIBRARY_DIR";
 
 fn main() {

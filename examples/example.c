@@ -1,0 +1,122 @@
+/* Set E of document 01 through the C interface: it lets in a pair of two equal leaves. */
+#include "cidhomba.h"
+
+#include <inttypes.h>
+#include <stdio.h>
+
+#define LENGTH(array) (sizeof(array) / sizeof((array)[0]))
+#define U CIDHOMBA_UNUSED
+
+/* Symbols pair/2, a/0, b/0; state 0 with tag 0, state 1 final; pair(0,0) to 1, a to 0, b to 0. */
+static const uint8_t set_e[] = {
+    3, 0, 2, 0, 1, 0, 3, 0, 16, 0, 19, 0, 23, 0, 59, 0,
+    2, 0, 0,
+    0, 1, 1, 0,
+    0, 0, 1, 0, 0, 0, 0, 0, 255, 255, 255, 255,
+    1, 0, 0, 0, 255, 255, 255, 255, 255, 255, 255, 255,
+    2, 0, 0, 0, 255, 255, 255, 255, 255, 255, 255, 255,
+};
+
+/* pair(a=7,a=7) and pair(a=7,a=8): symbol, child places, kind (2 is a count), payload. */
+static const uint16_t equal[] = {
+    1, U, U, U, U, 2, 7, 0, 0, 0,
+    0, 0, 0, U, U, 0, 0, 0, 0, 0,
+};
+static const uint16_t unequal[] = {
+    1, U, U, U, U, 2, 7, 0, 0, 0,
+    1, U, U, U, U, 2, 8, 0, 0, 0,
+    0, 0, 1, U, U, 0, 0, 0, 0, 0,
+};
+
+/* Prints what a call answered. */
+static void told(const char *what, uint64_t answer)
+{
+    if (!CIDHOMBA_REFUSED(answer)) {
+        printf("%s: %" PRIu64 "\n", what, answer);
+    } else if (CIDHOMBA_NUMBER(answer) >= CIDHOMBA_TEXT_FAULT && CIDHOMBA_NUMBER(answer) <= CIDHOMBA_TEXT_ROWS) {
+        printf("%s: refused %u at %" PRIu64 "\n", what, CIDHOMBA_NUMBER(answer), CIDHOMBA_PLACE(answer));
+    } else {
+        printf("%s: refused %u\n", what, CIDHOMBA_NUMBER(answer));
+    }
+}
+
+static void checks(void)
+{
+    /* The leaf by rule 1, then the pair by rule 0 over step 0 twice. */
+    static const uint16_t run[] = {1, 0, U, U, U, U, 0, 1, 0, 0, U, U};
+    told("set E", cidhomba_check_automaton(set_e, LENGTH(set_e)));
+    told("set E without its last byte", cidhomba_check_automaton(set_e, LENGTH(set_e) - 1));
+    told("pair(a=7,a=7)", cidhomba_check_document(set_e, LENGTH(set_e), equal, LENGTH(equal)));
+    told("its first row", cidhomba_check_document(set_e, LENGTH(set_e), equal, CIDHOMBA_ROW_CELLS));
+    told("half a row", cidhomba_check_document(set_e, LENGTH(set_e), equal, CIDHOMBA_ROW_CELLS / 2));
+    told("its run", cidhomba_check_run(set_e, LENGTH(set_e), equal, LENGTH(equal), run, LENGTH(run)));
+    told("the run on pair(a=7,a=8)",
+         cidhomba_check_run(set_e, LENGTH(set_e), unequal, LENGTH(unequal), run, LENGTH(run)));
+}
+
+/* Whether E lets a table in: room for eight annotations is plenty. */
+static uint64_t judged(const uint16_t *rows, size_t rows_length)
+{
+    uint16_t work[8 * CIDHOMBA_ANNOTATION_CELLS];
+    uint16_t run[8 * CIDHOMBA_STEP_CELLS];
+    return cidhomba_membership(set_e, LENGTH(set_e), rows, rows_length, work, LENGTH(work), run, LENGTH(run));
+}
+
+static void judging(void)
+{
+    told("steps for pair(a=7,a=7)", judged(equal, LENGTH(equal)));
+    told("steps for pair(a=7,a=8), which is turned away", judged(unequal, LENGTH(unequal)));
+}
+
+static void two_sets(void)
+{
+    uint8_t out[CIDHOMBA_MAX_SET_BYTES];
+    told("bytes of E or E", cidhomba_union(set_e, LENGTH(set_e), set_e, LENGTH(set_e), out, LENGTH(out)));
+    told("bytes of E and E", cidhomba_product(set_e, LENGTH(set_e), set_e, LENGTH(set_e), out, LENGTH(out)));
+    told("no space", cidhomba_union(set_e, LENGTH(set_e), set_e, LENGTH(set_e), out, 0));
+}
+
+static void lowest(void)
+{
+    uint16_t rows[CIDHOMBA_MAX_STATES * CIDHOMBA_ROW_CELLS];
+    uint64_t answer = cidhomba_witness(set_e, LENGTH(set_e), rows, LENGTH(rows));
+    told("levels of a lowest document", answer / 65536);
+    told("its rows", answer % 65536);
+}
+
+/* The site's names, without the byte 0 that C puts at the end; there is no built-in list. */
+static const uint8_t names[] = "pair\na\nb";
+#define NAMES names, LENGTH(names) - 1, names, 0
+
+static void reading(void)
+{
+    static const uint8_t sound[] = "pair(a=7,b#3)";
+    static const uint8_t unknown[] = "pair(a=7,c)";
+    uint16_t rows[CIDHOMBA_MAX_ROWS * CIDHOMBA_ROW_CELLS];
+    told("rows of pair(a=7,b#3)",
+         cidhomba_read_term(set_e, LENGTH(set_e), NAMES, sound, LENGTH(sound) - 1, rows, LENGTH(rows)));
+    told("rows of pair(a=7,c)",
+         cidhomba_read_term(set_e, LENGTH(set_e), NAMES, unknown, LENGTH(unknown) - 1, rows, LENGTH(rows)));
+}
+
+static void writing(void)
+{
+    uint8_t text[64];
+    uint64_t answer =
+        cidhomba_write_term(set_e, LENGTH(set_e), NAMES, equal, LENGTH(equal), text, LENGTH(text));
+    told("bytes of a text", answer);
+    if (!CIDHOMBA_REFUSED(answer)) {
+        printf("%.*s\n", (int)answer, (const char *)text);
+    }
+}
+
+int main(void)
+{
+    checks();
+    judging();
+    two_sets();
+    lowest();
+    reading();
+    writing();
+    return 0;
+}

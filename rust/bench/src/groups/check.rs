@@ -1,0 +1,24 @@
+//! The checks of a set and of a table.
+
+use bench::baseline::{set, table};
+use bench::measure::Table;
+use cidhomba::{check_automaton, check_document};
+use generate::{documents, sets, Random};
+use reference::examples::set_e;
+
+pub fn measure() {
+    let table = Table::open("The checks");
+    let largest = sets::automaton(&mut Random::new(1), &sets::largest_sizes());
+    let bytes = largest.encode();
+    assert_eq!(check_automaton(&bytes).is_ok(), set::read(&bytes).is_ok());
+    let input = format!("set of {} rules", largest.rules.len());
+    table.row(&input, || check_automaton(&bytes), || set::read(&bytes).is_ok());
+    let set = set_e().encode();
+    for rows in [127, 255, 511, 1023] {
+        let cells = documents::broad(&mut Random::new(1), &set_e(), rows).expect("E has leaves").cells();
+        let rust = || set::read(&set).and_then(|set| table::read(&set, &cells)).map(|rows| rows.len());
+        assert_eq!(check_document(&set, &cells), Ok(()));
+        assert_eq!(rust(), Ok(rows));
+        table.row(&format!("table of {rows} rows"), || check_document(&set, &cells), rust);
+    }
+}

@@ -1,0 +1,100 @@
+//! The Rust that the library is measured against answers as the reference does, refusals included.
+
+use bench::baseline;
+use generate::{documents, lists, pairs, rows, set_bytes, sets, texts, Random};
+use reference::limits::{ANNOTATION_CELLS, MAX_ROWS, ROW_CELLS, STEP_CELLS};
+use reference::{check_names, Refusal};
+
+const SEEDS: u64 = 3000;
+
+fn number(refusal: Refusal) -> u8 {
+    refusal.number
+}
+
+fn number_and_place(refusal: Refusal) -> (u8, usize) {
+    (refusal.number, refusal.place.unwrap_or(0))
+}
+
+#[test]
+fn sets_and_tables() {
+    for seed in 0..SEEDS {
+        let random = &mut Random::new(seed);
+        let automaton = sets::automaton(random, &sets::small_sizes());
+        let table = rows::lent(random, &automaton, 30, 70);
+        let set = set_bytes::stored(random, &automaton, 30);
+        let found = baseline::set::read(&set).and_then(|set| baseline::table::read(&set, &table));
+        let expected = reference::check_document(&set, &table);
+        assert_eq!(found.map(|_| ()), expected.map(|_| ()).map_err(number), "seed {seed}");
+    }
+}
+
+#[test]
+fn judging() {
+    for seed in 0..SEEDS {
+        let random = &mut Random::new(seed);
+        let automaton = sets::automaton(random, &sets::tagged_sizes());
+        let Some(document) = documents::document(random, &automaton, 30) else { continue };
+        let room = random.pick(&[0, 5, 100, 4096]);
+        let (set, rows) = (automaton.encode(), document.cells());
+        let found = baseline::membership::membership(&set, &rows, room);
+        let expected = reference::membership(&set, &rows, ANNOTATION_CELLS * room, STEP_CELLS * room);
+        if let Ok(Some(run)) = &found {
+            assert_eq!(reference::check_run(&set, &rows, run), Ok(()), "seed {seed}");
+        }
+        let expected = expected.map(|judgement| judgement.is_yes()).map_err(number);
+        assert_eq!(found.map(|run| run.is_some()), expected, "seed {seed}");
+    }
+}
+
+#[test]
+fn union_and_product() {
+    for seed in 0..SEEDS {
+        let random = &mut Random::new(seed);
+        let (first, second) = pairs::pair(random);
+        let (first, second) = (set_bytes::stored(random, &first, 10), set_bytes::stored(random, &second, 10));
+        let space = random.pick(&[100, 20_000, 20_000]);
+        let union = baseline::boolean::union(&first, &second, space);
+        assert_eq!(union, reference::union(&first, &second, space).map_err(number), "seed {seed}");
+        let product = baseline::boolean::product(&first, &second, space);
+        assert_eq!(product, reference::product(&first, &second, space).map_err(number), "seed {seed}");
+    }
+}
+
+#[test]
+fn dead_or_live() {
+    for seed in 0..SEEDS {
+        let random = &mut Random::new(seed);
+        let sizes = sets::any_sizes(random);
+        let make = random.pick(&[sets::layered, sets::with_own_tags, sets::automaton]);
+        let automaton = make(random, &sizes);
+        let set = set_bytes::stored(random, &automaton, 10);
+        let space = ROW_CELLS * random.pick(&[10, 256, 256]);
+        let expected = reference::witness(&set, space).map_err(number);
+        let expected = expected.map(|sample| sample.map(|sample| (sample.cells(), sample.levels())));
+        assert_eq!(baseline::witness::witness(&set, space), expected, "seed {seed}");
+    }
+}
+
+#[test]
+fn term_text() {
+    for seed in 0..SEEDS {
+        let random = &mut Random::new(seed);
+        let automaton = sets::automaton(random, &sets::small_sizes());
+        let symbols = automaton.arities.len();
+        let (site, built_in) = lists::both(random, symbols, 15);
+        let names = check_names(&site, &built_in, symbols)
+            .unwrap_or_else(|_| check_names(b"", b"", symbols).expect("empty lists are sound"));
+        let text = texts::text(random, &automaton, &names, 60);
+        let set = set_bytes::stored(random, &automaton, 10);
+        let space = ROW_CELLS * random.pick(&[3, MAX_ROWS, MAX_ROWS]);
+        let expected = reference::read_term(&set, &site, &built_in, &text, space);
+        let expected = expected.map(|document| document.cells()).map_err(number_and_place);
+        let found = baseline::term::read(&set, &site, &built_in, &text, space);
+        assert_eq!(found, expected, "seed {seed}");
+        let table = rows::lent(random, &automaton, 30, 20);
+        let space = random.pick(&[20, 3000, 3000]);
+        let expected = reference::write_term(&set, &site, &built_in, &table, space);
+        let found = baseline::term::write(&set, &site, &built_in, &table, space);
+        assert_eq!(found, expected.map_err(number_and_place), "seed {seed}");
+    }
+}

@@ -1,0 +1,101 @@
+//! The wrapper on set E and its documents: what comes back is the part that was written, or a refusal.
+
+use std::fs;
+use std::path::Path;
+
+use cidhomba::*;
+
+fn example(name: &str) -> Vec<u8> {
+    let path = Path::new(env!("CARGO_MANIFEST_DIR")).join("../../examples").join(name);
+    fs::read(&path).unwrap_or_else(|error| panic!("{}: {error}", path.display()))
+}
+
+/// Set E of document 01.
+fn set_e() -> Vec<u8> {
+    example("e.set")
+}
+
+/// The cells of a table that stands in a file.
+fn rows(name: &str) -> Vec<u16> {
+    example(name).chunks_exact(2).map(|pair| u16::from_le_bytes([pair[0], pair[1]])).collect()
+}
+
+fn refused(number: u8) -> Refusal {
+    Refusal { number, place: None }
+}
+
+/// The run of pair(a=7,a=7): the leaf by rule 1, then the pair by rule 0.
+const RUN: [u16; 12] = [1, 0, 65_535, 65_535, 65_535, 65_535, 0, 1, 0, 0, 65_535, 65_535];
+
+#[test]
+fn checks() {
+    let (set, equal) = (set_e(), rows("pair-7-7.rows"));
+    assert_eq!(check_automaton(&set), Ok(()));
+    assert_eq!(check_automaton(&set[..58]), Err(refused(3)));
+    assert_eq!(check_automaton(&[]), Err(refused(1)));
+    assert_eq!(check_document(&set, &equal), Ok(()));
+    assert_eq!(check_document(&set, &equal[..19]), Err(refused(11)));
+    assert_eq!(check_document(&set, &[]), Err(refused(11)));
+}
+
+#[test]
+fn runs() {
+    let (set, equal) = (set_e(), rows("pair-7-7.rows"));
+    assert_eq!(check_run(&set, &equal, &RUN), Ok(()));
+    assert_eq!(check_run(&set, &equal, &RUN[..6]), Err(refused(25)));
+    assert_eq!(check_run(&set, &equal, &[]), Err(refused(21)));
+}
+
+#[test]
+fn judging() {
+    let (mut work, mut run) = ([9; 2 * ANNOTATION_CELLS], [9; 3 * STEP_CELLS]);
+    let equal = rows("pair-7-7.rows");
+    assert_eq!(membership(&set_e(), &equal, &mut work, &mut run), Ok(Judgement::Yes(&RUN)));
+    assert_eq!(work, [0; 2 * ANNOTATION_CELLS]);
+    assert_eq!(run[12..], [9; 6]);
+    let unequal = rows("pair-7-8.rows");
+    assert_eq!(membership(&set_e(), &unequal, &mut work, &mut run), Ok(Judgement::No));
+    assert_eq!(membership(&set_e(), &equal, &mut work[..32], &mut run), Err(refused(31)));
+    assert_eq!(membership(&set_e(), &equal, &mut work, &mut run[..11]), Err(refused(32)));
+}
+
+#[test]
+fn two_sets() {
+    let set = set_e();
+    let mut out = [0; MAX_SET_BYTES];
+    // 16 + 3 + 2 * 4 + 12 * 6 bytes; of the product's rules each symbol has one.
+    assert_eq!(union(&set, &set, &mut out).map(<[u8]>::len), Ok(99));
+    assert_eq!(product(&set, &set, &mut out).map(<[u8]>::len), Ok(63));
+    assert_eq!(union(&set, &set, &mut out[..98]), Err(refused(53)));
+    assert_eq!(product(&set, &set[..58], &mut out), Err(refused(3)));
+}
+
+#[test]
+fn dead_or_live() {
+    let mut space = [0; 2 * ROW_CELLS];
+    let leaf = [1, 65_535, 65_535, 65_535, 65_535, 0, 0, 0, 0, 0];
+    let pair = [0, 0, 0, 65_535, 65_535, 0, 0, 0, 0, 0];
+    let sample = [leaf, pair].concat();
+    assert_eq!(witness(&set_e(), &mut space), Ok(Witness::Live { rows: &sample, levels: 2 }));
+    assert_eq!(witness(&set_e(), &mut space[..19]), Err(refused(42)));
+}
+
+#[test]
+fn reading_text() {
+    let names = Names { site: b"pair\na", built_in: b"" };
+    let mut space = [0; 4 * ROW_CELLS];
+    let equal = rows("pair-7-7.rows");
+    assert_eq!(read_term(&set_e(), names, b"pair(a=7,a=7)", &mut space), Ok(&equal[..]));
+    let at_the_second_child = Refusal { number: 65, place: Some(9) };
+    assert_eq!(read_term(&set_e(), names, b"pair(a=7,c=7)", &mut space), Err(at_the_second_child));
+}
+
+#[test]
+fn writing_text() {
+    let names = Names { site: b"pair\na", built_in: b"" };
+    let mut text = [0; 40];
+    let equal = rows("pair-7-7.rows");
+    assert_eq!(write_term(&set_e(), names, &equal, &mut text), Ok(&b"pair(a=7,a=7)"[..]));
+    assert_eq!(write_term(&set_e(), Names::default(), &equal, &mut text), Ok(&b"s0(s1=7,s1=7)"[..]));
+    assert_eq!(write_term(&set_e(), names, &equal, &mut text[..12]), Err(refused(68)));
+}

@@ -1,0 +1,38 @@
+//! The files of `examples/`, made anew.
+
+use reference::examples::set_e;
+use reference::{Document, Row, Scalar};
+
+use crate::export::{agreed_set, dead_set, export_text, name_list, Columns};
+
+/// Servers in the exports: their rows are fewer than the annotations that the judging program has room for.
+const SERVERS: usize = 8;
+
+/// Every file by its name.
+pub fn all() -> Vec<(&'static str, Vec<u8>)> {
+    let text = |columns: Columns| export_text(SERVERS, columns).into_bytes();
+    vec![
+        ("e.set", set_e().encode()),
+        ("pair-7-7.rows", bytes(&pair(&[7]))),
+        ("pair-7-8.rows", bytes(&pair(&[7, 8]))),
+        ("agreed.set", agreed_set().encode()),
+        ("agreed.names", name_list().into_bytes()),
+        ("export.term", text(Columns::Agreed)),
+        ("export-queue.term", text(Columns::WithQueue)),
+        ("export-swapped.term", text(Columns::SwappedOnce)),
+        ("dead.set", dead_set().encode()),
+    ]
+}
+
+/// The document pair(a=..,a=..) over E, with one row for each different count.
+fn pair(counts: &[u64]) -> Document {
+    let leaf = |&count: &u64| Row { symbol: 1, children: vec![], scalar: Scalar::Count(count) };
+    let mut rows: Vec<Row> = counts.iter().map(leaf).collect();
+    rows.push(Row { symbol: 0, children: vec![0, counts.len() - 1], scalar: Scalar::Bare });
+    Document { rows }
+}
+
+/// A table's cells, low byte first.
+fn bytes(document: &Document) -> Vec<u8> {
+    document.cells().into_iter().flat_map(u16::to_le_bytes).collect()
+}

@@ -1,0 +1,40 @@
+//! The files of `examples/` are what the generator makes, and the reference answers them as their page says.
+
+use std::fs;
+use std::path::Path;
+
+use reference::limits::{MAX_ROWS, ROW_CELLS};
+use reference::{check_names, judge_program, sample_program, write_term};
+
+fn example(name: &str) -> Vec<u8> {
+    let path = Path::new(env!("CARGO_MANIFEST_DIR")).join("../../examples").join(name);
+    fs::read(&path).unwrap_or_else(|error| panic!("{}: {error}", path.display()))
+}
+
+#[test]
+fn the_files_are_what_the_generator_makes() {
+    for (name, bytes) in generate::example_files::all() {
+        assert!(example(name) == bytes, "{name} is not what `--example write_examples` writes");
+    }
+}
+
+#[test]
+fn the_bad_evening() {
+    let judged = |text: &str| judge_program(&[example("agreed.set"), example(text)].concat());
+    assert_eq!(judged("export.term"), b"yes\n");
+    assert_eq!(judged("export-queue.term"), b"no\n");
+    assert_eq!(judged("export-swapped.term"), b"no\n");
+    assert_eq!(sample_program(&example("dead.set")), b"dead\n");
+    assert!(sample_program(&example("agreed.set")).starts_with(b"alive 7\n"));
+}
+
+#[test]
+fn the_texts_are_as_the_writer_has_them_and_the_names_are_names() {
+    let set = example("agreed.set");
+    for name in ["export.term", "export-queue.term", "export-swapped.term"] {
+        let text = example(name);
+        let document = reference::read_term(&set, b"", b"", &text, ROW_CELLS * MAX_ROWS).expect("sound");
+        assert_eq!(write_term(&set, b"", b"", &document.cells(), text.len()), Ok(text));
+    }
+    assert!(check_names(&example("agreed.names"), b"", usize::from(set[0])).is_ok());
+}
