@@ -1,7 +1,7 @@
 -- What soundness gives of a value that was read: for the crates above, whose proofs search these. Assumes nothing.
 use mathlib.Core.Path.{_≡_, _∙_}
 use mathlib.Core.Logic.{⊎-elim}
-use mathlib.Core.List.{List}
+use mathlib.Core.List.{List, map}
 use Prim.Native.Nat.{ℕ, _+_, _^_, _≤_, _<_}
 use native.Mathlib.Omega.{arith}
 use borrow.Author.Needs.{needs}
@@ -9,19 +9,21 @@ use lib.ListN.{length}
 use Rattle.model.specs.Limits.{maxSymbols, maxChildren, maxStates, maxTags, maxRules}
 use Rattle.model.specs.Automaton.{Rule, Automaton, arityOf, stateAt}
 use Rattle.model.specs.Order.{place}
+use Rattle.model.specs.Refusal.{unless}
 use Rattle.model.specs.Sound.{Sound}
 use Rattle.model.specs.Written.{noRule, ruleAt}
 use Rattle.model.proofs.Rows.{in-getD}
 use Rattle.automaton.specs.declared.Checked.{Checked}
 use Rattle.automaton.specs.declared.Checked.the-variants as checked
 use Rattle.automaton.specs.declared.StoredRule.{StoredRule}
-use Rattle.automaton.specs.Answer.{checkedOf, Holds}
+use Rattle.automaton.specs.Answer.{checkAnswer, IsRule}
 use Rattle.automaton.specs.Encode.{encodePlaces, encodeRule}
 use Rattle.automaton.specs.Stored.{decode}
 use Rattle.automaton.specs.Check.{checkOf}
-use Rattle.automaton.specs.Window.{FirstFrom}
+use Rattle.automaton.specs.Window.{rulesFrom, FirstFrom}
 use Rattle.automaton.proofs.Parts.{below-or}
-use Rattle.automaton.proofs.Verdict.{sound-zero}
+use Rattle.automaton.proofs.Window.{rules-from-first}
+use Rattle.automaton.proofs.Verdict.{passed-zero}
 use Rattle.automaton.proofs.Sound.{sound-decode}
 use Rattle.automaton.proofs.Encoded.{place-child}
 
@@ -71,10 +73,14 @@ module _ (A : Automaton) (f low high : ℕ) (a : FirstFrom A f low) (b : FirstFr
     ⊎-elim (λ m. m) (λ m. let y = b .after i m l in absurd (omega arith)) (below-or i high),
   )
 
--- a rule that was read, or made with its places, is stored as the rule that it holds
-pub holds-bytes : (x : StoredRule) (r : Rule) → Holds x r → encodePlaces (x .symbol) (x .target .0) (x .places) ≡ encodeRule r
-holds-bytes x r h = rw (h .symbol, h .target, h .places)
+-- what `rules_from` answered, of a sound set
+pub known-first : (s : List ℕ) (f r : ℕ) → checkOf s ≡ 0 → r ≡ rulesFrom (decode s) f → FirstFrom (decode s) f r
+known-first s f r h e = rw e (rules-from-first s f h)
+
+-- a rule that was read, or made with its places, is stored as the rule that it is
+pub rule-bytes : (x : StoredRule) (r : Rule) → IsRule x r → encodePlaces (x .symbol) (x .target .0) (map (λ q. q .0) (x .places)) ≡ encodeRule r
+rule-bytes x r h = rw (h .symbol, h .target, h .places)
 
 -- an answer without a number is of a sound automaton
-pub checked-sound : (s : List ℕ) (r : Checked) → r ≡ checkedOf (checkOf s) → r ≡ checked.Sound → Sound (decode s)
-checked-sound s r e h = sound-decode s (sound-zero r (checkOf s) e h)
+pub checked-sound : (s : List ℕ) (r : Checked) → checkAnswer r ≡ unless (checkOf s) tt → r ≡ checked.Passed → Sound (decode s)
+checked-sound s r e h = sound-decode s (passed-zero r (checkOf s) e h)

@@ -1,7 +1,7 @@
 -- A loop that fills an array by index, and one that compares two rows of numbers place by place. Assumes nothing.
-use mathlib.Core.Path.{_≡_, refl, sym, _∙_}
+use mathlib.Core.Path.{_≡_, refl, sym, ap, _∙_}
 use mathlib.Core.Bool.{true, false}
-use mathlib.Core.List.{List}
+use mathlib.Core.List.{List, [], _∷_, map}
 use Prim.Native.Nat.{ℕ, zero, suc, _+_, _<_, _≤_, zero-le}
 use native.Mathlib.Nat.{le-antisymm, ne-of-lt}
 use native.Mathlib.Numerals.{add-one-le}
@@ -10,35 +10,41 @@ use borrow.Author.Needs.{needs}
 use borrow.Author.Count.{below-more}
 use borrow.Author.Tests.{lt-ltb, le-ltb, eq-eqb, ne-eqb}
 use lib.Dec.{ltb}
-use lib.ListN.{length, getD, set, length-set}
+use lib.ListN.{length, getD, set, length-set, length-map}
 use lib.Seq.{ext-getD, getD-set-same, getD-set-other}
 use Rattle.model.specs.Lists.{tab}
 use Rattle.model.specs.Order.{lower?}
 use Rattle.model.proofs.Tab.{tab-at, length-tab}
 
--- at the loop's head: the array has m places, and those below k hold f
-pub record Filled (f : ℕ → ℕ) (m : ℕ) (out : List ℕ) (k : ℕ) : Type 0 where
+map-set : {A : Type 0} (g : A → ℕ) (xs : List A) (k : ℕ) (x : A) → map g (set xs k x) ≡ set (map g xs) k (g x)
+map-set g [] k x = refl
+map-set g (y ∷ xs) zero x = refl
+map-set g (y ∷ xs) (suc k) x = ap (λ (l : List ℕ). g y ∷ l) (map-set g xs k x)
+
+-- at the loop's head: the array has m places, and the numbers g of what those below k hold are f
+pub record Filled {A : Type 0} (g : A → ℕ) (f : ℕ → ℕ) (m : ℕ) (out : List A) (k : ℕ) : Type 0 where
   pub long : length out ≡ m
   pub inside : k ≤ m
-  pub told : (j : ℕ) → j < k → getD out j 0 ≡ f j
+  pub is : (j : ℕ) → j < k → getD (map g out) j 0 ≡ f j
 
-module _ (f : ℕ → ℕ) (m : ℕ) (out : List ℕ) where
-  pub filled-none : length out ≡ m → Filled f m out 0
-  filled-none e = record { long = e; inside = zero-le; told = λ j l. absurd (omega arith) }
+module _ {A : Type 0} (g : A → ℕ) (f : ℕ → ℕ) (m : ℕ) (out : List A) where
+  pub filled-none : length out ≡ m → Filled g f m out 0
+  filled-none e = record { long = e; inside = zero-le; is = λ j l. absurd (omega arith) }
 
-  pub filled-more : (k x : ℕ) → Filled f m out k → k < m → x ≡ f k → Filled f m (set out k x) (k + 1)
+  pub filled-more : (k : ℕ) (x : A) → Filled g f m out k → k < m → g x ≡ f k → Filled g f m (set out k x) (k + 1)
   filled-more k x h l e = record {
     long = length-set out k x ∙ h .long;
     inside = add-one-le l;
-    told = below-more _ k
-        (λ j lj. getD-set-other out k j x 0 (ne-of-lt lj) ∙ h .told j lj)
-        (getD-set-same out k x 0 (rw (h .long) l) ∙ e);
+    is = rw (map-set g out k x) (below-more (λ j. getD (set (map g out) k (g x)) j 0 ≡ f j) k
+        (λ j lj. getD-set-other (map g out) k j (g x) 0 (ne-of-lt lj) ∙ h .is j lj)
+        (getD-set-same (map g out) k (g x) 0 (rw (length-map out g, h .long) l) ∙ e));
   }
 
-  pub filled-all : (k : ℕ) → Filled f m out k → m ≤ k → out ≡ tab m f
+  pub filled-all : (k : ℕ) → Filled g f m out k → m ≤ k → map g out ≡ tab m f
   filled-all k h l =
-      ext-getD 0 out (tab m f) (h .long ∙ sym (length-tab m f))
-      (λ j lj. let lm : j < m = rw (h .long) at lj in h .told j (omega arith) ∙ sym (tab-at 0 m f j lm))
+      let n : length (map g out) ≡ m = length-map out g ∙ h .long in
+      ext-getD 0 (map g out) (tab m f) (n ∙ sym (length-tab m f))
+      (λ j lj. let lm : j < m = rw n at lj in h .is j (omega arith) ∙ sym (tab-at 0 m f j lm))
 
 pub ruleset fills = (filled-none, filled-more, filled-all, needs)
 

@@ -2,14 +2,14 @@
 use mathlib.Core.Path.{_≡_, refl, sym, ap, _∙_}
 use mathlib.Core.Bool.{Bool, true, false}
 use mathlib.Core.Logic.{_⊎_, inl, inr}
-use mathlib.Core.List.{List, [], _∷_, _++_}
+use mathlib.Core.List.{List, [], _∷_, _++_, map}
 use Prim.Native.Nat.{ℕ, zero, suc, _+_, _*_, _≤_, _<_}
 use native.Mathlib.Nat.{mul-suc, mul-zero}
 use native.Mathlib.Numerals.{add-one}
 use native.Mathlib.Omega.{arith}
 use borrow.Author.Tests.{ltb-true, ltb-false}
 use lib.Dec.{ltb}
-use lib.ListN.{length, getD, take, drop, length-append, length-drop, List·getD-append}
+use lib.ListN.{length, getD, take, drop, length-append, length-drop, length-map, List·getD-append}
 use lib.Seq.{getD-append-add, take-add, drop-drop, ext-getD, getD-take, getD-drop, length-take-le, drop-cons}
 use Rattle.model.specs.Lists.{concatMap, tab, allBelow}
 use Rattle.model.proofs.Tab.{tab-at, length-tab}
@@ -26,6 +26,10 @@ unfolding allBelow
 all-of zero p h = refl
 all-of (suc n) p h = rw (all-of n p (λ i l. h i (omega arith)), h n (omega arith))
 
+-- an array of structs in a struct: what is known of its machine values tells its length
+pub length-mapped : (A B : Type 0) (g : A → B) (xs : List A) (n : ℕ) → length (map g xs) ≡ n → length xs ≡ n
+length-mapped A B g xs n e = sym (length-map xs g) ∙ e
+
 module _ {A : Type 0} where
   pub tab-same : (n : ℕ) (f g : ℕ → A) → ((k : ℕ) → k < n → f k ≡ g k) → tab n f ≡ tab n g
   tab-same zero f g h = refl
@@ -34,6 +38,10 @@ module _ {A : Type 0} where
   pub tab-of : (d : A) (xs : List A) → tab (length xs) (λ k. getD xs k d) ≡ xs
   tab-of d [] = refl
   tab-of d (x ∷ xs) = ap (λ (l : List A). x ∷ l) (tab-of d xs)
+
+  pub tab-map : (g : A → ℕ) (d : A) (xs : List A) → tab (length xs) (λ k. g (getD xs k d)) ≡ map g xs
+  tab-map g d [] = refl
+  tab-map g d (x ∷ xs) = ap (λ (l : List ℕ). g x ∷ l) (tab-map g d xs)
 
   -- a list by its elements
   pub tab-is : (d : A) (xs : List A) (n : ℕ) (f : ℕ → A) → n ≡ length xs → ((k : ℕ) → k < length xs → f k ≡ getD xs k d) → tab n f ≡ xs

@@ -119,7 +119,7 @@ meets : (t : Bool) (n rest : ℕ) → t ≡ true → rest ≡ 0 → demand t n r
 unfolding demand
 meets t n rest y h = rw y h
 
--- And back: bytes with all of that are turned away by no number.
+-- And back: bytes with all of that are refused by no number.
 pub passing : (s : List ℕ) → Passes s → checkOf s ≡ 0
 unfolding checkOf countsOk offsetsOk symbolOk stateOk ruleOk
 passing s p =

@@ -9,19 +9,20 @@ use native.Mathlib.Omega.{arith}
 use borrow.Author.Needs.{needs}
 use borrow.Author.Tests.{le-leb, lt-leb, leb-true, leb-false}
 use lib.Dec.{leb}
-use lib.ListN.{length, take, drop, getD, set, length-append, length-drop, length-set, take-append-drop}
-use lib.Seq.{sets, sets-eq, take-at, drop-at, length-take-le, paste, paste-zero, paste-suc, take-all, drop-drop}
+use lib.ListN.{length, take, drop, getD, set, length-append, length-set, take-append-drop}
+use lib.Seq.{length-take-le, paste, paste-zero, paste-suc, take-all, drop-drop}
 use Rattle.model.specs.Lists.{concatMap}
-use Rattle.automaton.specs.Encode.{encodeWord, putAt, placeAfter, Put}
+use Rattle.model.proofs.Space.{put-fits, put-not, put-length, put-up-to, put-behind}
+use Rattle.automaton.specs.Encode.{encodeWord, placeAfter, Put}
 use Rattle.automaton.proofs.Words.{length-words, low-at, high-at}
 
 -- bytes fit where the space has them left
-fits-as : (length at n : ℕ) (b : Bool) → leb at (length - n) ≡ b → n ≤ length → b ≡ leb (at + n) length
-fits-as length at n true e h = let l = leb-true at (length - n) e in sym (le-leb (at + n) length (omega arith))
-fits-as length at n false e h = let l = leb-false at (length - n) e in sym (lt-leb (at + n) length (omega arith))
+fits-as : (space at n : ℕ) (b : Bool) → leb at (space - n) ≡ b → n ≤ space → b ≡ leb (at + n) space
+fits-as space at n true e h = let l = leb-true at (space - n) e in sym (le-leb (at + n) space (omega arith))
+fits-as space at n false e h = let l = leb-false at (space - n) e in sym (lt-leb (at + n) space (omega arith))
 
-pub fits-left : (length at n : ℕ) → n ≤ length → leb at (length - n) ≡ leb (at + n) length
-fits-left length at n h = fits-as length at n (leb at (length - n)) refl h
+pub fits-left : (space at n : ℕ) → n ≤ space → leb at (space - n) ≡ leb (at + n) space
+fits-left space at n h = fits-as space at n (leb at (space - n)) refl h
 
 -- and what a flag f of that tells
 pub fits-so : (f : Bool) (n m : ℕ) → f ≡ leb n m → f ≡ true → n ≤ m
@@ -33,62 +34,38 @@ fits-not f n m e y = leb-false n m (sym e ∙ y)
 module _ (out : List ℕ) (at : ℕ) (bytes : List ℕ) where
   -- where the bytes fit whole
   module _ (h : at + length bytes ≤ length out) where
-    pub put-fits : putAt out at bytes ≡ take at out ++ bytes ++ drop (at + length bytes) out
-    unfolding putAt
-    put-fits = rw (le-leb (at + length bytes) (length out) h)
-
     pub after-fits : placeAfter out at bytes ≡ at + length bytes
     unfolding placeAfter
     after-fits = rw (le-leb (at + length bytes) (length out) h)
 
-    pub put-sets : sets out at bytes ≡ putAt out at bytes
-    put-sets = sets-eq bytes out at h ∙ sym put-fits
-
-    front : length (take at out ++ bytes) ≡ at + length bytes
-    front = length-append (take at out) bytes ∙ ap (λ (n : ℕ). n + length bytes) (length-take-le at out (omega arith))
-
-    -- The front holds what it held and the bytes; behind them the space is unchanged, and so is its length.
-    pub put-front : take (placeAfter out at bytes) (putAt out at bytes) ≡ take at out ++ bytes
-    put-front = rw (put-fits, after-fits) (take-at (take at out ++ bytes) (drop (at + length bytes) out) (at + length bytes) front)
-
-    pub put-back : drop (placeAfter out at bytes) (putAt out at bytes) ≡ drop (placeAfter out at bytes) out
-    put-back = rw (put-fits, after-fits) (drop-at (take at out ++ bytes) (drop (at + length bytes) out) (at + length bytes) front)
-
-    pub put-length : length (putAt out at bytes) ≡ length out
-    put-length = rw put-fits (length-append (take at out ++ bytes) (drop (at + length bytes) out) ∙ (let e = front in let d = length-drop (at + length bytes) out in omega arith))
-
     pub put-done : (n : ℕ) (out′ : List ℕ) → n ≡ length bytes → out′ ≡ take at out ++ bytes ++ drop (at + n) out → Put out at bytes out′ (at + n)
-    put-done n out′ e h = record { space = rw (put-fits, ← e) h; place = rw (after-fits, e) }
+    put-done n out′ e d = record { space = rw (put-fits out at bytes h, ← e) d; place = rw (after-fits, e) }
 
   -- where they do not
   module _ (h : length out < at + length bytes) where
-    pub put-not : putAt out at bytes ≡ out
-    unfolding putAt
-    put-not = rw (lt-leb (at + length bytes) (length out) h)
-
     pub after-not : placeAfter out at bytes ≡ at
     unfolding placeAfter
     after-not = rw (lt-leb (at + length bytes) (length out) h)
 
-    pub put-none : Put out at bytes out at
-    put-none = record { space = sym put-not; place = sym after-not }
+    pub put-stays : Put out at bytes out at
+    put-stays = record { space = sym (put-not out at bytes h); place = sym after-not }
 
 -- words pasted by a loop: at its head the first i stand in the space
 pub record Pasted (d : List ℕ) (at : ℕ) (ws out : List ℕ) (i : ℕ) : Type 0 where
   pub inside : i ≤ length ws
   pub long : length out ≡ length d
-  pub told : out ≡ paste d at (concatMap encodeWord ws) (2 * i)
+  pub is : out ≡ paste d at (concatMap encodeWord ws) (2 * i)
 
 module _ (d : List ℕ) (at : ℕ) (ws : List ℕ) (h : at + 2 * length ws ≤ length d) where
   pub pasted-none : Pasted d at ws d 0
-  pasted-none = record { inside = omega arith; long = refl; told = paste-zero d at (concatMap encodeWord ws) }
+  pasted-none = record { inside = omega arith; long = refl; is = paste-zero d at (concatMap encodeWord ws) }
 
   pub pasted-more : (out : List ℕ) (i x y : ℕ) → Pasted d at ws out i → i < length ws → x ≡ getD ws i 0 % 256 → y ≡ getD ws i 0 / 256 % 256 → Pasted d at ws (set (set out (at + 2 * i) x) (at + 2 * i + 1) y) (i + 1)
   pasted-more out i x y p l ex ey =
       let B = concatMap encodeWord ws in
       let n : length B ≡ 2 * length ws = length-words ws in
       let first : set out (at + 2 * i) x ≡ paste d at B (2 * i + 1) =
-      rw (p .told, ex, ← low-at ws i l, add-one) (paste-suc d at B (2 * i) 0 (omega arith) (omega arith)) in
+      rw (p .is, ex, ← low-at ws i l, add-one) (paste-suc d at B (2 * i) 0 (omega arith) (omega arith)) in
       let second : set (paste d at B (2 * i + 1)) (at + (2 * i + 1)) y ≡ paste d at B (suc (2 * i + 1)) =
       rw (ey, ← high-at ws i l) (paste-suc d at B (2 * i + 1) 0 (omega arith) (omega arith)) in
       let e : 2 * (i + 1) ≡ suc (2 * i + 1) = omega arith in
@@ -96,14 +73,14 @@ module _ (d : List ℕ) (at : ℕ) (ws : List ℕ) (h : at + 2 * length ws ≤ l
       record {
         inside = add-one-le l;
         long = length-set (set out (at + 2 * i) x) (at + 2 * i + 1) y ∙ length-set out (at + 2 * i) x ∙ p .long;
-        told = rw (e, e′, first) second;
+        is = rw (e, e′, first) second;
       }
 
   pub pasted-all : (out : List ℕ) (i : ℕ) → Pasted d at ws out i → length ws ≤ i → out ≡ take at d ++ concatMap encodeWord ws ++ drop (at + 2 * length ws) d
   pasted-all out i p l =
       let B = concatMap encodeWord ws in
       let e : i ≡ length ws = le-antisymm (p .inside) l in
-      p .told ∙ ap (λ (k : ℕ). paste d at B (2 * k)) e ∙ ap (λ (b : List ℕ). take at d ++ b ++ drop (at + 2 * length ws) d) (take-all (2 * length ws) B (le-of-eq (length-words ws)))
+      p .is ∙ ap (λ (k : ℕ). paste d at B (2 * k)) e ∙ ap (λ (b : List ℕ). take at d ++ b ++ drop (at + 2 * length ws) d) (take-all (2 * length ws) B (le-of-eq (length-words ws)))
 
 pub ruleset pastes = (pasted-none, pasted-more, pasted-all, needs)
 
@@ -134,8 +111,8 @@ module _ (space whole : List ℕ) where
         let h = fits-whole in
         let r : at′ ≡ at + length bytes = p .place ∙ after-fits out at bytes h in
         let n : length out′ ≡ length out = ap (λ (l : List ℕ). length l) (p .space) ∙ put-length out at bytes h in
-        let front : take at′ out′ ≡ take at out ++ bytes = rw (p .place, p .space) (put-front out at bytes h) in
-        let same : drop at′ out′ ≡ drop at′ out = rw (p .place, p .space) (put-back out at bytes h) in
+        let front : take at′ out′ ≡ take at out ++ bytes = rw (r, p .space) (put-up-to out at bytes h) in
+        let same : drop at′ out′ ≡ drop at′ out = rw (r, p .space) (put-behind out at bytes h) in
         let here : drop at′ out ≡ drop at′ space =
         ap (λ (k : ℕ). drop k out) r ∙ sym (drop-drop (length bytes) at out) ∙ ap (λ (l : List ℕ). drop (length bytes) l) (w .behind) ∙ drop-drop (length bytes) at space ∙ ap (λ (k : ℕ). drop k space) (sym r) in
         record {

@@ -1,4 +1,4 @@
--- A set that no test turns away stands for a sound automaton. Assumes nothing.
+-- A set that no test refuses stands for a sound automaton. Assumes nothing.
 use mathlib.Core.Path.{_≡_, sym, ap, _∙_, subst}
 use mathlib.Core.Bool.{true}
 use mathlib.Core.Logic.{⊎-elim}

@@ -6,12 +6,12 @@ use Prim.Native.Nat.{ℕ, zero, suc, _≤_, _<_}
 use native.Mathlib.Omega.{arith}
 use lib.Dec.{leb}
 use borrow.Author.Tests.{le-leb, lt-leb, not-true, not-false}
-use Rattle.model.specs.Refusal.{demand, andAfter}
+use Rattle.model.specs.Refusal.{demand, andAfter, unless}
 use Rattle.automaton.specs.declared.Checked.{Checked}
-use Rattle.automaton.specs.declared.Checked.the-variants.{Sound, Refused}
+use Rattle.automaton.specs.declared.Checked.the-variants.{Passed, Refused}
 use Rattle.automaton.specs.Stored.{tagCount}
 use Rattle.automaton.specs.Check.{countsOk}
-use Rattle.automaton.specs.Answer.{checkedOf}
+use Rattle.automaton.specs.Answer.{checkAnswer}
 use Rattle.automaton.proofs.Passes.{counted}
 
 -- a flag f of the test t: the demand passes, and the rest decides; or it stops
@@ -36,38 +36,56 @@ module _ (a b n rest : ℕ) where
 
 pub ruleset verdicts = (pass, stop, pass-at-least, stop-below, not-true, not-false)
 
+-- the one answer with that number
+abbrev pub checkedOf : ℕ → Checked
+checkedOf zero = Passed
+checkedOf (suc n) = Refused (suc n)
+
+-- an answer is that of a number where it says so, and says so where it is
+pub answer-is : (r : Checked) (n : ℕ) → checkAnswer r ≡ unless n tt → r ≡ checkedOf n
+unfolding unless
+answer-is Passed zero e = refl
+answer-is Passed (suc n) e = let z : _≡_ {A = ℕ} 0 1 = cc in absurd (omega arith)
+answer-is (Refused m) zero e = let z : _≡_ {A = ℕ} 0 1 = cc in absurd (omega arith)
+answer-is (Refused m) (suc n) e = cc
+
+pub is-answer : (r : Checked) (n : ℕ) → r ≡ checkedOf n → checkAnswer r ≡ unless n tt
+unfolding unless
+is-answer r zero e = ap checkAnswer e
+is-answer r (suc n) e = ap checkAnswer e
+
 -- the answer with the number n, where the definition gives m
-pub answered : (n m : ℕ) → n ≡ m → (n ≡ m) × (checkedOf n ≡ checkedOf m)
-answered n m e = (e, ap checkedOf e)
+pub answered : (n m : ℕ) → n ≡ m → checkAnswer (checkedOf n) ≡ unless m tt
+answered n m e = is-answer (checkedOf n) m (ap checkedOf e)
 
 -- a set that passed 2 has few tags
 pub tags-below : (s : List ℕ) (f : Bool) → f ≡ countsOk s → f ≡ true → tagCount s < 16
 tags-below s f e y = let c = counted s (sym e ∙ y) .few-tags in omega arith
 
--- What a caller learns: of a sound answer the number is 0, and a later place decides; of a refusal it is the answer's own.
-module _ (r : Checked) (n : ℕ) where
-  pub sound-zero : r ≡ checkedOf n → r ≡ Sound → n ≡ 0
-  sound-zero = go n
+-- What a caller learns: of an answer that passed the number is 0, and a later place decides; of a refusal it is the answer's own.
+module _ (r : Checked) (n : ℕ) (e : checkAnswer r ≡ unless n tt) where
+  pub passed-zero : r ≡ Passed → n ≡ 0
+  passed-zero = go n (answer-is r n e)
     where
-      go : (m : ℕ) → r ≡ checkedOf m → r ≡ Sound → m ≡ 0
-      go zero e h = refl
-      go (suc m) e h = cc
+      go : (m : ℕ) → r ≡ checkedOf m → r ≡ Passed → m ≡ 0
+      go zero d h = refl
+      go (suc m) d h = cc
 
-  pub refused-after : (m rest : ℕ) → r ≡ checkedOf n → r ≡ Refused m → m ≡ andAfter n rest
+  pub passed-after : (rest : ℕ) → r ≡ Passed → rest ≡ andAfter n rest
   unfolding andAfter
-  refused-after m rest = go n
+  passed-after rest h = rw (passed-zero h)
+
+  pub refused-after : (m rest : ℕ) → r ≡ Refused m → m ≡ andAfter n rest
+  unfolding andAfter
+  refused-after m rest = go n (answer-is r n e)
     where
       go : (k : ℕ) → r ≡ checkedOf k → r ≡ Refused m → m ≡ andAfter k rest
-      go zero e h = cc
-      go (suc k) e h = cc
+      go zero d h = cc
+      go (suc k) d h = cc
 
-  pub sound-after : (rest : ℕ) → r ≡ checkedOf n → r ≡ Sound → rest ≡ andAfter n rest
-  unfolding andAfter
-  sound-after rest e h = rw (sound-zero e h)
-
-  pub refused-some : (m : ℕ) → r ≡ checkedOf n → r ≡ Refused m → 0 < m
-  refused-some m = go n
+  pub refused-some : (m : ℕ) → r ≡ Refused m → 0 < m
+  refused-some m = go n (answer-is r n e)
     where
       go : (k : ℕ) → r ≡ checkedOf k → r ≡ Refused m → 0 < m
-      go zero e h = let z : _≡_ {A = ℕ} 0 1 = cc in absurd (omega arith)
-      go (suc k) e h = let z : m ≡ suc k = cc in omega arith
+      go zero d h = let z : _≡_ {A = ℕ} 0 1 = cc in absurd (omega arith)
+      go (suc k) d h = let z : m ≡ suc k = cc in omega arith

@@ -1,12 +1,12 @@
 -- Numbers as bytes: what stands where in a list of encoded words, a word read back, and the number at a place. Assumes nothing.
 use mathlib.Core.Path.{_≡_, refl, sym, ap, _∙_}
-use mathlib.Core.List.{List, [], _∷_, _++_}
+use mathlib.Core.List.{List, [], _∷_, _++_, map}
 use Prim.Native.Nat.{ℕ, zero, suc, _+_, _*_, _/_, _%_, _≤_, _<_}
 use native.Mathlib.Nat.{zero-add, mod-eq-of-lt, div-eq-of-lt, add-mul-mod-self-left, add-mul-div-left}
 use native.Mathlib.Omega.{arith}
 use lib.ListN.{length, getD, List·getD-eq-default}
 use Rattle.model.specs.Lists.{concatMap, tab}
-use Rattle.automaton.proofs.Parts.{tab-of}
+use Rattle.automaton.proofs.Parts.{tab-map}
 use Rattle.automaton.specs.Form.{headerWidth, statesOffset, rulesOffset, totalLength}
 use Rattle.automaton.specs.Stored.{word}
 use Rattle.automaton.specs.Number.{NumberAt}
@@ -36,16 +36,16 @@ high-cut x = omega arith
 pub word-cut : (x y : ℕ) → x ≡ y % 65536 → encodeWord x ≡ encodeWord y
 word-cut x y e = cc (e, low-cut y, high-cut y)
 
--- the words of a header, the offsets a, b and the total c cut to 16 bits; those of a rule with m places
+-- the words of a header, the offsets a, b and the total c cut to 16 bits; those of a rule with m places, each with its number g
 pub header-words : (S Q T R a b c x y z : ℕ) → x ≡ statesOffset S → y ≡ rulesOffset S Q → z ≡ totalLength S Q R → a ≡ x % 65536 → b ≡ y % 65536 → c ≡ z % 65536 → concatMap encodeWord (S ∷ Q ∷ T ∷ R ∷ headerWidth ∷ a ∷ b ∷ c ∷ []) ≡ encodeHeader S Q T R
 unfolding encodeHeader
 header-words S Q T R a b c x y z ex ey ez ea eb ec =
     ap (λ (w : List ℕ). concatMap encodeWord (S ∷ Q ∷ T ∷ R ∷ headerWidth ∷ []) ++ w)
     (cc (ex, ey, ez, word-cut a x ea, word-cut b y eb, word-cut c z ec))
 
-pub rule-words : (m f t : ℕ) (ps : List ℕ) → length ps ≡ m → concatMap encodeWord (f ∷ t ∷ tab m (λ k. getD ps k 0)) ≡ encodePlaces f t ps
+pub rule-words : {A : Type 0} (g : A → ℕ) (d : A) (m f t : ℕ) (ps : List A) → length ps ≡ m → concatMap encodeWord (f ∷ t ∷ tab m (λ k. g (getD ps k d))) ≡ encodePlaces f t (map g ps)
 unfolding encodePlaces
-rule-words m f t ps e = ap (λ (l : List ℕ). concatMap encodeWord (f ∷ t ∷ l)) (ap (λ (n : ℕ). tab n (λ k. getD ps k 0)) (sym e) ∙ tab-of 0 ps)
+rule-words g d m f t ps e = ap (λ (l : List ℕ). concatMap encodeWord (f ∷ t ∷ l)) (ap (λ (n : ℕ). tab n (λ k. g (getD ps k d))) (sym e) ∙ tab-map g d ps)
 
 -- a number below 2^16 is read back from its two bytes, and two bytes from their number
 pub word-back : (x : ℕ) → x < 65536 → x % 256 + 256 * (x / 256 % 256) ≡ x

@@ -1,4 +1,4 @@
--- Which number turns stored bytes away (document 01, section "Turned away, by place", place "set"); 0 for none. Assumes nothing.
+-- Which number refuses stored bytes (document 01, section "Turned away, by place", place "set"); 0 for none. Assumes nothing.
 use mathlib.Core.List.{List}
 use mathlib.Core.Bool.{Bool, _&&_, cond}
 use Prim.Native.Nat.{ℕ, _+_, _-_, _^_}

@@ -3,12 +3,12 @@ use mathlib.Core.Path.{_≡_}
 use mathlib.Core.List.{List, [], _∷_, _++_}
 use mathlib.Core.Bool.{Bool, cond}
 use Prim.Native.Nat.{ℕ, _+_, _/_, _%_}
-use lib.Dec.{leb}
-use lib.ListN.{length, take, drop}
+use lib.ListN.{length}
 use Rattle.model.specs.Limits.{maxChildren}
 use Rattle.model.specs.Lists.{concatMap, tab}
 use Rattle.model.specs.Automaton.{Rule, Automaton}
 use Rattle.model.specs.Order.{place}
+use Rattle.model.specs.Space.{fitsAt?, putAt}
 use Rattle.automaton.specs.Form.{headerWidth, statesOffset, rulesOffset, totalLength}
 
 -- a number's lowest byte, alone
@@ -52,17 +52,9 @@ encode A =
 abbrev pub encodedLength : Automaton → ℕ
 encodedLength A = totalLength (length (A .arities)) (length (A .states)) (length (A .rules))
 
--- the bytes fit whole at this place of the space
-abbrev pub fits? : List ℕ → ℕ → List ℕ → Bool
-fits? out at bytes = leb (at + length bytes) (length out)
-
--- the space with the bytes put at this place, where they fit whole; else as it was
-unfoldable pub putAt : List ℕ → ℕ → List ℕ → List ℕ
-putAt out at bytes = cond (fits? out at bytes) (take at out ++ bytes ++ drop (at + length bytes) out) out
-
 -- the place after the bytes, where they fit whole; else the place itself
 unfoldable pub placeAfter : List ℕ → ℕ → List ℕ → ℕ
-placeAfter out at bytes = cond (fits? out at bytes) (at + length bytes) at
+placeAfter out at bytes = cond (fitsAt? out at bytes) (at + length bytes) at
 
 -- the bytes put at this place of the space: what it holds then, and the place that is answered
 pub record Put (out : List ℕ) (at : ℕ) (bytes out′ : List ℕ) (r : ℕ) : Type 0 where

@@ -1,16 +1,17 @@
 // The stored form of an automaton: its check, what it says by index, and its writing (`write`).
 ghost use mathlib.Core.Path.{_≡_};
-ghost use Prim.Native.Nat.{_≤_};
+ghost use mathlib.Core.List.{map};
 ghost use lib.ListN.{length};
 ghost use Rattle.model.specs.Automaton.{stateAt, arityOf, final?};
 ghost use Rattle.model.specs.Limits.{maxChildren};
 ghost use Rattle.model.specs.Lists.{tab};
 ghost use Rattle.model.specs.Order.{place};
+ghost use Rattle.model.specs.Refusal.{unless};
 ghost use Rattle.model.specs.Written.{ruleAt};
 ghost use Rattle.automaton.specs.Stored.{rulesAt, placeOf, decode};
 ghost use Rattle.automaton.specs.Check.{checkOf};
-ghost use Rattle.automaton.specs.Window.{FirstFrom};
-ghost use Rattle.automaton.specs.Answer.{refusalOf, checkedOf, Counts, Holds};
+ghost use Rattle.automaton.specs.Window.{rulesFrom};
+ghost use Rattle.automaton.specs.Answer.{checkAnswer, Counts, IsRule};
 
 mod raw;
 pub mod reader;
@@ -18,6 +19,8 @@ mod slice;
 mod tests;
 pub mod write;
 
+use base::limits::MAX_CHILDREN;
+use base::limits::UNUSED;
 use raw::header_word;
 use raw::place_word;
 use raw::rule_word;
@@ -27,19 +30,7 @@ use raw::states_at;
 use raw::symbol_byte;
 use raw::symbols_at;
 
-// The limits and widths of the form.
-pub const MAX_SYMBOLS: u16 = 64;
-
-pub const MAX_CHILDREN: u16 = 4;
-
-pub const MAX_STATES: u16 = 256;
-
-pub const MAX_TAGS: u16 = 8;
-
-pub const MAX_RULES: u16 = 1024;
-
-pub const UNUSED: u16 = 65535;
-
+// The widths of the form.
 const HEADER_WIDTH: usize = 16;
 
 const STATE_WIDTH: usize = 2;
@@ -58,21 +49,21 @@ pub struct StoredHeader {
     pub total: u16,
 }
 
-// A rule with its child places; an unused place holds UNUSED.
+// A rule with its child places; an unused place is State(UNUSED).
 pub struct StoredRule {
     pub symbol: u16,
     pub target: State,
-    pub places: [u16; 4],
+    pub places: [State; 4],
 }
 
-// The check's answer: refused with a number of document 01, or none.
+// The check's answer: passed, or refused with a number of document 01.
 pub enum Checked {
-    Sound,
+    Passed,
     Refused(u16),
 }
 
 pub fn check(set: &[u8]) -> Checked
-    ensures { λ r. ⌜ (refusalOf r ≡ checkOf (now (set .entry))) × (r ≡ checkedOf (checkOf (now (set .entry)))) ⌝ }
+    ensures { λ r. ⌜ checkAnswer r ≡ unless (checkOf (now (set .entry))) tt ⌝ }
 {
     if set.len() < HEADER_WIDTH {
         return Checked::Refused(1);
@@ -95,7 +86,7 @@ pub fn check(set: &[u8]) -> Checked
     if !tests::ascending(set) {
         return Checked::Refused(7);
     }
-    Checked::Sound
+    Checked::Passed
 }
 
 pub fn header(set: &[u8]) -> StoredHeader
@@ -131,7 +122,7 @@ pub fn is_final(set: &[u8], q: State) -> bool
     ensures { λ r. ⌜ r ≡ final? (decode (now (set .entry))) (q .0) ⌝ }
 {
     if q.0 < header_word(set, 2) {
-        state_byte(set, states_at(set), q.0, 0) == 1
+        state_byte(set, states_at(set), q, 0) == 1
     } else {
         false
     }
@@ -142,7 +133,7 @@ pub fn tags_of(set: &[u8], q: State) -> u16
     ensures { λ r. ⌜ r ≡ stateAt (decode (now (set .entry))) (q .0) .mask ⌝ }
 {
     if q.0 < header_word(set, 2) {
-        state_byte(set, states_at(set), q.0, 1)
+        state_byte(set, states_at(set), q, 1)
     } else {
         0
     }
@@ -168,37 +159,37 @@ pub fn rule_target(set: &[u8], i: u16) -> State
     }
 }
 
-// What stands in child place k of rule i, whose symbol has n children, where the rules start at byte `first`.
-fn place_of(set: &[u8], first: u16, i: u16, n: u16, k: u16) -> u16
+// The state in child place k of rule i, whose symbol has n children, where the rules start at byte `first`; UNUSED where there is no such child.
+fn place_of(set: &[u8], first: u16, i: u16, n: u16, k: u16) -> State
     requires { ⌜ first ≡ rulesAt (now set) ⌝ }
-    ensures { λ r. ⌜ r ≡ placeOf (now (set .entry)) i n k ⌝ }
+    ensures { λ r. ⌜ r .0 ≡ placeOf (now (set .entry)) i n k ⌝ }
 {
     if k < n {
-        place_word(set, first, i, k)
+        State(place_word(set, first, i, k))
     } else {
-        UNUSED
+        State(UNUSED)
     }
 }
 
-// What stands in child place k of rule i.
-pub fn rule_child(set: &[u8], i: u16, k: u16) -> u16
-    ensures { λ r. ⌜ r ≡ place (ruleAt (decode (now (set .entry))) i) k ⌝ }
+// The state in child place k of rule i; UNUSED where the rule's symbol has no such child, whatever stands in the bytes, and where there is no such rule.
+pub fn rule_child(set: &[u8], i: u16, k: u16) -> State
+    ensures { λ r. ⌜ r .0 ≡ place (ruleAt (decode (now (set .entry))) i) k ⌝ }
 {
     if i < rules(set) {
         let first = rules_at(set);
         let n = arity(set, rule_word(set, first, i, 0));
         place_of(set, first, i, n, k)
     } else {
-        UNUSED
+        State(UNUSED)
     }
 }
 
 // The child places of rule i, whose symbol has n children, where the rules start at byte `first`.
-fn places_of(set: &[u8], first: u16, i: u16, n: u16) -> [u16; 4]
+fn places_of(set: &[u8], first: u16, i: u16, n: u16) -> [State; 4]
     requires { ⌜ first ≡ rulesAt (now set) ⌝ }
-    ensures { λ r. ⌜ r ≡ tab maxChildren (placeOf (now (set .entry)) i n) ⌝ }
+    ensures { λ r. ⌜ map (λ q. q .0) r ≡ tab maxChildren (placeOf (now (set .entry)) i n) ⌝ }
 {
-    let mut places = [UNUSED; 4];
+    let mut places = [State(UNUSED); 4];
     let mut k = 0;
     while k < MAX_CHILDREN {
         let at = k as usize;
@@ -209,7 +200,7 @@ fn places_of(set: &[u8], first: u16, i: u16, n: u16) -> [u16; 4]
 }
 
 pub fn rule(set: &[u8], i: u16) -> StoredRule
-    ensures { λ r. ⌜ Holds r (ruleAt (decode (now (set .entry))) i) ⌝ }
+    ensures { λ r. ⌜ IsRule r (ruleAt (decode (now (set .entry))) i) ⌝ }
 {
     if i < rules(set) {
         let first = rules_at(set);
@@ -224,15 +215,14 @@ pub fn rule(set: &[u8], i: u16) -> StoredRule
         StoredRule {
             symbol: 0,
             target: State(0),
-            places: [UNUSED; 4],
+            places: [State(UNUSED); 4],
         }
     }
 }
 
-// The first rule whose symbol is the given one or higher, or the number of rules.
+// Where bisection for the first rule whose symbol is the given one or higher ends; in a sound set that is the rule's number, or the number of rules.
 pub fn rules_from(set: &[u8], symbol: u16) -> u16
-    ensures within { λ r. ⌜ r ≤ length ((decode (now (set .entry))) .rules) ⌝ }
-    ensures first { λ r. ⌜ (checkOf (now (set .entry)) ≡ 0 → FirstFrom (decode (now (set .entry))) symbol r) ⌝ }
+    ensures { λ r. ⌜ r ≡ rulesFrom (decode (now (set .entry))) symbol ⌝ }
 {
     let first = rules_at(set);
     let mut low = 0;

@@ -7,8 +7,9 @@ ghost use Rattle.automaton.specs.Form.{ruleWidth};
 ghost use Rattle.automaton.specs.Stored.{word, symbolsAt, statesAt, rulesAt, symbolByte, stateByte, ruleWord, placeWord};
 use super::RULE_WIDTH;
 use super::STATE_WIDTH;
+use super::State;
 use super::reader::number_at;
-use super::slice::size;
+use base::numbers::size;
 
 // The bytes of a rule before its child places: its symbol and its target.
 const PLACES_AT: usize = 4;
@@ -55,11 +56,11 @@ pub(crate) fn symbol_byte(s: &[u8], first: u16, i: u16) -> u16
 }
 
 // Byte b of state q, where the states start at byte `first`.
-pub(crate) fn state_byte(s: &[u8], first: u16, q: u16, b: u16) -> u16
+pub(crate) fn state_byte(s: &[u8], first: u16, q: State, b: u16) -> u16
     requires { ⌜ first ≡ statesAt (now s) ⌝ }
-    ensures { λ r. ⌜ (r ≡ stateByte (now (s .entry)) q b) × (r < 256) ⌝ }
+    ensures { λ r. ⌜ (r ≡ stateByte (now (s .entry)) (q .0) b) × (r < 256) ⌝ }
 {
-    byte_at(s, size(first) + STATE_WIDTH * size(q) + size(b))
+    byte_at(s, size(first) + STATE_WIDTH * size(q.0) + size(b))
 }
 
 // The byte at which rule i starts, where the rules start at byte `first`.

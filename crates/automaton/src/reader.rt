@@ -17,13 +17,6 @@ pub fn new<'a>(set: &'a [u8]) -> SetReader<'a>
     SetReader { set, at: 0 }
 }
 
-// The place: the index of the byte that is read next.
-pub fn position<'a>(r: SetReader<'a>) -> usize
-    ensures { λ n. ⌜ n ≡ r .entry .at ⌝ }
-{
-    r.at
-}
-
 // The reader handed back at another place, inside the set or not.
 pub fn moved<'a>(r: SetReader<'a>, at: usize) -> SetReader<'a>
     ensures { λ q. ⌜ (q .set ≡ r .entry .set) × (q .at ≡ at) ⌝ }

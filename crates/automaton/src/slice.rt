@@ -3,23 +3,18 @@ ghost use mathlib.Core.Path.{_≡_};
 ghost use Prim.Native.Nat.{_+_, _-_, _*_, _≤_, _<_};
 ghost use lib.ListN.{length, getD};
 ghost use Rattle.automaton.specs.Number.{NumberAt};
+use base::numbers::size;
 
-fn wide(x: u8) -> u16
+fn value(x: u8) -> u16
     ensures { λ r. ⌜ (r ≡ x) × (r < 256) ⌝ }
 {
     x as u16
 }
 
-pub(crate) fn size(x: u16) -> usize
-    ensures { λ r. ⌜ (r ≡ x) × (r < 65536) ⌝ }
-{
-    x as usize
-}
-
 fn byte(s: &[u8], at: usize) -> u16
     ensures { λ r. ⌜ (r ≡ getD (now (s .entry)) at 0) × (r < 256) ⌝ }
 {
-    if at < s.len() { wide(s[at]) } else { 0 }
+    if at < s.len() { value(s[at]) } else { 0 }
 }
 
 // How many of n bytes stand from place `at` on.
@@ -34,7 +29,7 @@ fn word_inside(s: &[u8], at: usize) -> u16
     requires { ⌜ at + 1 < length (now s) ⌝ }
     ensures { λ r. ⌜ NumberAt (now (s .entry)) at r ⌝ }
 {
-    wide(s[at]) + 256 * wide(s[at + 1])
+    value(s[at]) + 256 * value(s[at + 1])
 }
 
 // The number of which at most the low byte stands in the slice, `k` bytes after place `at`.

@@ -8,12 +8,7 @@ ghost use Rattle.automaton.specs.Stored.{word, symbolCount, stateCount, 
 ghost use Rattle.automaton.specs.Check.{countsOk, offsetsOk, symbolOk, stateOk, placeOk, ruleOk, keyWord, ascendsAt};
 ghost use Rattle.automaton.specs.Frame.{Framed};
 use super::HEADER_WIDTH;
-use super::MAX_CHILDREN;
-use super::MAX_RULES;
-use super::MAX_STATES;
-use super::MAX_SYMBOLS;
-use super::MAX_TAGS;
-use super::UNUSED;
+use super::State;
 use super::raw::header_word;
 use super::raw::place_word;
 use super::raw::rule_word;
@@ -22,10 +17,16 @@ use super::raw::state_byte;
 use super::raw::states_at;
 use super::raw::symbol_byte;
 use super::raw::symbols_at;
-use super::slice::size;
 use super::write::rules_offset;
 use super::write::states_offset;
 use super::write::total_length;
+use base::limits::MAX_CHILDREN;
+use base::limits::MAX_RULES;
+use base::limits::MAX_STATES;
+use base::limits::MAX_SYMBOLS;
+use base::limits::MAX_TAGS;
+use base::limits::UNUSED;
+use base::numbers::size;
 
 pub(crate) fn counts(set: &[u8]) -> bool
     ensures { λ r. ⌜ r ≡ countsOk (now (set .entry)) ⌝ }
@@ -92,9 +93,9 @@ fn power(t: u16) -> u16
 }
 
 // State q, where the states start at byte `first` and a mask is below `bound`.
-fn state(set: &[u8], first: u16, q: u16, bound: u16) -> bool
+fn state(set: &[u8], first: u16, q: State, bound: u16) -> bool
     requires { ⌜ (first ≡ statesAt (now set)) × (bound ≡ 2 ^ tagCount (now set)) ⌝ }
-    ensures { λ r. ⌜ r ≡ stateOk (now (set .entry)) q ⌝ }
+    ensures { λ r. ⌜ r ≡ stateOk (now (set .entry)) (q .0) ⌝ }
 {
     (state_byte(set, first, q, 0) <= 1) & (state_byte(set, first, q, 1) < bound)
 }
@@ -108,7 +109,7 @@ pub(crate) fn states(set: &[u8]) -> bool
     let bound = power(header_word(set, 4));
     let mut i = 0;
     while i < n {
-        if state(set, first, i, bound) {
+        if state(set, first, State(i), bound) {
             i += 1;
         } else {
             return false;

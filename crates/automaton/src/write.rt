@@ -2,7 +2,7 @@
 // is written and the place itself is the answer.
 ghost use mathlib.Core.Path.{_≡_};
 ghost use mathlib.Core.Bool.{cond};
-ghost use mathlib.Core.List.{_++_};
+ghost use mathlib.Core.List.{_++_, map};
 ghost use Prim.Native.Nat.{_+_, _*_, _/_, _%_, _≤_, _<_};
 ghost use lib.Dec.{leb};
 ghost use lib.ListN.{length, take, drop};
@@ -13,7 +13,7 @@ use super::HEADER_WIDTH;
 use super::RULE_WIDTH;
 use super::STATE_WIDTH;
 use super::StoredRule;
-use super::slice::size;
+use base::numbers::size;
 
 pub(crate) fn states_offset(symbols: u16) -> usize
     ensures { λ r. ⌜ (r ≡ statesOffset symbols) × (r < 65552) ⌝ }
@@ -34,11 +34,11 @@ pub fn total_length(symbols: u16, states: u16, rules: u16) -> usize
     rules_offset(symbols, states) + RULE_WIDTH * size(rules)
 }
 
-// Whether n bytes fit at a place of a space of `length` bytes.
-fn fits(length: usize, at: usize, n: usize) -> bool
-    ensures { λ r. ⌜ r ≡ leb (at + n) length ⌝ }
+// Whether n bytes fit at a place of a space of so many bytes.
+fn fits(space: usize, at: usize, n: usize) -> bool
+    ensures { λ r. ⌜ r ≡ leb (at + n) space ⌝ }
 {
-    if n <= length { at <= length - n } else { false }
+    if n <= space { at <= space - n } else { false }
 }
 
 fn low(x: u16) -> u8
@@ -133,16 +133,16 @@ pub fn put_state(out: &mut [u8], at: usize, accepting: bool, mask: u16) -> usize
 }
 
 pub fn put_rule(out: &mut [u8], at: usize, r: StoredRule) -> usize
-    ensures { λ n. ⌜ Put (now (out .entry)) at (encodePlaces (r .symbol) (r .target .0) (r .places)) (now (out .exit)) n ⌝ }
+    ensures { λ n. ⌜ Put (now (out .entry)) at (encodePlaces (r .symbol) (r .target .0) (map (λ q. q .0) (r .places))) (now (out .exit)) n ⌝ }
 {
     let places = r.places;
     let words = [
         r.symbol,
         r.target.0,
-        places[0],
-        places[1],
-        places[2],
-        places[3],
+        places[0].0,
+        places[1].0,
+        places[2].0,
+        places[3].0,
     ];
     put_words(out, at, &words)
 }

@@ -8,8 +8,9 @@ use native.Mathlib.Omega.{arith}
 use lib.ListN.{length, getD, take, drop, set, length-append, length-drop, take-append-drop}
 use lib.Seq.{take-at, take-all, take-suc, set-split, length-take-le, drop-append-add, drop-drop, drop-length, append-snoc}
 use Rattle.model.specs.Lists.{concatMap}
+use Rattle.model.proofs.Space.{put-fits}
 use Rattle.automaton.specs.Encode.{Put}
-use Rattle.automaton.proofs.Put.{put-fits, after-fits}
+use Rattle.automaton.proofs.Put.{after-fits}
 use Rattle.boolean.specs.Laid.{Laid}
 use Rattle.boolean.proofs.Concat.{concatMap-append, concatMap-more}
 

@@ -9,6 +9,7 @@ use lib.Seq.{take-at}
 use Rattle.model.specs.Tree.{Tree}
 use Rattle.model.specs.Automaton.{Automaton}
 use Rattle.model.specs.Run.{Accepts}
+use Rattle.model.specs.Refusal.{gives, unless}
 use Rattle.model.specs.Sound.{Sound}
 use Rattle.model.specs.Boolean.{union, product}
 use Rattle.model.proofs.SoundUnion.{union-accepts}
@@ -20,9 +21,8 @@ use Rattle.automaton.proofs.Sound.{sound-decode}
 use Rattle.automaton.proofs.Encoded.{encode-length}
 use Rattle.automaton.proofs.RoundTrip.{decode-encode, encode-sound}
 use Rattle.boolean.specs.Combine.{combineCheckOf}
-use Rattle.boolean.specs.Answer.{answerOf, spaceOf, combinedOf, combinedSpace}
+use Rattle.boolean.specs.Answer.{spaceOf, combinedOf, combinedSpace}
 use Rattle.boolean.specs.Ready.{Ready}
-use Rattle.boolean.specs.declared.Combined.the-variants.{Length}
 use Rattle.boolean.proofs.Refusing.{ready, ready-union, ready-product}
 
 -- bytes that are a sound set, and the set that they are
@@ -30,14 +30,15 @@ pub record Stores (bytes : List ℕ) (R : Automaton) : Type 0 where
   pub sound : checkOf bytes ≡ 0
   pub decoded : decode bytes ≡ R
 
--- an answer with a length: no number, and the result at the front
-lengthed : (R : Automaton) (space : List ℕ) (n k : ℕ) → answerOf k R ≡ Length n → (k ≡ 0) × (take n (spaceOf k R space) ≡ encode R)
+-- where a length is given: no number, and the result at the front
+lengthed : (R : Automaton) (space : List ℕ) (n k : ℕ) → unless k (encodedLength R) ≡ gives n → (k ≡ 0) × (take n (spaceOf k R space) ≡ encode R)
+unfolding unless
 lengthed R space n zero e =
     let l : encodedLength R ≡ n = cc in
     (refl, take-at (encode R) (drop (encodedLength R) space) n (encode-length R ∙ l))
 lengthed R space n (suc k) e = let z : _≡_ {A = ℕ} 0 1 = cc in absurd (omega arith)
 
-module _ (result : Automaton → Automaton → Automaton) (first second space : List ℕ) (n : ℕ) (e : combinedOf result first second space ≡ Length n) where
+module _ (result : Automaton → Automaton → Automaton) (first second space : List ℕ) (n : ℕ) (e : combinedOf result first second space ≡ gives n) where
   abbrev R : Automaton
   R = result (decode first) (decode second)
 
@@ -48,7 +49,7 @@ module _ (result : Automaton → Automaton → Automaton) (first second space : 
   its-bytes s = subst (λ (z : List ℕ). Stores z R) (sym (lengthed R space n (combineCheckOf result first second (length space)) e .1)) (record { sound = encode-sound R s; decoded = decode-encode R s })
 
 -- Where the answer is a length, so many bytes at the front of the space are a sound set: the union ..
-module _ (first second space : List ℕ) (n : ℕ) (e : combinedOf union first second space ≡ Length n) where
+module _ (first second space : List ℕ) (n : ℕ) (e : combinedOf union first second space ≡ gives n) where
   pub union-stored : Stores (take n (combinedSpace union first second space)) (union (decode first) (decode second))
   union-stored = its-bytes union first second space n e (ready-union first second (its-ready union first second space n e))
 
@@ -60,7 +61,7 @@ module _ (first second space : List ℕ) (n : ℕ) (e : combinedOf union first s
       (union-accepts (decode first) (decode second) (sound-decode first (h .first-sound)) (sound-decode second (h .second-sound)) (h .same) t)
 
 -- .. and the product ..
-module _ (first second space : List ℕ) (n : ℕ) (e : combinedOf product first second space ≡ Length n) where
+module _ (first second space : List ℕ) (n : ℕ) (e : combinedOf product first second space ≡ gives n) where
   pub product-stored : Stores (take n (combinedSpace product first second space)) (product (decode first) (decode second))
   product-stored = its-bytes product first second space n e (ready-product first second (its-ready product first second space n e))
 

@@ -12,7 +12,7 @@ use borrow.Author.Tests.{lt-ltb, le-ltb, eq-eqb, ne-eqb}
 use lib.Dec.{ltb}
 use lib.Arith.{digits-lt}
 use lib.Pow.{pow-add, pow-mono, shr-shr, high, low}
-use lib.ListN.{length}
+use lib.ListN.{length, getD, List·getD-map}
 use Rattle.model.specs.Limits.{maxChildren, maxStates, unused}
 use Rattle.model.specs.Lists.{concatMap, tab}
 use Rattle.model.specs.Automaton.{Rule}
@@ -20,9 +20,17 @@ use Rattle.model.specs.Order.{place, key, lower?, before?, insert, sorted}
 use Rattle.model.proofs.Tab.{in-tab}
 use Rattle.model.proofs.Order.{in-sorted}
 use Rattle.automaton.specs.Encode.{encodePlaces, encodeRule}
+use Rattle.automaton.specs.declared.State.{State}
 use Rattle.automaton.proofs.Parts.{tab-same}
 use Rattle.boolean.specs.Merge.{insertNumber, ordered}
-use Rattle.boolean.specs.Key.{digitWidth, digit, placeOf, pushed, pushedAll, keyOf, packed, digitAt, placeAt, encodeKey}
+use Rattle.boolean.specs.Key.{digitWidth, keyDigit, placeOf, pushed, pushedAll, keyOf, packed, digitAt, placeAt, encodeKey}
+
+-- the numbers of the states in a rule's places
+abbrev pub numbers : List State → List ℕ
+numbers = map (λ q. q .0)
+
+pub number-at : (places : List State) (k : ℕ) → (getD places k (record { 0 = 0 })) .0 ≡ getD (numbers places) k 0
+number-at places k = sym (List·getD-map (λ q. q .0) places k (record { 0 = 0 }))
 
 -- what a place holds: a state's number, or that it is unused
 abbrev pub Digit : ℕ → Type 0
@@ -34,32 +42,32 @@ pub record Small (r : Rule) : Type 0 where
   pub target : r .target < maxStates
   pub places : (k : ℕ) → Digit (place r k)
 
-digit-state : (p : ℕ) → p < maxStates → digit p ≡ p
-unfolding digit
+digit-state : (p : ℕ) → p < maxStates → keyDigit p ≡ p
+unfolding keyDigit
 digit-state p l = rw (lt-ltb p maxStates l)
 
-digit-past : (p : ℕ) → maxStates ≤ p → digit p ≡ maxStates
-unfolding digit
+digit-past : (p : ℕ) → maxStates ≤ p → keyDigit p ≡ maxStates
+unfolding keyDigit
 digit-past p l = rw (le-ltb p maxStates l)
 
-digit-unused : (p : ℕ) → p ≡ unused → digit p ≡ maxStates
+digit-unused : (p : ℕ) → p ≡ unused → keyDigit p ≡ maxStates
 digit-unused p e = digit-past p (omega arith)
 
-pub digit-bound : (p : ℕ) → digit p ≤ maxStates
+pub digit-bound : (p : ℕ) → keyDigit p ≤ maxStates
 digit-bound p = go (decLt p maxStates)
   where
-    go : Dec (p < maxStates) → digit p ≤ maxStates
+    go : Dec (p < maxStates) → keyDigit p ≤ maxStates
     go (yes l) = let e = digit-state p l in omega arith
     go (no l) = let e = digit-past p (omega arith) in omega arith
 
-digit-less : (p q : ℕ) → Digit p → Digit q → p < q → digit p < digit q
+digit-less : (p q : ℕ) → Digit p → Digit q → p < q → keyDigit p < keyDigit q
 digit-less p q (inl a) (inl b) l = let d = digit-state p a in let e = digit-state q b in omega arith
 digit-less p q (inl a) (inr b) l = let d = digit-state p a in let e = digit-unused q b in omega arith
 digit-less p q (inr a) (inl b) l = absurd (omega arith)
 digit-less p q (inr a) (inr b) l = absurd (omega arith)
 
 -- a place read off its digit
-digit-back : (p : ℕ) → Digit p → placeOf (digit p) ≡ p
+digit-back : (p : ℕ) → Digit p → placeOf (keyDigit p) ≡ p
 unfolding placeOf
 digit-back p (inl a) = rw (digit-state p a, lt-ltb p maxStates a)
 digit-back p (inr a) = rw (digit-unused p a) (sym a)
@@ -153,26 +161,26 @@ ordered-packed [] h = refl
 ordered-packed (r ∷ rs) h = ap (insertNumber (packed r)) (ordered-packed rs (λ s m. h s (there m))) ∙ insert-packed r (sorted rs) (h r (here refl)) (λ s m. h s (there (in-sorted rs m)))
 
 -- the digits of a key: the last, and those before it
-digit-last : (x p : ℕ) → digitAt (pushed x p) 0 ≡ digit p
+digit-last : (x p : ℕ) → digitAt (pushed x p) 0 ≡ keyDigit p
 unfolding digitAt pushed
-digit-last x p = ap (λ (z : ℕ). (x * 2 ^ digitWidth + digit p) / 2 ^ z % 2 ^ digitWidth) (mul-zero digitWidth) ∙ ap (λ (z : ℕ). z % 2 ^ digitWidth) (div-one (x * 2 ^ digitWidth + digit p)) ∙ low x digitWidth (let b = digit-bound p in omega arith)
+digit-last x p = ap (λ (z : ℕ). (x * 2 ^ digitWidth + keyDigit p) / 2 ^ z % 2 ^ digitWidth) (mul-zero digitWidth) ∙ ap (λ (z : ℕ). z % 2 ^ digitWidth) (div-one (x * 2 ^ digitWidth + keyDigit p)) ∙ low x digitWidth (let b = digit-bound p in omega arith)
 
 digit-before : (x p k : ℕ) → digitAt (pushed x p) (suc k) ≡ digitAt x k
 unfolding digitAt pushed
 digit-before x p k =
-    ap (λ (z : ℕ). (x * 2 ^ digitWidth + digit p) / 2 ^ z % 2 ^ digitWidth) (let z : digitWidth * suc k ≡ digitWidth + digitWidth * k = omega arith in z)
-    ∙ ap (λ (z : ℕ). z % 2 ^ digitWidth) (sym (shr-shr (x * 2 ^ digitWidth + digit p) digitWidth (digitWidth * k)))
+    ap (λ (z : ℕ). (x * 2 ^ digitWidth + keyDigit p) / 2 ^ z % 2 ^ digitWidth) (let z : digitWidth * suc k ≡ digitWidth + digitWidth * k = omega arith in z)
+    ∙ ap (λ (z : ℕ). z % 2 ^ digitWidth) (sym (shr-shr (x * 2 ^ digitWidth + keyDigit p) digitWidth (digitWidth * k)))
     ∙ ap (λ (z : ℕ). z / 2 ^ (digitWidth * k) % 2 ^ digitWidth) (high x digitWidth (let b = digit-bound p in omega arith))
 
-digit-within : (x n : ℕ) (f : ℕ → ℕ) (k : ℕ) → k < n → digitAt (pushedAll x n f) (n - suc k) ≡ digit (f k)
+digit-within : (x n : ℕ) (f : ℕ → ℕ) (k : ℕ) → k < n → digitAt (pushedAll x n f) (n - suc k) ≡ keyDigit (f k)
 digit-within x zero f k l = absurd (omega arith)
 digit-within x (suc n) f k l = go (decLt k n) (digit-within x n f k)
   where
-    go : Dec (k < n) → (k < n → digitAt (pushedAll x n f) (n - suc k) ≡ digit (f k)) → digitAt (pushed (pushedAll x n f) (f n)) (suc n - suc k) ≡ digit (f k)
+    go : Dec (k < n) → (k < n → digitAt (pushedAll x n f) (n - suc k) ≡ keyDigit (f k)) → digitAt (pushed (pushedAll x n f) (f n)) (suc n - suc k) ≡ keyDigit (f k)
     go (yes h) ih = ap (digitAt (pushed (pushedAll x n f) (f n))) (let z : suc n - suc k ≡ suc (n - suc k) = omega arith in z) ∙ digit-before (pushedAll x n f) (f n) (n - suc k) ∙ ih h
     go (no h) ih =
         let e : k ≡ n = omega arith in
-        ap (digitAt (pushed (pushedAll x n f) (f n))) (let z : suc n - suc k ≡ 0 = omega arith in z) ∙ digit-last (pushedAll x n f) (f n) ∙ ap (λ (z : ℕ). digit (f z)) (sym e)
+        ap (digitAt (pushed (pushedAll x n f) (f n))) (let z : suc n - suc k ≡ 0 = omega arith in z) ∙ digit-last (pushedAll x n f) (f n) ∙ ap (λ (z : ℕ). keyDigit (f z)) (sym e)
 
 digit-first : (x n : ℕ) (f : ℕ → ℕ) (k : ℕ) → digitAt (pushedAll x n f) (n + k) ≡ digitAt x k
 digit-first x zero f k = ap (digitAt x) (omega arith)

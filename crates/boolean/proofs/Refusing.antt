@@ -2,7 +2,7 @@
 use mathlib.Core.Path.{_≡_, refl, sym, ap, _∙_}
 use mathlib.Core.List.{List, _++_}
 use mathlib.Core.Bool.{Bool, true, false, _&&_}
-use Prim.Native.Nat.{ℕ, zero, suc, _+_, _≤_}
+use Prim.Native.Nat.{ℕ, zero, suc, _≤_}
 use native.Mathlib.Omega.{arith}
 use borrow.Author.Tests.{leb-true, eqb-true, eq-eqb, ne-eqb}
 use lib.Dec.{leb, eqb}
@@ -10,7 +10,7 @@ use lib.ListN.{length, drop}
 use lib.Seq.{ext-getD}
 use Rattle.model.specs.Limits.{maxStates, maxTags, maxRules}
 use Rattle.model.specs.Lists.{allBelow}
-use Rattle.model.specs.Refusal.{demand, andAfter}
+use Rattle.model.specs.Refusal.{gives, refuses, unless, demand, andAfter}
 use Rattle.model.specs.Automaton.{Automaton, arityOf}
 use Rattle.model.specs.Sound.{Sound}
 use Rattle.model.specs.Boolean.{union, product}
@@ -25,7 +25,7 @@ use Rattle.automaton.proofs.Passes.{split}
 use Rattle.automaton.proofs.Sound.{sound-decode}
 use Rattle.automaton.proofs.Encoded.{encode-length}
 use Rattle.boolean.specs.Combine.{sameSymbols, withinLimits, resultCheckOf, combineCheckOf}
-use Rattle.boolean.specs.Answer.{refusalOf, answerOf, spaceOf}
+use Rattle.boolean.specs.Answer.{combinedAnswer, spaceOf}
 use Rattle.boolean.specs.Laid.{Laid}
 use Rattle.boolean.specs.Ready.{Ready, Sized}
 use Rattle.boolean.specs.declared.Size.{Size}
@@ -138,7 +138,7 @@ module _ (result : Automaton → Automaton → Automaton) (first second : List �
       go zero zero false h = h
       go zero zero true h = refl
 
-  -- What is known where nothing turns the two away.
+  -- What is known where the two are not refused.
   pub ready : number ≡ 0 → Ready first second R × (encodedLength R ≤ space)
   ready h =
       let i = number-inputs h in
@@ -155,50 +155,50 @@ module _ (result : Automaton → Automaton → Automaton) (first second : List �
         l,
       )
 
--- the answers with their numbers
-module _ (R : Automaton) (space : List ℕ) (n : ℕ) where
-  pub refused-answer : (m : ℕ) → m ≡ n → (m ≡ 0 → ⊥) → (refusalOf (Refused m) ≡ n) × ((Refused m ≡ answerOf n R) × (space ≡ spaceOf n R space))
-  refused-answer m e h = go n e
-    where
-      go : (k : ℕ) → m ≡ k → (m ≡ k) × ((Refused m ≡ answerOf k R) × (space ≡ spaceOf k R space))
-      go zero d = absurd (h d)
-      go (suc k) d = (d, (ap Refused d, refl))
-
-  pub written-answer : (r : ℕ) (after : List ℕ) → n ≡ 0 → r ≡ encodedLength R → after ≡ encode R ++ drop r space → (0 ≡ n) × ((Length r ≡ answerOf n R) × (after ≡ spaceOf n R space))
-  written-answer r after e el es = go n e
-    where
-      go : (k : ℕ) → k ≡ 0 → (0 ≡ k) × ((Length r ≡ answerOf k R) × (after ≡ spaceOf k R space))
-      go zero d = (refl, (ap Length el, es ∙ ap (λ (z : ℕ). encode R ++ drop z space) el))
-      go (suc k) d = absurd (omega arith)
-
 -- What union and product of two sets answer, from what their parts tell: n is the number of the inputs, m that of the result.
 module _ (result : Automaton → Automaton → Automaton) (first second out : List ℕ) where
   abbrev made : Automaton
   made = result (decode first) (decode second)
 
-  abbrev told : ℕ
-  told = combineCheckOf result first second (length out)
+  abbrev refusal : ℕ
+  refusal = combineCheckOf result first second (length out)
 
   -- the answer and the space afterwards are those of the definition
   abbrev pub Answered : Combined → List ℕ → Type 0
-  Answered r after = (refusalOf r ≡ told) × ((r ≡ answerOf told made) × (after ≡ spaceOf told made out))
+  Answered r after = (combinedAnswer r ≡ unless refusal (encodedLength made)) × (after ≡ spaceOf refusal made out)
+
+  refused-answer : (m : ℕ) → m ≡ refusal → (m ≡ 0 → ⊥) → Answered (Refused m) out
+  unfolding unless
+  refused-answer m e h = go refusal e
+    where
+      go : (k : ℕ) → m ≡ k → (refuses m ≡ unless k (encodedLength made)) × (out ≡ spaceOf k made out)
+      go zero d = absurd (h d)
+      go (suc k) d = (ap refuses d, refl)
+
+  written-answer : (r : ℕ) (after : List ℕ) → refusal ≡ 0 → r ≡ encodedLength made → after ≡ encode made ++ drop r out → Answered (Length r) after
+  unfolding unless
+  written-answer r after e el es = go refusal e
+    where
+      go : (k : ℕ) → k ≡ 0 → (gives r ≡ unless k (encodedLength made)) × (after ≡ spaceOf k made out)
+      go zero d = (ap gives el, es ∙ ap (λ (z : ℕ). encode made ++ drop z out) el)
+      go (suc k) d = absurd (omega arith)
 
   module _ (n : ℕ) (e : n ≡ andAfter (checkOf first) (andAfter (checkOf second) (demand (sameSymbols (decode first) (decode second)) 51 0))) where
     pub inputs-refused : (n ≡ 0 → ⊥) → Answered (Refused n) out
-    inputs-refused h = refused-answer made out told n (inputs-decide result first second (length out) n e h) h
+    inputs-refused h = refused-answer n (inputs-decide result first second (length out) n e h) h
 
     module _ (none : n ≡ 0) (symbols : ℕ) (size : Size) (m : ℕ) (es : symbols ≡ length (made .arities)) (s : Sized size made) (em : m ≡ demand (withinLimits (size .states) (size .tags) (size .rules)) 52 (demand (leb (totalLength symbols (size .states) (size .rules)) (length out)) 53 0)) where
-      decides : m ≡ told
+      decides : m ≡ refusal
       decides = em ∙ sized-check made symbols size (length out) es s ∙ inputs-none result first second (length out) n e none
 
       pub result-refused : (m ≡ 0 → ⊥) → Answered (Refused m) out
-      result-refused h = refused-answer made out told m decides h
+      result-refused h = refused-answer m decides h
 
       pub may-write : m ≡ 0 → Ready first second made × Sized size made × (encodedLength made ≤ length out)
       may-write h = let (a, b) = ready result first second (length out) (sym decides ∙ h) in (a, s, b)
 
       pub written : m ≡ 0 → (r : ℕ) (after : List ℕ) → Laid out after 0 r (encode made) → Answered (Length r) after
-      written h r after p = written-answer made out told r after (sym decides ∙ h) (let d = encode-length made in let z = p .ends in omega arith) (p .holds)
+      written h r after p = written-answer r after (sym decides ∙ h) (let d = encode-length made in let z = p .ends in omega arith) (p .holds)
 
 -- The results are sound.
 module _ (first second : List ℕ) where

@@ -20,7 +20,7 @@ use Rattle.model.proofs.Order.{ascending-other, is-sorted, sorted-in}
 use Rattle.model.proofs.Members.{map-at}
 use Rattle.model.proofs.Combine.{length-pairNumbers}
 use Rattle.model.proofs.SoundUnion.{shift-ascending}
-use Rattle.automaton.specs.Answer.{Holds}
+use Rattle.automaton.specs.Answer.{IsRule}
 use Rattle.automaton.proofs.Known.{window-in}
 use Rattle.automaton.specs.declared.StoredRule.{StoredRule}
 use Rattle.boolean.specs.Merge.{ordered, merged}
@@ -28,7 +28,7 @@ use Rattle.boolean.specs.Key.{pushed, pushedAll, keyOf, packed, shiftedP
 use Rattle.boolean.specs.Ready.{Window, row}
 use Rattle.boolean.proofs.Concat.{map-append}
 use Rattle.boolean.proofs.Merging.{merged-ordered}
-use Rattle.boolean.proofs.Packing.{Small, ordered-packed}
+use Rattle.boolean.proofs.Packing.{Small, ordered-packed, numbers}
 use Rattle.boolean.proofs.Windows.{row-at}
 
 -- the rules of a sound automaton are small
@@ -51,8 +51,8 @@ pushedAll-same x (suc n) f g h = ap (λ (y : ℕ). pushed y (f n)) (pushedAll-sa
 key-same : (s s′ t t′ : ℕ) (f g : ℕ → ℕ) → s ≡ s′ → ((k : ℕ) → k < maxChildren → f k ≡ g k) → t ≡ t′ → keyOf s f t ≡ keyOf s′ g t′
 key-same s s′ t t′ f g es ef et = ap (λ (z : ℕ). keyOf z f t) es ∙ ap (λ (z : ℕ). pushed z t) (pushedAll-same (pushed 0 s′) maxChildren f g ef) ∙ ap (pushed (pushedAll (pushed 0 s′) maxChildren g)) et
 
-holds-place : (x : StoredRule) (r : Rule) → Holds x r → (k : ℕ) → k < maxChildren → getD (x .places) k 0 ≡ place r k
-holds-place x r h k l = ap (λ (z : List ℕ). getD z k 0) (h .places) ∙ tab-at 0 maxChildren (place r) k l
+rule-place : (x : StoredRule) (r : Rule) → IsRule x r → (k : ℕ) → k < maxChildren → getD (numbers (x .places)) k 0 ≡ place r k
+rule-place x r h k l = ap (λ (z : List ℕ). getD z k 0) (h .places) ∙ tab-at 0 maxChildren (place r) k l
 
 -- children that are states' numbers
 abbrev pub Low : Rule → Type 0
@@ -88,10 +88,10 @@ module _ (n : ℕ) where
           ∙ sym (List·getD-eq-default (map (n +_) (r .children)) unused (omega (arith, length-map (r .children) (n +_))))
 
   -- The key of a shifted rule.
-  pub shifted-key : (x : StoredRule) (r : Rule) → Holds x r → Low r → keyOf (x .symbol) (λ k. shiftedPlace n (getD (x .places) k 0)) (n + x .target .0) ≡ packed (shiftRule n r)
+  pub shifted-key : (x : StoredRule) (r : Rule) → IsRule x r → Low r → keyOf (x .symbol) (λ k. shiftedPlace n (getD (numbers (x .places)) k 0)) (n + x .target .0) ≡ packed (shiftRule n r)
   shifted-key x r h low =
-      key-same (x .symbol) (r .symbol) (n + x .target .0) (n + r .target) (λ k. shiftedPlace n (getD (x .places) k 0)) (place (shiftRule n r))
-      (h .symbol) (λ k l. ap (shiftedPlace n) (holds-place x r h k l) ∙ shifted-at r low k) (ap (n +_) (h .target))
+      key-same (x .symbol) (r .symbol) (n + x .target .0) (n + r .target) (λ k. shiftedPlace n (getD (numbers (x .places)) k 0)) (place (shiftRule n r))
+      (h .symbol) (λ k l. ap (shiftedPlace n) (rule-place x r h k l) ∙ shifted-at r low k) (ap (n +_) (h .target))
 
   numbers-at : (d : ℕ) (ps qs : List ℕ) → length ps ≡ length qs → (k : ℕ) → k < length ps → getD (pairNumbers n ps qs) k d ≡ getD ps k d * n + getD qs k d
   numbers-at d [] qs e k l = absurd (omega arith)
@@ -109,27 +109,27 @@ module _ (n : ℕ) where
           ∙ sym (List·getD-eq-default (pairNumbers n (r .children) (s .children)) unused (omega (arith, length-pairNumbers n (r .children) (s .children) same)))
 
   -- The key of the rule that pairs two.
-  pub paired-key : (x y : StoredRule) (r s : Rule) → Holds x r → Holds y s → Low r → length (r .children) ≡ length (s .children) → keyOf (x .symbol) (λ k. pairedPlace n (getD (x .places) k 0) (getD (y .places) k 0)) (x .target .0 * n + y .target .0) ≡ packed (pairRule n r s)
+  pub paired-key : (x y : StoredRule) (r s : Rule) → IsRule x r → IsRule y s → Low r → length (r .children) ≡ length (s .children) → keyOf (x .symbol) (λ k. pairedPlace n (getD (numbers (x .places)) k 0) (getD (numbers (y .places)) k 0)) (x .target .0 * n + y .target .0) ≡ packed (pairRule n r s)
   paired-key x y r s h g low same =
       key-same (x .symbol) (r .symbol) (x .target .0 * n + y .target .0) (r .target * n + s .target)
-      (λ k. pairedPlace n (getD (x .places) k 0) (getD (y .places) k 0)) (place (pairRule n r s))
+      (λ k. pairedPlace n (getD (numbers (x .places)) k 0) (getD (numbers (y .places)) k 0)) (place (pairRule n r s))
       (h .symbol)
-      (λ k l. ap (λ (z : ℕ). pairedPlace n z (getD (y .places) k 0)) (holds-place x r h k l) ∙ ap (pairedPlace n (place r k)) (holds-place y s g k l) ∙ paired-at r s low same k)
+      (λ k l. ap (λ (z : ℕ). pairedPlace n z (getD (numbers (y .places)) k 0)) (rule-place x r h k l) ∙ ap (pairedPlace n (place r k)) (rule-place y s g k l) ∙ paired-at r s low same k)
       (ap (λ (z : ℕ). z * n + y .target .0) (h .target) ∙ ap (λ (z : ℕ). r .target * n + z) (g .target))
 
 -- what stands at an index of the keys of a set's shifted rules, and of a rule's pairs
-module _ (A : Automaton) (sa : Sound A) (i : ℕ) (l : i < length (A .rules)) (x : StoredRule) (h : Holds x (ruleAt A i)) where
+module _ (A : Automaton) (sa : Sound A) (i : ℕ) (l : i < length (A .rules)) (x : StoredRule) (h : IsRule x (ruleAt A i)) where
   its-low : Low (ruleAt A i)
   its-low = low-of A sa (ruleAt A i) (in-getD noRule (A .rules) i l)
 
-  pub shifted-key-at : (n z : ℕ) → z ≡ keyOf (x .symbol) (λ k. shiftedPlace n (getD (x .places) k 0)) (n + x .target .0) → z ≡ getD (map packed (map (shiftRule n) (A .rules))) i 0
+  pub shifted-key-at : (n z : ℕ) → z ≡ keyOf (x .symbol) (λ k. shiftedPlace n (getD (numbers (x .places)) k 0)) (n + x .target .0) → z ≡ getD (map packed (map (shiftRule n) (A .rules))) i 0
   shifted-key-at n z e =
       e
       ∙ shifted-key n x (ruleAt A i) h its-low
       ∙ ap packed (sym (map-at (shiftRule n) noRule noRule (A .rules) i l))
       ∙ sym (map-at packed noRule 0 (map (shiftRule n) (A .rules)) i (omega (arith, length-map (A .rules) (shiftRule n))))
 
-  module _ (B : Automaton) (sb : Sound B) (same : A .arities ≡ B .arities) (from to k : ℕ) (w : Window B ((ruleAt A i) .symbol) from to) (lk : k < to - from) (y : StoredRule) (g : Holds y (ruleAt B (from + k))) where
+  module _ (B : Automaton) (sb : Sound B) (same : A .arities ≡ B .arities) (from to k : ℕ) (w : Window B ((ruleAt A i) .symbol) from to) (lk : k < to - from) (y : StoredRule) (g : IsRule y (ruleAt B (from + k))) where
     as-many : length ((ruleAt A i) .children) ≡ length ((ruleAt B (from + k)) .children)
     as-many =
         let t = w .stops .within in
@@ -139,7 +139,7 @@ module _ (A : Automaton) (sa : Sound A) (i : ℕ) (l : i < length (A .rules)) (x
         ∙ ap (arityOf B) (sym f)
         ∙ sym (sb .wellformed .as-many (ruleAt B (from + k)) (in-getD noRule (B .rules) (from + k) (omega arith)))
 
-    pub paired-key-at : (n z : ℕ) → n ≡ length (B .states) → z ≡ keyOf (x .symbol) (λ j. pairedPlace n (getD (x .places) j 0) (getD (y .places) j 0)) (x .target .0 * n + y .target .0) → z ≡ getD (map packed (row B (ruleAt A i))) k 0
+    pub paired-key-at : (n z : ℕ) → n ≡ length (B .states) → z ≡ keyOf (x .symbol) (λ j. pairedPlace n (getD (numbers (x .places)) j 0) (getD (numbers (y .places)) j 0)) (x .target .0 * n + y .target .0) → z ≡ getD (map packed (row B (ruleAt A i))) k 0
     paired-key-at n z en e =
         e
         ∙ paired-key n x y (ruleAt A i) (ruleAt B (from + k)) h g its-low as-many

@@ -22,7 +22,7 @@ use Rattle.boolean.proofs.Results.{states-zero}
 
 -- masks that are shifted, or shifted and added, keep within the tags' number
 pub shift-low : (m t n : ℕ) → m < 2 ^ n → t + n ≤ maxTags → m * 2 ^ t < 256
-shift-low m t n l b = lt-of-lt-of-le (shl-lt n t l) (pow-mono (let z : n + t ≤ 8 = omega arith in z))
+shift-low m t n l b = lt-of-lt-of-le (shl-lt n t l) (pow-mono (let z : n + t ≤ maxTags = omega arith in z))
 
 pub pair-low : (m l t n : ℕ) → m < 2 ^ t → l < 2 ^ n → t + n ≤ maxTags → m + l * 2 ^ t < 256
 pair-low m l t n a b c = lt-of-lt-of-le (mask-bound m l t n a b) (pow-mono c)

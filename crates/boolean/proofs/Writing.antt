@@ -4,6 +4,7 @@ use mathlib.Core.List.{List, map}
 use Prim.Native.Nat.{ℕ, _+_, _<_, _≤_}
 use native.Mathlib.Omega.{arith}
 use lib.ListN.{length, take, length-append}
+use Rattle.model.specs.Limits.{maxTags}
 use Rattle.model.specs.Lists.{concatMap}
 use Rattle.model.specs.Automaton.{Automaton}
 use Rattle.model.specs.Sound.{Sound}
@@ -84,13 +85,13 @@ module _ (first second : List ℕ) (size : Size) (out : List ℕ) (p : Ready fir
     l′ : Laid out one 0 e (front F (length ((union F S) .states)) ((union F S) .tags) (length ((union F S) .rules)))
     l′ = front-own first second (union F S) size (p .0) (p .1) out one e l
 
-    pub firsts-room : (checkOf first ≡ 0) × (0 + F .tags ≤ 8) × (e + length (encodeStates (map (shiftState 0) (F .states))) ≤ length one)
+    pub firsts-room : (checkOf first ≡ 0) × (0 + F .tags ≤ maxTags) × (e + length (encodeStates (map (shiftState 0) (F .states))) ≤ length one)
     firsts-room =
         let n = union-lengths F S in let b = p .2 in let t = p .0 .tags in let d = l′ .ends in let m = laid-length l′ in
         (p .0 .first-sound, omega arith, omega arith)
 
     module _ (two : List ℕ) (e₂ : ℕ) (q : Laid one two e e₂ (encodeStates (map (shiftState 0) (F .states)))) (t : ℕ) (et : t ≡ F .tags) where
-      pub seconds-room : (checkOf second ≡ 0) × (t + S .tags ≤ 8) × (e₂ + length (encodeStates (map (shiftState t) (S .states))) ≤ length two)
+      pub seconds-room : (checkOf second ≡ 0) × (t + S .tags ≤ maxTags) × (e₂ + length (encodeStates (map (shiftState t) (S .states))) ≤ length two)
       seconds-room =
           let n = union-lengths F S in let b = p .2 in let h = p .0 .tags in
           let d = l′ .ends in let m = laid-length l′ in let d₂ = q .ends in let m₂ = laid-length q in

@@ -1,4 +1,4 @@
--- Which number turns two stored automata away at a union or a product, and what is written (document 01, sections "Joining, demanding both, and the sample" and "Turned away, by place"). Assumes nothing.
+-- Which number refuses a union or a product of two stored automata (document 01, section "Turned away, by place"). Assumes nothing.
 use mathlib.Core.List.{List}
 use mathlib.Core.Bool.{Bool, _&&_}
 use Prim.Native.Nat.{ℕ}
@@ -8,7 +8,6 @@ use Rattle.model.specs.Limits.{maxStates, maxTags, maxRules}
 use Rattle.model.specs.Lists.{allBelow}
 use Rattle.model.specs.Refusal.{demand, andAfter}
 use Rattle.model.specs.Automaton.{Automaton, arityOf}
-use Rattle.model.specs.Boolean.{union, product}
 use Rattle.automaton.specs.Stored.{decode}
 use Rattle.automaton.specs.Check.{checkOf}
 use Rattle.automaton.specs.Encode.{encodedLength}
@@ -34,9 +33,3 @@ combineCheckOf result first second space =
     (andAfter (checkOf second)
     (demand (sameSymbols (decode first) (decode second)) 51
     (resultCheckOf (result (decode first) (decode second)) space)))
-
-abbrev pub unionCheckOf : List ℕ → List ℕ → ℕ → ℕ
-unionCheckOf = combineCheckOf union
-
-abbrev pub productCheckOf : List ℕ → List ℕ → ℕ → ℕ
-productCheckOf = combineCheckOf product

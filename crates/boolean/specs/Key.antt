@@ -14,8 +14,8 @@ abbrev pub digitWidth : ℕ
 digitWidth = 9
 
 -- the digit of a place: the state's number; an unused place comes after every state
-unfoldable pub digit : ℕ → ℕ
-digit p = cond (ltb p maxStates) p maxStates
+unfoldable pub keyDigit : ℕ → ℕ
+keyDigit p = cond (ltb p maxStates) p maxStates
 
 -- .. and the place of a digit
 unfoldable pub placeOf : ℕ → ℕ
@@ -23,7 +23,7 @@ placeOf d = cond (ltb d maxStates) d unused
 
 -- a key with one digit more
 unfoldable pub pushed : ℕ → ℕ → ℕ
-pushed x p = x * 2 ^ digitWidth + digit p
+pushed x p = x * 2 ^ digitWidth + keyDigit p
 
 -- a key with the digits of f 0, .., f (n - 1) more
 abbrev pub pushedAll : ℕ → ℕ → (ℕ → ℕ) → ℕ

@@ -1,4 +1,4 @@
--- What is known of two sets once nothing turns them away, and how large their result is. Assumes nothing.
+-- What is known of two sets that are not refused, and how large their result is. Assumes nothing.
 use mathlib.Core.Path.{_≡_}
 use mathlib.Core.List.{List, [], _∷_, _++_, map}
 use Prim.Native.Nat.{ℕ, _+_, _≤_}

@@ -8,26 +8,22 @@ ghost use Rattle.model.specs.Lists.{tab};
 ghost use Rattle.model.specs.Boolean.{shiftRule};
 ghost use Rattle.automaton.specs.Stored.{decode};
 ghost use Rattle.automaton.specs.Check.{checkOf};
-ghost use Rattle.boolean.specs.Key.{digitWidth, digit, placeOf, pushed, keyOf, packed, digitAt, placeAt, shiftedPlace, pairedPlace};
-use automaton::MAX_CHILDREN;
-use automaton::MAX_STATES;
+ghost use Rattle.boolean.specs.Key.{digitWidth, keyDigit, placeOf, pushed, keyOf, packed, digitAt, placeAt, shiftedPlace, pairedPlace};
 use automaton::State;
 use automaton::StoredRule;
-use automaton::UNUSED;
+use base::limits::MAX_CHILDREN;
+use base::limits::MAX_STATES;
+use base::limits::UNUSED;
+use base::numbers::wide;
 
 // The bits of a digit: enough for every state and for an unused place.
 const DIGIT_WIDTH: u64 = 9;
 
 const DIGITS: u64 = 512;
 
-fn wide(x: u16) -> u64
-    ensures { λ r. ⌜ (r ≡ x) × (r < 65536) ⌝ }
-{
-    x as u64
-}
-
-fn digit(p: u64) -> u64
-    ensures { λ r. ⌜ (r ≡ digit p) × (r < 512) ⌝ }
+// The digit of a place.
+fn key_digit(p: u64) -> u64
+    ensures { λ r. ⌜ (r ≡ keyDigit p) × (r < 512) ⌝ }
 {
     if p < MAX_STATES as u64 {
         p
@@ -41,15 +37,16 @@ fn push(x: u64, p: u64, k: u64) -> u64
     requires { ⌜ (x < 2 ^ (digitWidth * k)) × (k ≤ 5) ⌝ }
     ensures { λ r. ⌜ (r ≡ pushed x p) × (r < 2 ^ (digitWidth * (k + 1))) ⌝ }
 {
-    x * DIGITS + digit(p)
+    x * DIGITS + key_digit(p)
 }
 
-fn shifted_place(p: u16, n: u64) -> u64
+// A place with its state shifted by n.
+fn shifted_place(p: State, n: u64) -> u64
     requires { ⌜ n < 65536 ⌝ }
-    ensures { λ r. ⌜ r ≡ shiftedPlace n p ⌝ }
+    ensures { λ r. ⌜ r ≡ shiftedPlace n (p .0) ⌝ }
 {
-    if p < MAX_STATES {
-        n + wide(p)
+    if p.0 < MAX_STATES {
+        n + wide(p.0)
     } else {
         UNUSED as u64
     }
@@ -58,7 +55,7 @@ fn shifted_place(p: u16, n: u64) -> u64
 // The key of a rule with its states shifted by n.
 fn shifted_key(r: StoredRule, n: u64) -> u64
     requires { ⌜ n < 65536 ⌝ }
-    ensures { λ x. ⌜ x ≡ keyOf (r .symbol) (λ k. shiftedPlace n (getD (r .places) k 0)) (n + r .target .0) ⌝ }
+    ensures { λ x. ⌜ x ≡ keyOf (r .symbol) (λ k. shiftedPlace n (getD (map (λ q. q .0) (r .places)) k 0)) (n + r .target .0) ⌝ }
 {
     let places = r.places;
     let mut x = push(0, wide(r.symbol), 0);
@@ -71,12 +68,13 @@ fn shifted_key(r: StoredRule, n: u64) -> u64
     push(x, n + wide(r.target.0), 5)
 }
 
-fn paired_place(p: u16, q: u16, n: u64) -> u64
+// The place of a pair of states, n being the number of the second's states.
+fn paired_place(p: State, q: State, n: u64) -> u64
     requires { ⌜ n < 65536 ⌝ }
-    ensures { λ r. ⌜ r ≡ pairedPlace n p q ⌝ }
+    ensures { λ r. ⌜ r ≡ pairedPlace n (p .0) (q .0) ⌝ }
 {
-    if p < MAX_STATES {
-        wide(p) * n + wide(q)
+    if p.0 < MAX_STATES {
+        wide(p.0) * n + wide(q.0)
     } else {
         UNUSED as u64
     }
@@ -85,7 +83,7 @@ fn paired_place(p: u16, q: u16, n: u64) -> u64
 // The key of the rule that pairs two rules, n being the number of the second's states.
 pub(crate) fn paired_key(r: StoredRule, s: StoredRule, n: u64) -> u64
     requires { ⌜ n < 65536 ⌝ }
-    ensures { λ x. ⌜ x ≡ keyOf (r .symbol) (λ k. pairedPlace n (getD (r .places) k 0) (getD (s .places) k 0)) (r .target .0 * n + s .target .0) ⌝ }
+    ensures { λ x. ⌜ x ≡ keyOf (r .symbol) (λ k. pairedPlace n (getD (map (λ q. q .0) (r .places)) k 0) (getD (map (λ q. q .0) (s .places)) k 0)) (r .target .0 * n + s .target .0) ⌝ }
 {
     let firsts = r.places;
     let seconds = s.places;
@@ -121,16 +119,22 @@ fn digit_at(x: u64, k: u16) -> u16
     ((x >> (DIGIT_WIDTH * k as u64)) % DIGITS) as u16
 }
 
-fn place_of(d: u16) -> u16
-    ensures { λ r. ⌜ r ≡ placeOf d ⌝ }
+// The place of a digit.
+fn place_of(d: u16) -> State
+    ensures { λ r. ⌜ r .0 ≡ placeOf d ⌝ }
 {
-    if d < MAX_STATES { d } else { UNUSED }
+    if d < MAX_STATES {
+        State(d)
+    } else {
+        State(UNUSED)
+    }
 }
 
-fn places_of(x: u64) -> [u16; 4]
-    ensures { λ r. ⌜ r ≡ tab maxChildren (placeAt x) ⌝ }
+// The child places of a key's rule.
+fn places_of(x: u64) -> [State; 4]
+    ensures { λ r. ⌜ map (λ q. q .0) r ≡ tab maxChildren (placeAt x) ⌝ }
 {
-    let mut places = [UNUSED; 4];
+    let mut places = [State(UNUSED); 4];
     let mut k = 0;
     while k < MAX_CHILDREN {
         let at = k as usize;
@@ -142,7 +146,7 @@ fn places_of(x: u64) -> [u16; 4]
 
 // The rule of a key.
 pub(crate) fn unpack(x: u64) -> StoredRule
-    ensures { λ r. ⌜ (r .symbol ≡ digitAt x (maxChildren + 1)) × (r .target .0 ≡ digitAt x 0) × (r .places ≡ tab maxChildren (placeAt x)) ⌝ }
+    ensures { λ r. ⌜ (r .symbol ≡ digitAt x (maxChildren + 1)) × (r .target .0 ≡ digitAt x 0) × (map (λ q. q .0) (r .places) ≡ tab maxChildren (placeAt x)) ⌝ }
 {
     let places = places_of(x);
     StoredRule {

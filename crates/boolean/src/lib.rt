@@ -1,16 +1,14 @@
 // Union and product of two stored automata, written in the stored form.
 ghost use mathlib.Core.Path.{_≡_};
-ghost use Prim.Native.Nat.{_+_, _*_, _<_};
 ghost use lib.Dec.{eqb, leb};
-ghost use lib.ListN.{length};
 ghost use Rattle.model.specs.Automaton.{arityOf};
 ghost use Rattle.model.specs.Boolean.{union, product};
 ghost use Rattle.model.specs.Refusal.{demand, andAfter};
 ghost use Rattle.automaton.specs.Form.{totalLength};
 ghost use Rattle.automaton.specs.Stored.{decode};
 ghost use Rattle.automaton.specs.Check.{checkOf};
-ghost use Rattle.boolean.specs.Combine.{sameSymbols, withinLimits, unionCheckOf, productCheckOf};
-ghost use Rattle.boolean.specs.Answer.{refusalOf, combinedOf, combinedSpace};
+ghost use Rattle.boolean.specs.Combine.{sameSymbols, withinLimits};
+ghost use Rattle.boolean.specs.Answer.{combinedAnswer, combinedOf, combinedSpace};
 ghost use Rattle.boolean.specs.Ready.{Sized};
 
 mod keys;
@@ -20,10 +18,10 @@ mod sort;
 mod write;
 
 use automaton::Checked;
-use automaton::MAX_RULES;
-use automaton::MAX_STATES;
-use automaton::MAX_TAGS;
 use automaton::write::total_length;
+use base::limits::MAX_RULES;
+use base::limits::MAX_STATES;
+use base::limits::MAX_TAGS;
 
 // The answer: how many bytes were written, or a number of document 01.
 pub enum Combined {
@@ -126,8 +124,7 @@ fn product_size(first: &[u8], second: &[u8]) -> Size
 
 // The union: what either set accepts.
 pub fn union(first: &[u8], second: &[u8], out: &mut [u8]) -> Combined
-    ensures number { λ r. ⌜ refusalOf r ≡ unionCheckOf (now (first .entry)) (now (second .entry)) (length (now (out .entry))) ⌝ }
-    ensures answer { λ r. ⌜ r ≡ combinedOf union (now (first .entry)) (now (second .entry)) (now (out .entry)) ⌝ }
+    ensures answer { λ r. ⌜ combinedAnswer r ≡ combinedOf union (now (first .entry)) (now (second .entry)) (now (out .entry)) ⌝ }
     ensures space { λ _. ⌜ now (out .exit) ≡ combinedSpace union (now (first .entry)) (now (second .entry)) (now (out .entry)) ⌝ }
 {
     let refused = inputs(first, second);
@@ -139,13 +136,12 @@ pub fn union(first: &[u8], second: &[u8], out: &mut [u8]) -> Combined
     if too_large != 0 {
         return Combined::Refused(too_large);
     }
-    Combined::Length(write::union(first, second, size, out))
+    Combined::Length(write::put_union(first, second, size, out))
 }
 
 // The product: what both sets accept.
 pub fn product(first: &[u8], second: &[u8], out: &mut [u8]) -> Combined
-    ensures number { λ r. ⌜ refusalOf r ≡ productCheckOf (now (first .entry)) (now (second .entry)) (length (now (out .entry))) ⌝ }
-    ensures answer { λ r. ⌜ r ≡ combinedOf product (now (first .entry)) (now (second .entry)) (now (out .entry)) ⌝ }
+    ensures answer { λ r. ⌜ combinedAnswer r ≡ combinedOf product (now (first .entry)) (now (second .entry)) (now (out .entry)) ⌝ }
     ensures space { λ _. ⌜ now (out .exit) ≡ combinedSpace product (now (first .entry)) (now (second .entry)) (now (out .entry)) ⌝ }
 {
     let refused = inputs(first, second);
@@ -157,5 +153,5 @@ pub fn product(first: &[u8], second: &[u8], out: &mut [u8]) -> Combined
     if too_large != 0 {
         return Combined::Refused(too_large);
     }
-    Combined::Length(write::product(first, second, size, out))
+    Combined::Length(write::put_product(first, second, size, out))
 }

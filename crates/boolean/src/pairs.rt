@@ -3,6 +3,7 @@ ghost use mathlib.Core.Path.{_≡_};
 ghost use mathlib.Core.List.{map};
 ghost use Prim.Native.Nat.{_+_, _≤_, _<_};
 ghost use lib.ListN.{length};
+ghost use Rattle.model.specs.Limits.{maxRules};
 ghost use Rattle.model.specs.Written.{ruleAt};
 ghost use Rattle.model.specs.Boolean.{pairRules, product};
 ghost use Rattle.automaton.specs.Stored.{decode};
@@ -63,7 +64,7 @@ fn row_keys(first: &[u8], second: &[u8], i: u16, keys: &mut [u64], at: usize) ->
 
 // The keys of all pairs, at the front of a space; answers how many.
 pub(crate) fn pair_keys(first: &[u8], second: &[u8], keys: &mut [u64]) -> usize
-    requires { ⌜ Ready (now first) (now second) (product (decode (now first)) (decode (now second))) × (1024 ≤ length (now keys)) ⌝ }
+    requires { ⌜ Ready (now first) (now second) (product (decode (now first)) (decode (now second))) × (maxRules ≤ length (now keys)) ⌝ }
     ensures { λ r. ⌜ Laid (now (keys .entry)) (now (keys .exit)) 0 r (map packed (pairRules (length ((decode (now (second .entry))) .states)) ((decode (now (first .entry))) .rules) ((decode (now (second .entry))) .rules))) ⌝ }
 {
     let n = automaton::header(first).rules;

@@ -2,6 +2,7 @@
 ghost use mathlib.Core.Path.{_≡_};
 ghost use Prim.Native.Nat.{_≤_};
 ghost use lib.ListN.{length};
+ghost use Rattle.model.specs.Limits.{maxRules};
 ghost use Rattle.model.specs.Boolean.{union, product};
 ghost use Rattle.automaton.specs.Stored.{decode};
 ghost use Rattle.boolean.specs.Ready.{Ready, Keyed};
@@ -17,7 +18,7 @@ pub(crate) fn union_keys(
     scratch: &mut [u64],
     keys: &mut [u64],
 ) -> usize
-    requires { ⌜ Ready (now first) (now second) (union (decode (now first)) (decode (now second))) × (1024 ≤ length (now scratch)) × (length (now keys) ≡ length (now scratch)) ⌝ }
+    requires { ⌜ Ready (now first) (now second) (union (decode (now first)) (decode (now second))) × (maxRules ≤ length (now scratch)) × (length (now keys) ≡ length (now scratch)) ⌝ }
     ensures { λ r. ⌜ Keyed (union (decode (now (first .entry))) (decode (now (second .entry)))) (now (keys .exit)) r ⌝ }
 {
     let a = automaton::header(first);
@@ -36,7 +37,7 @@ pub(crate) fn product_keys(
     scratch: &mut [u64],
     keys: &mut [u64],
 ) -> usize
-    requires { ⌜ Ready (now first) (now second) (product (decode (now first)) (decode (now second))) × (1024 ≤ length (now scratch)) × (length (now keys) ≡ length (now scratch)) ⌝ }
+    requires { ⌜ Ready (now first) (now second) (product (decode (now first)) (decode (now second))) × (maxRules ≤ length (now scratch)) × (length (now keys) ≡ length (now scratch)) ⌝ }
     ensures { λ r. ⌜ Keyed (product (decode (now (first .entry))) (decode (now (second .entry)))) (now (keys .exit)) r ⌝ }
 {
     let n = pair_keys(first, second, keys);

@@ -3,6 +3,7 @@ ghost use mathlib.Core.Path.{_≡_};
 ghost use mathlib.Core.List.{map};
 ghost use Prim.Native.Nat.{_+_, _*_, _^_, _≤_, _<_};
 ghost use lib.ListN.{length};
+ghost use Rattle.model.specs.Limits.{maxTags};
 ghost use Rattle.model.specs.Lists.{concatMap};
 ghost use Rattle.model.specs.Boolean.{shiftState, union, product};
 ghost use Rattle.automaton.specs.Stored.{decode};
@@ -20,9 +21,10 @@ use automaton::write::put_header;
 use automaton::write::put_rule;
 use automaton::write::put_state;
 use automaton::write::put_symbol;
+use base::limits::MAX_RULES;
 
 // Keys that a result has at most.
-const MOST_KEYS: usize = 1024;
+const MOST_KEYS: usize = MAX_RULES as usize;
 
 // The symbols of a set.
 fn put_symbols(out: &mut [u8], at: usize, set: &[u8]) -> usize
@@ -49,7 +51,7 @@ fn shift(mask: u16, t: u16) -> u16
 
 // The states of a set, their tags moved up by t.
 fn put_states(out: &mut [u8], at: usize, set: &[u8], t: u16) -> usize
-    requires { ⌜ (checkOf (now set) ≡ 0) × (t + (decode (now set)) .tags ≤ 8) × (at + length (encodeStates (map (shiftState t) ((decode (now set)) .states))) ≤ length (now out)) ⌝ }
+    requires { ⌜ (checkOf (now set) ≡ 0) × (t + (decode (now set)) .tags ≤ maxTags) × (at + length (encodeStates (map (shiftState t) ((decode (now set)) .states))) ≤ length (now out)) ⌝ }
     ensures { λ r. ⌜ Laid (now (out .entry)) (now (out .exit)) at r (encodeStates (map (shiftState t) ((decode (now (set .entry))) .states))) ⌝ }
 {
     let n = automaton::header(set).states;
@@ -141,7 +143,8 @@ fn put_pair_rules(out: &mut [u8], at: usize, first: &[u8], second: &[u8]) -> usi
     put_rules(out, at, &keys[..n])
 }
 
-pub(crate) fn union(first: &[u8], second: &[u8], size: Size, out: &mut [u8]) -> usize
+// A union: header and symbols, the first's states, the second's, rules.
+pub(crate) fn put_union(first: &[u8], second: &[u8], size: Size, out: &mut [u8]) -> usize
     requires { ⌜ Ready (now first) (now second) (union (decode (now first)) (decode (now second))) × Sized size (union (decode (now first)) (decode (now second))) × (encodedLength (union (decode (now first)) (decode (now second))) ≤ length (now out)) ⌝ }
     ensures { λ r. ⌜ Laid (now (out .entry)) (now (out .exit)) 0 r (encode (union (decode (now (first .entry))) (decode (now (second .entry))))) ⌝ }
 {
@@ -151,7 +154,8 @@ pub(crate) fn union(first: &[u8], second: &[u8], size: Size, out: &mut [u8]) -> 
     put_union_rules(out, states, first, second)
 }
 
-pub(crate) fn product(first: &[u8], second: &[u8], size: Size, out: &mut [u8]) -> usize
+// A product: header and symbols, states, rules.
+pub(crate) fn put_product(first: &[u8], second: &[u8], size: Size, out: &mut [u8]) -> usize
     requires { ⌜ Ready (now first) (now second) (product (decode (now first)) (decode (now second))) × Sized size (product (decode (now first)) (decode (now second))) × (encodedLength (product (decode (now first)) (decode (now second))) ≤ length (now out)) ⌝ }
     ensures { λ r. ⌜ Laid (now (out .entry)) (now (out .exit)) 0 r (encode (product (decode (now (first .entry))) (decode (now (second .entry))))) ⌝ }
 {

@@ -1,2 +1,4 @@
 pub mod Twice
 pub mod Stars
+pub mod Papers
+pub mod Edges

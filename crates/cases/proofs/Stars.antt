@@ -1,17 +1,17 @@
 -- Every starred case holds: computed, against the definitions that the contracts cite. Assumes nothing.
 use mathlib.Core.Path.{refl}
-use Rattle.model.specs.Lists.{allBelow, anyBelow}
+use Rattle.model.specs.Lists.{allBelow, anyBelow, uses?}
 use Rattle.model.specs.Tree.{levels, highest}
-use Rattle.model.specs.Refusal.{demand, andAfter}
+use Rattle.model.specs.Refusal.{demand, andAfter, unless}
 use Rattle.model.specs.Build.{addTree, addForest, rowsOf}
 use Rattle.automaton.specs.Stored.{word, symbolByte, stateByte, ruleWord, placeOf, decode}
 use Rattle.automaton.specs.Encode.{encodeHeader, encodeSymbol, encodeState, encodePlaces, encode}
 use Rattle.automaton.specs.Check.{countsOk, offsetsOk, symbolOk, stateOk, placeOk, ruleOk, keyWord, ascendsAt, checkOf}
 use Rattle.document.specs.Rows.{cellIn}
-use Rattle.document.specs.Check.{counted?, known?, placeIn, child?, children?, scalarFits?, formCheckOf, fresh?, distinctCheckOf, uses?, used?, usedCheckOf, levelsCheckOf, tableCheckOf}
+use Rattle.document.specs.Check.{counted?, known?, placeIn, child?, children?, scalarFits?, formCheckOf, fresh?, distinctCheckOf, used?, usedCheckOf, levelsCheckOf, tableCheckOf}
 use Rattle.emptiness.specs.Answer.{sampleCheckOf, witnessCheckOf}
 use Rattle.names.specs.Lines.{lines, lineAt, lineCount}
-use Rattle.names.specs.Names.{letter?, digit?, nameByte?, name?, nameOf, digits, numbered, shownName, firstBelow, findIn}
+use Rattle.names.specs.Names.{letter?, digit?, nameByte?, name?, nameOf, digits, defaultName, shownName, firstBelow, findIn}
 use Rattle.names.specs.Check.{lineFits?, listFits?, new?, distinct?, namesCheckOf}
 use Rattle.term.specs.Scan.{leading, nameBytes, nameAt, wordBytes, wordAt, digitsFrom, numberAt, hexDigit?, hexValue, hexFrom, valueAt, scalarAt}
 use Rattle.term.specs.Grammar.{endTerm, readArgs, readTerm}
@@ -23,6 +23,6 @@ use Rattle.cases.specs.Cases.{cases, AllHold}
 use Rattle.cases.proofs.Twice.{two-on-first}
 
 pub stars : AllHold cases
-unfolding allBelow anyBelow placeOf levels highest demand andAfter addTree addForest rowsOf word symbolByte stateByte ruleWord decode encodeHeader encodeSymbol encodeState encodePlaces encode countsOk offsetsOk symbolOk stateOk placeOk ruleOk keyWord ascendsAt checkOf cellIn counted? known? placeIn child? children? scalarFits? formCheckOf fresh? distinctCheckOf uses? used? usedCheckOf levelsCheckOf tableCheckOf sampleCheckOf witnessCheckOf lines lineAt lineCount letter? digit? nameByte? name? nameOf digits numbered shownName firstBelow findIn lineFits? listFits? new? distinct? namesCheckOf leading nameBytes nameAt wordBytes wordAt digitsFrom numberAt hexDigit? hexValue hexFrom valueAt scalarAt endTerm readArgs readTerm readText readOf roomOf judgeCheckOf sameSymbols withinLimits resultCheckOf combineCheckOf
+unfolding allBelow anyBelow placeOf levels highest demand andAfter unless addTree addForest rowsOf word symbolByte stateByte ruleWord decode encodeHeader encodeSymbol encodeState encodePlaces encode countsOk offsetsOk symbolOk stateOk placeOk ruleOk keyWord ascendsAt checkOf cellIn counted? known? placeIn child? children? scalarFits? formCheckOf fresh? distinctCheckOf uses? used? usedCheckOf levelsCheckOf tableCheckOf sampleCheckOf witnessCheckOf lines lineAt lineCount letter? digit? nameByte? name? nameOf digits defaultName shownName firstBelow findIn lineFits? listFits? new? distinct? namesCheckOf leading nameBytes nameAt wordBytes wordAt digitsFrom numberAt hexDigit? hexValue hexFrom valueAt scalarAt endTerm readArgs readTerm readText readOf roomOf judgeCheckOf sameSymbols withinLimits resultCheckOf combineCheckOf
 stars =
-    ((refl, λ k. refl, refl), (λ k. refl, ((refl, λ k. refl, refl), ((refl, λ k. refl, refl), ((refl, λ k. refl, refl), ((refl, λ k. refl, refl), ((refl, λ k. refl, refl), ((refl, λ k. refl, refl), (two-on-first, ((refl, refl), ((refl, λ k. refl, refl), ((refl, λ k. refl, refl), ((refl, refl), ((refl, refl), ((refl, refl), tt)))))))))))))))
+    ((refl, refl, refl), (refl, ((refl, refl, refl), ((refl, refl, refl), ((refl, refl, refl), ((refl, refl, refl), ((refl, refl, refl), ((refl, refl, refl), (two-on-first, ((refl, refl), ((refl, refl, refl), ((refl, refl, refl), ((refl, refl), ((refl, refl), ((refl, refl), tt)))))))))))))))

@@ -2,9 +2,11 @@
 use mathlib.Core.Path.{_≡_}
 use mathlib.Core.List.{List, [], _∷_, _++_}
 use mathlib.Core.Bool.{Bool, true, false, cond}
+use mathlib.Core.Option.{Option, none, some}
 use Prim.Native.Nat.{ℕ, _+_, _*_}
 use lib.Dec.{eqb}
 use lib.ListN.{length, replicate, drop}
+use Rattle.model.specs.Refusal.{Answer, gives, refuses, unless}
 use Rattle.model.specs.Boolean.{product}
 use Rattle.model.specs.Annotation.{annotations, accepts?}
 use Rattle.model.specs.Written.{Step}
@@ -13,13 +15,10 @@ use Rattle.document.specs.Rows.{rowCells, decodeRows, encodeRows}
 use Rattle.runs.specs.Steps.{stepCells, decodeSteps}
 use Rattle.runs.specs.Check.{checkRunOf}
 use Rattle.membership.specs.Cells.{annotationCells}
-use Rattle.membership.specs.Judge.{judgeCheckOf, judgedOf}
-use Rattle.membership.specs.declared.Judged.{Judged}
-use Rattle.boolean.specs.declared.Combined.{Combined}
+use Rattle.membership.specs.Judge.{judgeCheckOf}
 use Rattle.boolean.specs.Answer.{combinedOf, combinedSpace}
-use Rattle.emptiness.specs.declared.Emptiness.{Emptiness}
 use Rattle.emptiness.specs.Answer.{emptinessOf, spaceAfter}
-use Rattle.term.specs.Read.{rowsRead, turnedAway, readOf}
+use Rattle.term.specs.Read.{rowsRead, refusedAt, readOf}
 use Rattle.cases.specs.Sets.{setE, setG, setD, setB, setEB}
 
 -- the name lists: pair, a, b; and g, a
@@ -47,7 +46,7 @@ g x = 103 ∷ 40 ∷ (x ++ 41 ∷ [])
 
 -- the cells of a text's rows, with the name list as the site's and space for 1,024; none where it is refused
 abbrev pub cellsFrom : List ℕ → List ℕ → List ℕ → List ℕ
-cellsFrom s names t = elim (readOf s names [] t 10240) [ rowsRead rows ↦ encodeRows rows | turnedAway w p ↦ [] ]
+cellsFrom s names t = elim (readOf s names [] t 10240) [ rowsRead rows ↦ encodeRows rows | refusedAt w p ↦ [] ]
 
 pub data Case : Type 0 where
   -- set, names and text: so many rows, the judge says yes or no, and there are so many annotations, for which there is room
@@ -61,8 +60,8 @@ pub data Case : Type 0 where
   -- the sample's text, rows and height
   live : List ℕ → List ℕ → List ℕ → ℕ → ℕ → Case
   dead : List ℕ → Case
-  -- turned away at the sample, with this number
-  away : List ℕ → ℕ → Case
+  -- refused at the sample, with this number
+  unsampled : List ℕ → ℕ → Case
 
 -- The list, in the paper's order.
 abbrev pub cases : List Case
@@ -81,7 +80,7 @@ cases =
     ∷ judged setEB pairNames (pair a a) 2 true 3
     ∷ live setE pairNames (pair a a) 2 2
     ∷ dead setD
-    ∷ away setEB 41
+    ∷ unsampled setEB 41
     ∷ []
 
 -- how many steps are on row 0
@@ -89,36 +88,35 @@ abbrev pub onFirst : List Step → ℕ
 onFirst [] = 0
 onFirst (s ∷ run) = cond (eqb (s .row) 0) 1 0 + onFirst run
 
--- the judge's answer with room for n annotations and as many steps, where a yes has k steps
-abbrev pub answer : List ℕ → List ℕ → ℕ → ℕ → Judged
-answer s cells n k =
-    judgedOf (judgeCheckOf s cells (n * annotationCells) (n * stepCells)) (accepts? (decode s) (decodeRows cells)) k
+-- what the judge's contract says with room for n annotations and as many steps
+abbrev pub answer : List ℕ → List ℕ → ℕ → Answer Bool
+answer s cells n = unless (judgeCheckOf s cells (n * annotationCells) (n * stepCells)) (accepts? (decode s) (decodeRows cells))
 
 -- what lies in the row space before the sample is asked for: room for the six states of E and B together, and a part of a row
 abbrev pub lent : List ℕ
 lent = replicate (6 * rowCells + 5) 9
 
 -- the sample's answer, and the cells that it leaves at the front of the space
-abbrev pub Sampled : List ℕ → Emptiness → List ℕ → Type 0
+abbrev pub Sampled : List ℕ → Answer (Option (ℕ × ℕ)) → List ℕ → Type 0
 Sampled s e cells = (emptinessOf s (length lent) ≡ e) × (spaceAfter s lent ≡ cells ++ drop (length cells) lent)
 
 -- the space that the product is written to
 abbrev pub zeros : List ℕ → List ℕ
 zeros bytes = replicate (length bytes) 0
 
-abbrev pub Holds : Case → Type 0
-Holds (judged s names t rows b n) =
+abbrev pub CaseHolds : Case → Type 0
+CaseHolds (judged s names t rows b n) =
     let cells = cellsFrom s names t in
     (length cells ≡ rows * rowCells)
-    × ((k : ℕ) → answer s cells n k ≡ cond b (Judged.Yes k) Judged.No)
+    × (answer s cells n ≡ gives b)
     × (length (annotations (decode s) (decodeRows cells)) ≡ n)
-Holds (refused s names t room n) = (k : ℕ) → answer s (cellsFrom s names t) room k ≡ Judged.Refused n
-Holds (twice s names t) = (run : List ℕ) → checkRunOf s (cellsFrom s names t) run ≡ 0 → onFirst (decodeSteps run) ≡ 2
-Holds (together s t bytes) = (combinedOf product s t (zeros bytes) ≡ Combined.Length (length bytes)) × (combinedSpace product s t (zeros bytes) ≡ bytes)
-Holds (live s names t n h) = Sampled s (Emptiness.Live n h) (cellsFrom s names t)
-Holds (dead s) = Sampled s Emptiness.Dead []
-Holds (away s k) = Sampled s (Emptiness.Refused k) []
+CaseHolds (refused s names t room n) = answer s (cellsFrom s names t) room ≡ refuses n
+CaseHolds (twice s names t) = (run : List ℕ) → checkRunOf s (cellsFrom s names t) run ≡ 0 → onFirst (decodeSteps run) ≡ 2
+CaseHolds (together s t bytes) = (combinedOf product s t (zeros bytes) ≡ gives (length bytes)) × (combinedSpace product s t (zeros bytes) ≡ bytes)
+CaseHolds (live s names t n h) = Sampled s (gives (some (n, h))) (cellsFrom s names t)
+CaseHolds (dead s) = Sampled s (gives none) []
+CaseHolds (unsampled s k) = Sampled s (refuses k) []
 
 abbrev pub AllHold : List Case → Type 0
 AllHold [] = Unit {0}
-AllHold (c ∷ cs) = Holds c × AllHold cs
+AllHold (c ∷ cs) = CaseHolds c × AllHold cs

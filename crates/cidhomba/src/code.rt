@@ -6,16 +6,20 @@ use membership::Judged;
 use spelling::TermWritten;
 ghost use mathlib.Core.Path.{_≡_};
 ghost use Prim.Native.Nat.{_-_, _^_, _<_, min};
-ghost use Rattle.cidhomba.specs.Code.{refusalCode, checkCode, judgedCode, combinedCode, witnessCode, writeCode};
+ghost use Rattle.automaton.specs.Answer.{checkAnswer};
+ghost use Rattle.boolean.specs.Answer.{combinedAnswer};
+ghost use Rattle.emptiness.specs.Answer.{emptinessAnswer};
+ghost use Rattle.spelling.specs.Write.{writeAnswer};
+ghost use Rattle.cidhomba.specs.Code.{refusalCode, checkCode, judgedCode, countCode, witnessCode};
 
 // The highest bit tells a refusal.
 const REFUSED: u64 = 9223372036854775808;
 
-// The largest place that is told, 2^55 - 1.
+// The largest place that has room beside the number, 2^55 - 1.
 const LAST_PLACE: u64 = 36028797018963967;
 
-// A place, cut at the largest that is told.
-fn told(place: usize) -> u64
+// A place, cut at the largest that has room.
+fn cut_place(place: usize) -> u64
     ensures { λ r. ⌜ r ≡ min place (2 ^ 55 - 1) ⌝ }
 {
     let p = place as u64;
@@ -26,14 +30,14 @@ pub(crate) fn refusal_code(number: u16, place: usize) -> u64
     requires { ⌜ number < 256 ⌝ }
     ensures { λ r. ⌜ r ≡ refusalCode number place ⌝ }
 {
-    REFUSED + told(place) * 256 + number as u64
+    REFUSED + cut_place(place) * 256 + number as u64
 }
 
 pub(crate) fn check_code(c: Checked) -> u64
-    ensures { λ r. ⌜ r ≡ checkCode c ⌝ }
+    ensures { λ r. ⌜ r ≡ checkCode (checkAnswer c) ⌝ }
 {
     match c {
-        Checked::Sound => 0,
+        Checked::Passed => 0,
         Checked::Refused(n) => REFUSED + n as u64,
     }
 }
@@ -49,7 +53,7 @@ pub(crate) fn judged_code(j: Judged) -> u64
 }
 
 pub(crate) fn combined_code(c: Combined) -> u64
-    ensures { λ r. ⌜ r ≡ combinedCode c ⌝ }
+    ensures { λ r. ⌜ r ≡ countCode (combinedAnswer c) ⌝ }
 {
     match c {
         Combined::Length(n) => n as u64,
@@ -58,7 +62,7 @@ pub(crate) fn combined_code(c: Combined) -> u64
 }
 
 pub(crate) fn witness_code(e: Emptiness) -> u64
-    ensures { λ r. ⌜ r ≡ witnessCode e ⌝ }
+    ensures { λ r. ⌜ r ≡ witnessCode (emptinessAnswer e) ⌝ }
 {
     match e {
         Emptiness::Dead => 0,
@@ -68,7 +72,7 @@ pub(crate) fn witness_code(e: Emptiness) -> u64
 }
 
 pub(crate) fn write_code(w: TermWritten) -> u64
-    ensures { λ r. ⌜ r ≡ writeCode w ⌝ }
+    ensures { λ r. ⌜ r ≡ countCode (writeAnswer w) ⌝ }
 {
     match w {
         TermWritten::Bytes(n) => n as u64,

@@ -10,25 +10,24 @@ use code::write_code;
 use term::TermRead;
 ghost use mathlib.Core.Path.{_≡_};
 ghost use lib.ListN.{length};
+ghost use Rattle.model.specs.Refusal.{unless, answerMap};
 ghost use Rattle.model.specs.Boolean.{union, product};
 ghost use Rattle.automaton.specs.Check.{checkOf};
-ghost use Rattle.automaton.specs.Answer.{checkedOf};
 ghost use Rattle.document.specs.Check.{documentCheckOf};
 ghost use Rattle.runs.specs.Check.{checkRunOf};
 ghost use Rattle.boolean.specs.Answer.{combinedOf, combinedSpace};
 ghost use Rattle.emptiness.specs.Answer.{emptinessOf};
 ghost use Rattle.emptiness.specs.Answer.{spaceAfter as witnessSpace};
-ghost use Rattle.term.specs.Read.{readOf, answerOf};
+ghost use Rattle.term.specs.Read.{readingMap, readOf};
 ghost use Rattle.term.specs.Read.{spaceAfter as readSpace};
 ghost use Rattle.spelling.specs.Write.{writeOf};
-ghost use Rattle.spelling.specs.Write.{answerOf as writtenOf};
 ghost use Rattle.spelling.specs.Write.{spaceAfter as writeSpace};
-ghost use Rattle.cidhomba.specs.Code.{checkCode, JudgingCode, combinedCode, witnessCode, readCode, writeCode};
+ghost use Rattle.cidhomba.specs.Code.{checkCode, JudgingCode, countCode, witnessCode, readCode};
 
 // 0, or the refusal of the set.
 #[no_mangle]
 pub extern "C" fn cidhomba_check_automaton(set: &[u8]) -> u64
-    ensures { λ r. ⌜ r ≡ checkCode (checkedOf (checkOf (now (set .entry)))) ⌝ }
+    ensures { λ r. ⌜ r ≡ checkCode (unless (checkOf (now (set .entry))) tt) ⌝ }
 {
     check_code(automaton::check(set))
 }
@@ -36,7 +35,7 @@ pub extern "C" fn cidhomba_check_automaton(set: &[u8]) -> u64
 // 0, or the refusal of the set or of the table.
 #[no_mangle]
 pub extern "C" fn cidhomba_check_document(set: &[u8], rows: &[u16]) -> u64
-    ensures { λ r. ⌜ r ≡ checkCode (checkedOf (documentCheckOf (now (set .entry)) (now (rows .entry)))) ⌝ }
+    ensures { λ r. ⌜ r ≡ checkCode (unless (documentCheckOf (now (set .entry)) (now (rows .entry))) tt) ⌝ }
 {
     check_code(document::check(set, rows))
 }
@@ -44,7 +43,7 @@ pub extern "C" fn cidhomba_check_document(set: &[u8], rows: &[u16]) -> u64
 // 0, or the refusal of the set, of the table or of the run.
 #[no_mangle]
 pub extern "C" fn cidhomba_check_run(set: &[u8], rows: &[u16], run: &[u16]) -> u64
-    ensures { λ r. ⌜ r ≡ checkCode (checkedOf (checkRunOf (now (set .entry)) (now (rows .entry)) (now (run .entry)))) ⌝ }
+    ensures { λ r. ⌜ r ≡ checkCode (unless (checkRunOf (now (set .entry)) (now (rows .entry)) (now (run .entry))) tt) ⌝ }
 {
     check_code(runs::check(set, rows, run))
 }
@@ -65,7 +64,7 @@ pub extern "C" fn cidhomba_membership(
 // The length of the union written, or the refusal of the first set, of the second, or of both.
 #[no_mangle]
 pub extern "C" fn cidhomba_union(first: &[u8], second: &[u8], out: &mut [u8]) -> u64
-    ensures answer { λ r. ⌜ r ≡ combinedCode (combinedOf union (now (first .entry)) (now (second .entry)) (now (out .entry))) ⌝ }
+    ensures answer { λ r. ⌜ r ≡ countCode (combinedOf union (now (first .entry)) (now (second .entry)) (now (out .entry))) ⌝ }
     ensures space { λ _. ⌜ now (out .exit) ≡ combinedSpace union (now (first .entry)) (now (second .entry)) (now (out .entry)) ⌝ }
 {
     combined_code(boolean::union(first, second, out))
@@ -74,7 +73,7 @@ pub extern "C" fn cidhomba_union(first: &[u8], second: &[u8], out: &mut [u8]) ->
 // The length of the product written, or the refusal of the first set, of the second, or of both.
 #[no_mangle]
 pub extern "C" fn cidhomba_product(first: &[u8], second: &[u8], out: &mut [u8]) -> u64
-    ensures answer { λ r. ⌜ r ≡ combinedCode (combinedOf product (now (first .entry)) (now (second .entry)) (now (out .entry))) ⌝ }
+    ensures answer { λ r. ⌜ r ≡ countCode (combinedOf product (now (first .entry)) (now (second .entry)) (now (out .entry))) ⌝ }
     ensures space { λ _. ⌜ now (out .exit) ≡ combinedSpace product (now (first .entry)) (now (second .entry)) (now (out .entry)) ⌝ }
 {
     combined_code(boolean::product(first, second, out))
@@ -98,7 +97,7 @@ pub extern "C" fn cidhomba_read_term<'a>(
     text: &[u8],
     rows: &mut [u16],
 ) -> u64
-    ensures answer { λ r. ⌜ r ≡ readCode (answerOf (readOf (now (set .entry)) (now (site .entry)) (now («built_in» .entry)) (now (text .entry)) (length (now (rows .entry))))) ⌝ }
+    ensures answer { λ r. ⌜ r ≡ readCode (readingMap length (readOf (now (set .entry)) (now (site .entry)) (now («built_in» .entry)) (now (text .entry)) (length (now (rows .entry))))) ⌝ }
     ensures space { λ _. ⌜ now (rows .exit) ≡ readSpace (readOf (now (set .entry)) (now (site .entry)) (now («built_in» .entry)) (now (text .entry)) (length (now (rows .entry)))) (now (rows .entry)) ⌝ }
 {
     match term::read(set, site, built_in, text, rows) {
@@ -116,7 +115,7 @@ pub extern "C" fn cidhomba_write_term<'a>(
     rows: &[u16],
     text: &mut [u8],
 ) -> u64
-    ensures answer { λ r. ⌜ r ≡ writeCode (writtenOf (writeOf (now (set .entry)) (now (site .entry)) (now («built_in» .entry)) (now (rows .entry)) (length (now (text .entry))))) ⌝ }
+    ensures answer { λ r. ⌜ r ≡ countCode (answerMap length (writeOf (now (set .entry)) (now (site .entry)) (now («built_in» .entry)) (now (rows .entry)) (length (now (text .entry))))) ⌝ }
     ensures space { λ _. ⌜ now (text .exit) ≡ writeSpace (writeOf (now (set .entry)) (now (site .entry)) (now («built_in» .entry)) (now (rows .entry)) (length (now (text .entry)))) (now (text .entry)) ⌝ }
 {
     write_code(spelling::write(set, site, built_in, rows, text))

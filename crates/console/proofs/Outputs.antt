@@ -8,6 +8,7 @@ use borrow.Author.Tests.{le-leb, lt-leb}
 use lib.ListN.{length, take, drop, length-append, length-drop}
 use lib.Seq.{take-all}
 use Rattle.model.specs.Limits.{maxStates}
+use Rattle.model.specs.Refusal.{unless}
 use Rattle.model.specs.Witness.{witness}
 use Rattle.automaton.specs.Stored.{decode, statedTotal}
 use Rattle.document.specs.Rows.{rowCells}
@@ -31,13 +32,13 @@ module _ (input d new : List ℕ) (k : ℕ) where
   beyond : (bytes : List ℕ) → maxInput < length input → Printed (refusedLine 69) d new k → Printed (withinInput input bytes) d new k × (k ≤ length new)
   beyond bytes l p = (named (refusedLine 69) (withinInput input bytes) d new k (sym (rw (lt-leb (length input) maxInput l))) p, printed-long (refusedLine 69) d new k p)
 
-  pub sample-within : length input ≤ maxInput → Printed (sampleLines input (witnessCheckOf input (maxStates * rowCells)) (witness (decode input))) d new k → Printed (sampleOutput input) d new k × (k ≤ length new)
+  pub sample-within : length input ≤ maxInput → Printed (sampleLines input (unless (witnessCheckOf input (maxStates * rowCells)) (witness (decode input)))) d new k → Printed (sampleOutput input) d new k × (k ≤ length new)
   unfolding sampleOutput
-  sample-within = within (sampleLines input (witnessCheckOf input (maxStates * rowCells)) (witness (decode input)))
+  sample-within = within (sampleLines input (unless (witnessCheckOf input (maxStates * rowCells)) (witness (decode input))))
 
   pub sample-beyond : maxInput < length input → Printed (refusedLine 69) d new k → Printed (sampleOutput input) d new k × (k ≤ length new)
   unfolding sampleOutput
-  sample-beyond = beyond (sampleLines input (witnessCheckOf input (maxStates * rowCells)) (witness (decode input)))
+  sample-beyond = beyond (sampleLines input (unless (witnessCheckOf input (maxStates * rowCells)) (witness (decode input))))
 
   pub judge-beyond : maxInput < length input → Printed (refusedLine 69) d new k → Printed (judgeOutput input) d new k × (k ≤ length new)
   unfolding judgeOutput

@@ -1,5 +1,5 @@
 -- Lines made of pieces, and the output that they are. Assumes nothing.
-use mathlib.Core.Path.{_≡_, refl, subst, _∙_}
+use mathlib.Core.Path.{_≡_, refl, ap, subst, _∙_}
 use mathlib.Core.List.{List, [], _∷_, _++_}
 use Prim.Native.Nat.{ℕ, _+_, _-_, _<_, _≤_}
 use native.Mathlib.Omega.{arith}
@@ -7,18 +7,16 @@ use borrow.Author.Tests.{le-leb, lt-leb}
 use lib.ListN.{length, drop, take, length-append, length-drop}
 use lib.Seq.{take-all}
 use Rattle.names.specs.Names.{decimal}
-use Rattle.spelling.specs.declared.piece.Piece.{Piece}
-use Rattle.spelling.specs.Parts.{pieceBytes, Holds, Wrote}
-use Rattle.spelling.proofs.Putting.{put-front, both-wrote}
-use Rattle.console.specs.Words.{aliveWord, refusedWord, atWord, numbered, lineOf, refusedLine, refusedAtLine, placed?, turnedAwayLine, aliveLines}
+use Rattle.model.specs.Space.{putAt}
+use Rattle.model.proofs.Space.{put-front}
+use Rattle.spelling.specs.Parts.{Wrote}
+use Rattle.spelling.proofs.Putting.{both-wrote}
+use Rattle.console.specs.Words.{aliveWord, refusedWord, atWord, numbered, lineOf, refusedLine, refusedAtLine, placed?, refusalLine, aliveLines}
 use Rattle.console.specs.Output.{Printed}
 
--- the text of a piece, which has a byte to spare
-pub piece-put : (d : List ℕ) (at : ℕ) (p : Piece) (text after : List ℕ) (r : ℕ) → Holds p text × (0 < p .start) → Wrote d at (take (pieceBytes - p .start) (drop (p .start) (p .bytes))) after r → Wrote d at text after r × (r ≤ at + 20)
-piece-put d at p text after r h w =
-    let n = length-drop (p .start) (p .bytes) in
-    let w′ : Wrote d at text after r = subst (λ t. Wrote d at t after r) (take-all (pieceBytes - p .start) (drop (p .start) (p .bytes)) (omega (arith, h .0 .long)) ∙ h .0 .is) w in
-    (w′, omega (arith, w′ .place, h .0 .size, h .1))
+-- a number put behind a place
+pub decimal-put : (d : List ℕ) (at n : ℕ) (after : List ℕ) (r : ℕ) → (r ≡ length (decimal n)) × ((after ≡ putAt d at (decimal n)) × (r ≤ 20)) → Wrote d at (decimal n) after (at + r) × (at + r ≤ at + 20)
+decimal-put d at n after r (e, (s, l)) = (record { place = ap (at +_) e; is = s }, omega arith)
 
 -- a piece behind a piece, where the space is long enough
 both : (d : List ℕ) (at : ℕ) (a b : List ℕ) (p : ℕ) (mid : List ℕ) (r : ℕ) (new : List ℕ) → r ≤ length d → Wrote d at a mid p → Wrote mid p b new r → Wrote d at (a ++ b) new r
@@ -85,14 +83,14 @@ alive-put d h text p mid r new l w v =
 
 -- which numbers have a place
 module _ (n q : ℕ) (d new : List ℕ) (r : ℕ) where
-  pub below-placed : n < 63 → Printed (refusedLine n) d new r → Printed (turnedAwayLine n q) d new r
-  unfolding turnedAwayLine placed?
+  pub below-placed : n < 63 → Printed (refusedLine n) d new r → Printed (refusalLine n q) d new r
+  unfolding refusalLine placed?
   below-placed l w = rw (lt-leb 63 n l) w
 
-  pub above-placed : 63 ≤ n → 67 < n → Printed (refusedLine n) d new r → Printed (turnedAwayLine n q) d new r
-  unfolding turnedAwayLine placed?
+  pub above-placed : 63 ≤ n → 67 < n → Printed (refusedLine n) d new r → Printed (refusalLine n q) d new r
+  unfolding refusalLine placed?
   above-placed k l w = rw (le-leb 63 n k) (rw (lt-leb n 67 l) w)
 
-  pub is-placed : 63 ≤ n → n ≤ 67 → Printed (refusedAtLine n q) d new r → Printed (turnedAwayLine n q) d new r
-  unfolding turnedAwayLine placed?
+  pub is-placed : 63 ≤ n → n ≤ 67 → Printed (refusedAtLine n q) d new r → Printed (refusalLine n q) d new r
+  unfolding refusalLine placed?
   is-placed k l w = rw (le-leb 63 n k) (rw (le-leb n 67 l) w)

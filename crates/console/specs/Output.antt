@@ -3,11 +3,13 @@ use mathlib.Core.Path.{_≡_}
 use mathlib.Core.List.{List, [], _++_}
 use mathlib.Core.Bool.{Bool, true, false, cond}
 use mathlib.Core.Option.{Option, none, some}
-use Prim.Native.Nat.{ℕ, zero, suc, _*_, _≤_}
+use Prim.Native.Nat.{ℕ, _*_, _≤_}
 use lib.Dec.{leb}
 use lib.ListN.{length, take, drop}
 use Rattle.model.specs.Limits.{maxRows, maxStates}
+use Rattle.model.specs.Refusal.{Answer, gives, refuses, unless}
 use Rattle.model.specs.Tree.{Tree, levels}
+use Rattle.model.specs.Table.{Row}
 use Rattle.model.specs.Build.{rowsOf}
 use Rattle.model.specs.Witness.{witness}
 use Rattle.model.specs.Annotation.{accepts?}
@@ -17,9 +19,9 @@ use Rattle.runs.specs.Steps.{stepCells}
 use Rattle.emptiness.specs.Answer.{witnessCheckOf}
 use Rattle.membership.specs.Cells.{annotationCells}
 use Rattle.membership.specs.Judge.{judgeCheckOf}
-use Rattle.term.specs.Read.{Reading, rowsRead, turnedAway, readOf}
-use Rattle.spelling.specs.Write.{Writing, written, turnedAway as unwritten, writeOf}
-use Rattle.console.specs.Words.{refusedLine, turnedAwayLine, aliveLines, deadLine, yesLine, noLine}
+use Rattle.term.specs.Read.{Reading, rowsRead, refusedAt, readOf}
+use Rattle.spelling.specs.Write.{writeOf}
+use Rattle.console.specs.Words.{refusedLine, refusalLine, aliveLines, deadLine, yesLine, noLine}
 
 -- The bytes fit the output space and stand at its front, its rest is as it was, and r is their number.
 pub record Printed (bytes before after : List ℕ) (r : ℕ) : Type 0 where
@@ -47,34 +49,34 @@ abbrev pub room : ℕ
 room = 512
 
 -- the lines of a live set of a height, with its witness's text or the number that refuses it
-abbrev pub liveLines : ℕ → Writing → List ℕ
-liveLines h (written text) = aliveLines h text
-liveLines h (unwritten n) = refusedLine n
+abbrev pub liveLines : ℕ → Answer (List ℕ) → List ℕ
+liveLines h (gives text) = aliveLines h text
+liveLines h (refuses n) = refusedLine n
 
--- a set that a number turns away, that has no witness, or whose witness is shown without name lists
-abbrev pub sampleLines : List ℕ → ℕ → Option Tree → List ℕ
-sampleLines set zero none = deadLine
-sampleLines set zero (some w) = liveLines (levels w) (writeOf set [] [] (encodeRows (rowsOf w)) textSpace)
-sampleLines set (suc n) o = refusedLine (suc n)
+-- a set that a number refuses, that has no witness, or whose witness is shown without name lists
+abbrev pub sampleLines : List ℕ → Answer (Option Tree) → List ℕ
+sampleLines set (gives none) = deadLine
+sampleLines set (gives (some w)) = liveLines (levels w) (writeOf set [] [] (encodeRows (rowsOf w)) textSpace)
+sampleLines set (refuses n) = refusedLine n
 
 -- WHAT THE SAMPLE PROGRAM PRINTS: its row space holds 256 rows
 unfoldable pub sampleOutput : List ℕ → List ℕ
-sampleOutput input = withinInput input (sampleLines input (witnessCheckOf input (maxStates * rowCells)) (witness (decode input)))
+sampleOutput input = withinInput input (sampleLines input (unless (witnessCheckOf input (maxStates * rowCells)) (witness (decode input))))
 
--- a judging that a number turns away, or its answer
-abbrev pub judgeLine : ℕ → Bool → List ℕ
-judgeLine zero true = yesLine
-judgeLine zero false = noLine
-judgeLine (suc n) b = refusedLine (suc n)
+-- a judging that a number refuses, or its answer
+abbrev pub judgeLine : Answer Bool → List ℕ
+judgeLine (gives true) = yesLine
+judgeLine (gives false) = noLine
+judgeLine (refuses n) = refusedLine n
 
 -- the line for a set and the cells of a document's rows
 abbrev pub rowsLine : List ℕ → List ℕ → List ℕ
-rowsLine set cells = judgeLine (judgeCheckOf set cells (room * annotationCells) (room * stepCells)) (accepts? (decode set) (decodeRows cells))
+rowsLine set cells = judgeLine (unless (judgeCheckOf set cells (room * annotationCells) (room * stepCells)) (accepts? (decode set) (decodeRows cells)))
 
 -- the line for a set and what its text was read to
-abbrev pub readLine : List ℕ → Reading → List ℕ
+abbrev pub readLine : List ℕ → Reading (List Row) → List ℕ
 readLine set (rowsRead rows) = rowsLine set (encodeRows rows)
-readLine set (turnedAway n p) = turnedAwayLine n p
+readLine set (refusedAt n p) = refusalLine n p
 
 -- the line for a set and a text, with space for 1,024 rows and without name lists
 abbrev pub judgedLine : List ℕ → List ℕ → List ℕ

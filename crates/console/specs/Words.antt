@@ -46,8 +46,8 @@ unfoldable pub placed? : ℕ → Bool
 placed? n = leb 63 n && leb n 67
 
 -- a refusal with its place, where the number has one
-unfoldable pub turnedAwayLine : ℕ → ℕ → List ℕ
-turnedAwayLine n p = cond (placed? n) (refusedAtLine n p) (refusedLine n)
+unfoldable pub refusalLine : ℕ → ℕ → List ℕ
+refusalLine n p = cond (placed? n) (refusedAtLine n p) (refusedLine n)
 
 -- `alive H`, and the text in a line of its own
 abbrev pub aliveLines : ℕ → List ℕ → List ℕ

@@ -3,44 +3,46 @@ mod line; // line.rt: the pieces of a line
 
 use crate::line::put_alive;
 use crate::line::put_answer;
+use crate::line::put_refusal;
 use crate::line::put_refused;
-use crate::line::put_turned_away;
+use base::limits::MAX_ROWS;
+use base::limits::MAX_STATES;
+use base::numbers::smaller;
 use document::rows::ROW_CELLS;
 use emptiness::Emptiness;
+use membership::ANNOTATION_CELLS;
 use membership::Judged;
+use runs::steps::STEP_CELLS;
 use spelling::TermWritten;
 use term::TermRead;
-ghost use mathlib.Core.Path.{_≡_};
 ghost use mathlib.Core.List.{[]};
-ghost use Prim.Native.Nat.{_≤_, min};
+ghost use Prim.Native.Nat.{_≤_};
 ghost use lib.ListN.{length};
 ghost use Rattle.spelling.specs.Write.{writeOf};
 ghost use Rattle.console.specs.Output.{Printed, outputBytes, textSpace, liveLines, rowsLine, judgedLine, sampleOutput, judgeOutput};
 
-// The most bytes that a program prints: a height, a text and three words and line ends fit.
+// The most bytes that a program prints: `alive`, a height and a text, each line with its end, fit.
 pub const OUTPUT: usize = 32800;
 
 // The most bytes of input (69).
 const MAX_INPUT: usize = 32768;
 
+// A program's input space: a byte more than the most that is taken, so that a longer input is seen.
+pub const INPUT: usize = MAX_INPUT + 1;
+
 // The cells of the sample's 256 rows, and the bytes of its text.
-const SAMPLE_CELLS: usize = 2560;
+const SAMPLE_CELLS: usize = MAX_STATES as usize * ROW_CELLS;
 
 const TEXT: usize = 32768;
 
-// The cells of the judge's 1,024 rows, of its 512 annotations and of its 512 steps.
-const CELLS: usize = 10240;
+// The cells of the judge's 1,024 rows, of its annotations and of as many steps.
+const CELLS: usize = MAX_ROWS as usize * ROW_CELLS;
 
-const WORK: usize = 16384;
+const ROOM: usize = 512;
 
-const RUN: usize = 3072;
+const WORK: usize = ROOM * ANNOTATION_CELLS;
 
-// The smaller of two numbers.
-fn smaller(a: usize, b: usize) -> usize
-    ensures { λ r. ⌜ r ≡ min a b ⌝ }
-{
-    if a < b { a } else { b }
-}
+const RUN: usize = ROOM * STEP_CELLS;
 
 // The rows of a witness: its height and its text.
 fn live(set: &[u8], rows: &[u16], height: u16, out: &mut [u8]) -> usize
@@ -98,7 +100,7 @@ fn judge_text(set: &[u8], text: &[u8], out: &mut [u8]) -> usize
             let cells = n as usize * ROW_CELLS;
             judge_rows(set, &rows[..cells], out)
         },
-        TermRead::Refused(n, p) => put_turned_away(out, n, p),
+        TermRead::Refused(n, p) => put_refusal(out, n, p),
     }
 }
 

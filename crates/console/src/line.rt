@@ -5,9 +5,9 @@ ghost use lib.ListN.{length};
 ghost use Rattle.names.specs.Names.{decimal};
 ghost use Rattle.spelling.specs.Parts.{Wrote};
 ghost use Rattle.console.specs.Output.{Printed};
-ghost use Rattle.console.specs.Words.{refusedWord, atWord, numbered, lineOf, refusedLine, refusedAtLine, turnedAwayLine, aliveLines};
-use names::bytes::put;
-use spelling::piece::decimal_of;
+ghost use Rattle.console.specs.Words.{refusedWord, atWord, numbered, lineOf, refusedLine, refusedAtLine, refusalLine, aliveLines};
+use base::space::put;
+use spelling::number::put_decimal;
 
 // The refusals that have a place.
 const FIRST_PLACED: u16 = 63;
@@ -32,15 +32,12 @@ pub(crate) fn put_answer(out: &mut [u8], line: &[u8]) -> usize
 }
 
 // A number in decimal.
-fn put_decimal(out: &mut [u8], at: usize, n: u64) -> usize
+fn put_number(out: &mut [u8], at: usize, n: u64) -> usize
     requires { ⌜ at + 20 ≤ length (now out) ⌝ }
     ensures wrote { λ r. ⌜ Wrote (now (out .entry)) at (decimal n) (now (out .exit)) r ⌝ }
     ensures few { λ r. ⌜ r ≤ at + 20 ⌝ }
 {
-    let p = decimal_of(n);
-    let bytes = p.bytes;
-    let start = p.start;
-    put_bytes(out, at, &bytes[start..])
+    at + put_decimal(out, at, n)
 }
 
 // A word and a number.
@@ -50,7 +47,7 @@ fn put_numbered(out: &mut [u8], at: usize, word: &[u8], n: u64) -> usize
     ensures few { λ r. ⌜ r ≤ at + length (now (word .entry)) + 20 ⌝ }
 {
     let end = put_bytes(out, at, word);
-    put_decimal(out, end, n)
+    put_number(out, end, n)
 }
 
 // The end of a line.
@@ -108,9 +105,9 @@ fn put_refused_at(out: &mut [u8], number: u16, place: u64) -> usize
 }
 
 // The same, with the place where the number has one.
-pub(crate) fn put_turned_away(out: &mut [u8], number: u16, place: usize) -> usize
+pub(crate) fn put_refusal(out: &mut [u8], number: u16, place: usize) -> usize
     requires { ⌜ 52 < length (now out) ⌝ }
-    ensures { λ r. ⌜ Printed (turnedAwayLine number place) (now (out .entry)) (now (out .exit)) r ⌝ }
+    ensures { λ r. ⌜ Printed (refusalLine number place) (now (out .entry)) (now (out .exit)) r ⌝ }
 {
     if number < FIRST_PLACED {
         return put_refused(out, number);

@@ -3,29 +3,31 @@ use mathlib.Core.Path.{_≡_, refl, sym, ap, _∙_, subst}
 use mathlib.Core.Bool.{Bool, true, false, cond}
 use mathlib.Core.Logic.{_⊎_, inl, inr, ⊎-elim}
 use mathlib.Core.List.{List, [], _∷_, _++_}
-use mathlib.Core.Option.{Option, none, some, Option·map}
-use Prim.Native.Nat.{ℕ, zero, suc, _+_, _*_, _<_, _≤_, zero-le}
+use mathlib.Core.Option.{none, some, Option·map}
+use Prim.Native.Nat.{ℕ, zero, suc, _+_, _*_, _<_, zero-le}
 use native.Mathlib.Nat.{eq-or-lt-of-le}
 use native.Mathlib.Numerals.{add-one}
 use native.Mathlib.Omega.{arith}
 use lib.Dec.{T}
-use lib.ListN.{length, set, take, replicate}
+use lib.ListN.{set, replicate}
 use Rattle.model.specs.Limits.{maxRows}
+use Rattle.model.specs.Space.{putAt}
 use Rattle.model.specs.Lists.{tab}
 use Rattle.model.specs.Table.{Row}
-use Rattle.model.specs.Build.{eqRow, findRow, placed, addRow}
+use Rattle.model.specs.Build.{eqRow, findRow, placed}
 use Rattle.model.proofs.Tab.{length-tab}
 use Rattle.model.proofs.Build.{eqRow→eq, eqRow-refl}
+use Rattle.model.proofs.Space.{put-length, put-before}
 use Rattle.document.specs.declared.rows.Row as table
 use Rattle.document.specs.declared.index.Probed.{Probed}
-use Rattle.document.specs.declared.index.Probed.the-variants.{Found, Free, Crowded}
-use Rattle.document.specs.declared.builder.Placed.the-variants.{Known, Added, Full}
+use Rattle.document.specs.declared.index.Probed.the-variants.{Found}
+use Rattle.document.specs.declared.builder.Placed.the-variants.{Added, Full}
 use Rattle.document.specs.Rows.{rowCells, rowIn, rowsBelow, encodeRow, Kept}
-use Rattle.document.specs.Put.{putCells}
-use Rattle.document.specs.Index.{slotCount, startSlot, numbered, probe, Indexed}
-use Rattle.document.specs.Builder.{Built, roomFor?, Placing, placeAt, findOrAdd, Grows}
+use Rattle.document.specs.Fields.{asRow}
+use Rattle.document.specs.Index.{slotCount, startSlot, probe}
+use Rattle.document.specs.Builder.{Built, roomFor?, placeAt, findOrAdd, Grows}
 use Rattle.document.proofs.Probing.{scan, Opens, Answers, known, free, answers, indexed-none, indexed-same, indexed-more}
-use Rattle.document.proofs.Putting.{row-kept, row-put, rows-put, put-front, length-put}
+use Rattle.document.proofs.Putting.{row-kept, row-put, rows-put}
 use Rattle.document.proofs.Placement.{room}
 
 -- the test of the scan: row i equals r
@@ -89,10 +91,10 @@ module _ (cells slots : List ℕ) (n : ℕ) (b : Built cells slots n) (r : Row) 
 
 -- What `find_or_add` does is what a plain scan would do.
 module _ (cells slots : List ℕ) (n limit : ℕ) (b : Built cells slots n) (r : Row) (k : Kept r) where
-  grows-known : (i : ℕ) → scan n (equal? cells r) ≡ some i → Grows cells slots n limit r (placeAt cells slots n limit r (Found (numbered i)))
+  grows-known : (i : ℕ) → scan n (equal? cells r) ≡ some i → Grows cells slots n limit r (placeAt cells slots n limit r (Found (asRow i)))
   grows-known i e =
       record {
-        known = λ j q. let u : numbered i ≡ numbered j = cc in let p = ap number u in (ap (placed (rowsBelow cells n) r) (find-scan r n (rowIn cells) ∙ e ∙ ap some p), refl, refl);
+        known = λ j q. let u : asRow i ≡ asRow j = cc in let p = ap number u in (ap (placed (rowsBelow cells n) r) (find-scan r n (rowIn cells) ∙ e ∙ ap some p), refl, refl);
         added = λ j q. let z : _≡_ {A = ℕ} 0 1 = cc in let y : ⊥ = omega arith in absurd y;
         full = λ q. let z : _≡_ {A = ℕ} 0 1 = cc in let y : ⊥ = omega arith in absurd y;
         earlier = refl;
@@ -110,28 +112,28 @@ module _ (cells slots : List ℕ) (n limit : ℕ) (b : Built cells slots n) (r :
           size = refl;
         }
 
-    grows-added : roomFor? cells n limit ≡ true → Grows cells slots n limit r (record { answer = Added (numbered n); cells = putCells cells n (encodeRow r); slots = set slots t (n + 1) })
+    grows-added : roomFor? cells n limit ≡ true → Grows cells slots n limit r (record { answer = Added (asRow n); cells = putAt cells (n * rowCells) (encodeRow r); slots = set slots t (n + 1) })
     grows-added f =
         let m = room cells n limit true (sym f) refl in
-        let new : rowsBelow cells n ++ r ∷ [] ≡ rowsBelow (putCells cells n (encodeRow r)) (n + 1) =
-        sym (ap (rowsBelow (putCells cells n (encodeRow r))) (add-one n) ∙ rows-put cells n r (m .fits) k) in
+        let new : rowsBelow cells n ++ r ∷ [] ≡ rowsBelow (putAt cells (n * rowCells) (encodeRow r)) (n + 1) =
+        sym (ap (rowsBelow (putAt cells (n * rowCells) (encodeRow r))) (add-one n) ∙ rows-put cells n r (m .fits) k) in
         record {
           known = λ j q. let z : _≡_ {A = ℕ} 0 1 = cc in let y : ⊥ = omega arith in absurd y;
           added = λ j q.
-              let u : numbered n ≡ numbered j = cc in let p = ap number u in (
+              let u : asRow n ≡ asRow j = cc in let p = ap number u in (
                 sym p,
                 f,
                 ap (placed (rowsBelow cells n) r) (find-scan r n (rowIn cells) ∙ e)
                     ∙ (λ i. (new i, length-tab n (rowIn cells) i)),
-                rw add-one (built-more cells slots n b r (putCells cells n (encodeRow r)) t (m .few) (row-kept cells n r (m .fits)) (row-put cells n r (m .fits) k) fresh o),
+                rw add-one (built-more cells slots n b r (putAt cells (n * rowCells) (encodeRow r)) t (m .few) (row-kept cells n r (m .fits)) (row-put cells n r (m .fits) k) fresh o),
               );
           full = λ q. let z : _≡_ {A = ℕ} 0 1 = cc in let y : ⊥ = omega arith in absurd y;
-          earlier = put-front cells n r (m .fits);
-          size = length-put cells n r (m .fits);
+          earlier = put-before cells (n * rowCells) (encodeRow r) (m .fits);
+          size = put-length cells (n * rowCells) (encodeRow r) (m .fits);
         }
 
     grows-free : (x : Bool) → roomFor? cells n limit ≡ x
-        → Grows cells slots n limit r (cond x (record { answer = Added (numbered n); cells = putCells cells n (encodeRow r); slots = set slots t (n + 1) }) (record { answer = Full; cells = cells; slots = slots }))
+        → Grows cells slots n limit r (cond x (record { answer = Added (asRow n); cells = putAt cells (n * rowCells) (encodeRow r); slots = set slots t (n + 1) }) (record { answer = Full; cells = cells; slots = slots }))
     grows-free true f = grows-added f
     grows-free false f = grows-full f
 

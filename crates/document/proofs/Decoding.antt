@@ -6,7 +6,7 @@ use Rattle.document.specs.declared.scalar.Scalar.{Scalar}
 use Rattle.document.specs.declared.scalar.Scalar.the-variants.{Bare}
 use Rattle.document.specs.declared.scalar.Decoded.{Decoded}
 use Rattle.document.specs.declared.scalar.Decoded.the-variants.{Is, Not}
-use Rattle.document.specs.Put.{orBare}
+use Rattle.document.specs.Fields.{orBare}
 
 pub decoded-is : (b : Bool) (d : Decoded) (t s : Scalar) → d ≡ cond b (Is t) Not → d ≡ Is s → true ≡ b
 decoded-is true d t s e f = refl

@@ -13,12 +13,12 @@ use Rattle.model.specs.Limits.{maxChildren, unused}
 use Rattle.model.specs.Lists.{tab}
 use Rattle.model.specs.Table.{Row, noRow, rowAt}
 use Rattle.model.proofs.Tab.{tab-at, length-tab}
-use Rattle.model.proofs.Rows.{in-getD}
 use Rattle.automaton.proofs.Parts.{tab-same}
 use Rattle.document.specs.declared.fields.RowFields.{RowFields}
 use Rattle.document.specs.Scalars.{payloadOf}
-use Rattle.document.specs.Fields.{fieldsRow}
+use Rattle.document.specs.Fields.{numbersOf, fieldsRow}
 use Rattle.document.specs.Rows.{rowCells, cellIn, used, placesIn, joinCells, payloadIn, rowIn, rowsBelow, decodeRows, placesOf, splitCells, encodeRow, encodeRows, Fits, Kept}
+use Rattle.document.proofs.Numbers.{numbers-length}
 
 -- ---- child places
 
@@ -71,8 +71,8 @@ kept {r} f = record { few = f .few; used-all = all-used (r .children) (f .places
 pub kept-fields : (f : RowFields) (x : ℕ) → x ≡ payloadOf (f .scalar) → x < 2 ^ 64 → length (f .places) ≡ maxChildren → Kept (fieldsRow f)
 kept-fields f x e h l =
     record {
-      few = let m = length-used (f .places) in omega arith;
-      used-all = used-used (f .places);
+      few = let m = length-used (numbersOf (f .places)) in let n = numbers-length (f .places) maxChildren l in omega arith;
+      used-all = used-used (numbersOf (f .places));
       payload = rw (← e) h;
     }
 

@@ -27,9 +27,8 @@ use Rattle.document.specs.declared.fields.RowFields.{RowFields}
 use Rattle.document.specs.Rows.{rowIn, decodeRows, encodeRow}
 use Rattle.document.specs.Hash.{rowHash}
 use Rattle.document.specs.Scalars.{kindOf, payloadOf, decodeScalar, scalarAt}
-use Rattle.document.specs.Fields.{fieldsRow}
+use Rattle.document.specs.Fields.{fieldsRow, orBare, fieldsIn}
 use Rattle.document.specs.Index.{slotCount, startSlot, probe, Indexed}
-use Rattle.document.specs.Put.{orBare, fieldsIn}
 use Rattle.document.specs.Check.{fresh?}
 use Rattle.document.specs.Marks.{Counted, sameAs, startOf}
 use Rattle.document.proofs.Places.{row-at, rows-length}

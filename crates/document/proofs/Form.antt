@@ -17,7 +17,7 @@ use Rattle.model.proofs.Tab.{length-tab, in-tab}
 use Rattle.model.proofs.Below.{at}
 use Rattle.automaton.proofs.Parts.{all-of, tab-same}
 use Rattle.document.specs.Rows.{rowCells, cellIn, used, rowIn, decodeRows}
-use Rattle.document.specs.Check.{rowCount, counted?, known?, placeIn, place?, child?, arityIn, children?, fits?, scalarFits?, formCheckOf}
+use Rattle.document.specs.Check.{rowCount, counted?, known?, placeIn, place?, child?, arityIn, children?, scalarFor?, scalarFits?, formCheckOf}
 use Rattle.document.specs.Marks.{Counted}
 use Rattle.document.proofs.Places.{row-at, rows-length, place-cell}
 use Rattle.document.proofs.Refusals.{passed, pass, true-and}
@@ -56,12 +56,12 @@ module _ (cells : List ℕ) (i a : ℕ) (h : allBelow maxChildren (child? cells 
       ∙ used-tab maxChildren a (placeIn cells i) few (λ k l e. let w = place-lower k l in omega arith) place-unused
 
 -- what the scalar test tells
-fits-bare : (a k p : ℕ) → fits? a k p ≡ true → 0 < a → (k ≡ 0) × (p ≡ 0)
+fits-bare : (a k p : ℕ) → scalarFor? a k p ≡ true → 0 < a → (k ≡ 0) × (p ≡ 0)
 fits-bare a k p h l =
     let g = true-and (eqb k 0) (eqb p 0) (rw (ne-eqb a 0 (λ e. omega arith)) at h) in
     (eqb-true k 0 (g .0), eqb-true p 0 (g .1))
 
-pub fits-scalar : (a k p : ℕ) → fits? a k p ≡ true → T (scalar? k p)
+pub fits-scalar : (a k p : ℕ) → scalarFor? a k p ≡ true → T (scalar? k p)
 fits-scalar zero k p h = rw h tt
 fits-scalar (suc a) k p h = let g = fits-bare (suc a) k p h (omega arith) in rw (g .0, g .1) tt
 
@@ -71,7 +71,7 @@ pub record Formed (A : Automaton) (cells : List ℕ) : Type 0 where
   pub whole : length cells % rowCells ≡ 0
   pub known : (i : ℕ) → i < rowCount cells → (rowIn cells i) .symbol < length (A .arities)
   pub places : (i : ℕ) → i < rowCount cells → allBelow maxChildren (child? cells i (arityIn A cells i)) ≡ true
-  pub scalars : (i : ℕ) → i < rowCount cells → fits? (arityIn A cells i) ((rowIn cells i) .kind) ((rowIn cells i) .payload) ≡ true
+  pub scalars : (i : ℕ) → i < rowCount cells → scalarFor? (arityIn A cells i) ((rowIn cells i) .kind) ((rowIn cells i) .payload) ≡ true
 
 module _ (A : Automaton) (cells : List ℕ) where
   -- no refusal by 11 to 14 is what they ask, and back

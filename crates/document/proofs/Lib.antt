@@ -3,6 +3,7 @@ pub mod Variants
 pub mod Scalars
 pub mod Hashing
 pub mod Places
+pub mod Numbers
 pub mod Children
 pub mod Equality
 pub mod Encoding

@@ -12,9 +12,9 @@ use lib.ListN.{length, getD, set, drop, replicate, length-set, length-replicate,
 use lib.Seq.{getD-set-same, getD-set-other, drop-cons, set-out}
 use Rattle.model.specs.Limits.{maxChildren, maxRows, unused}
 use Rattle.model.specs.Table.{Row, rowAt}
-use Rattle.model.specs.Lists.{allBelow, anyBelow}
+use Rattle.model.specs.Lists.{allBelow, anyBelow, uses?}
 use Rattle.document.specs.Rows.{used, placesIn, decodeRows}
-use Rattle.document.specs.Check.{uses?, used?}
+use Rattle.document.specs.Check.{used?}
 use Rattle.document.specs.Marks.{Counted, Marked}
 use Rattle.document.proofs.Places.{row-at, rows-length}
 
@@ -90,8 +90,9 @@ module _ (ps : List ℕ) (j : ℕ) (before : List Bool) where
             let more : used (drop k ps) ≡ x ∷ used (drop (k + 1) ps) = rest-more ps k inside (λ q. u (e ∙ q)) ∙ ap (λ (y : ℕ). y ∷ used (drop (k + 1) ps)) (sym e) in
             record { wide = h .wide; long = w; so-far = λ i m. g i m ∙ ap (λ (cs : List ℕ). getD marks i false || uses? j cs i) (sym more) ∙ h .so-far i m }
 
-        pub marking-more : (marks′ : List Bool) → x < j → marks′ ≡ set marks x true → Marking ps j before marks′ (k + 1)
-        marking-more marks′ low q =
+        pub marking-more : (marks′ : List Bool) (a : ℕ) → x < j → a ≡ x → marks′ ≡ set marks a true → Marking ps j before marks′ (k + 1)
+        marking-more marks′ a low f g =
+            let q : marks′ ≡ set marks x true = rw (← f) g in
             step marks′ (λ i m. ap (λ (ms : List Bool). getD ms i false || uses? j (used (drop (k + 1) ps)) i) q ∙ one i m (eqb i x) refl) (ap length q ∙ length-set marks x true ∙ h .long)
           where
             one : (i : ℕ) → i < length before → (b : Bool) → eqb i x ≡ b → (getD (set marks x true) i false || uses? j (used (drop (k + 1) ps)) i) ≡ (getD marks i false || uses? j (x ∷ used (drop (k + 1) ps)) i)
@@ -152,6 +153,10 @@ module _ (at : ℕ → List ℕ) (n m : ℕ) where
         ∙ ap (λ (z : ℕ). anyBelow z (λ j. uses? j (used (at j)) i)) e
         ∙ any-same n (λ j. uses? j (used (at j)) i) (λ j. uses? j (cs j) i) (λ y ly. ap (λ (xs : List ℕ). uses? y xs i) (same y ly)))
         ∙ ap (λ (z : ℕ). allBelow z (λ i. anyBelow n (λ j. uses? j (cs j) i))) f
+
+-- the mark at a place that is i
+pub marked-at : (marks : List Bool) (a i : ℕ) (r : Bool) → r ≡ getD marks a false → a ≡ i → r ≡ getD marks i false
+marked-at marks a i r e q = e ∙ ap (λ (n : ℕ). getD marks n false) q
 
 -- a mark past the end is none
 pub set-past : (marks : List Bool) (a i : ℕ) → a ≡ i → length marks ≤ a → marks ≡ set marks i true

@@ -8,19 +8,19 @@ use lib.Dec.{T, ltb, leb, ltb→lt, leb→le}
 use borrow.Author.Tests.{lt-ltb, le-leb}
 use lib.ListN.{length, set}
 use Rattle.model.specs.Limits.{maxRows}
+use Rattle.model.specs.Space.{putAt}
 use Rattle.model.specs.Table.{Row}
 use Rattle.model.specs.Build.{eqRow}
 use Rattle.model.proofs.Members.{T-and}
 use Rattle.document.specs.declared.rows.Row as number
 use Rattle.document.specs.declared.index.Probed.{Probed}
 use Rattle.document.specs.declared.index.Probed.the-variants.{Found, Free, Crowded}
-use Rattle.document.specs.declared.builder.Placed.{Placed}
 use Rattle.document.specs.declared.builder.Placed.the-variants.{Known, Added, Full}
 use Rattle.document.specs.Rows.{rowCells, rowIn, encodeRow}
 use Rattle.document.specs.Hash.{rowHash}
-use Rattle.document.specs.Put.{putCells}
-use Rattle.document.specs.Index.{slotCount, startSlot, numbered, probe}
-use Rattle.document.specs.Builder.{roomFor?, Placing, placeAt, findOrAdd, Did}
+use Rattle.document.specs.Fields.{asRow}
+use Rattle.document.specs.Index.{slotCount, startSlot, probe}
+use Rattle.document.specs.Builder.{roomFor?, placeAt, findOrAdd, Did}
 use Rattle.document.proofs.Probing.{slot-inside}
 
 -- room means fewer rows than a table may have, and cells for one more
@@ -71,5 +71,5 @@ module _ (cells slots : List ℕ) (n limit : ℕ) (r : Row) (cs : List ℕ) (st 
     pub did-full : b ≡ false → Did (findOrAdd cells slots n limit r) Full cells slots
     did-full f = rw (looked (Free t) e, sym eb ∙ f) (record { answer = refl; cells = refl; slots = refl })
 
-    pub did-add : b ≡ true → (w : List ℕ) → w ≡ putCells cells n cs → Did (findOrAdd cells slots n limit r) (Added (numbered n)) w (set slots t (n + 1))
-    did-add g w ew = rw (looked (Free t) e, sym eb ∙ g) (record { answer = refl; cells = ew ∙ ap (putCells cells n) ec; slots = refl })
+    pub did-add : b ≡ true → (w : List ℕ) → w ≡ putAt cells (n * rowCells) cs → Did (findOrAdd cells slots n limit r) (Added (asRow n)) w (set slots t (n + 1))
+    did-add g w ew = rw (looked (Free t) e, sym eb ∙ g) (record { answer = refl; cells = ew ∙ ap (putAt cells (n * rowCells)) ec; slots = refl })

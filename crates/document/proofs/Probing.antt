@@ -13,7 +13,8 @@ use lib.Seq.{getD-set-same, getD-set-other}
 use borrow.Author.Tests.{eqb-false}
 use Rattle.document.specs.declared.index.Probed.{Probed}
 use Rattle.document.specs.declared.index.Probed.the-variants.{Found, Free, Crowded}
-use Rattle.document.specs.Index.{slotCount, slotAfter, numbered, atSlot, probeFrom, probe, filled, NoneEmpty, Reached, Indexed}
+use Rattle.document.specs.Fields.{asRow}
+use Rattle.document.specs.Index.{slotCount, slotAfter, atSlot, probeFrom, probe, filled, NoneEmpty, Reached, Indexed}
 
 lt-or-le : (a b : ℕ) → (a < b) ⊎ (b ≤ a)
 lt-or-le a zero = inr zero-le
@@ -56,7 +57,7 @@ module _ (slots : List ℕ) (same? : ℕ → Bool) (s : ℕ) where
 
   -- what the probe met from step d on
   data Walk (d : ℕ) : Probed → Type 0 where
-    met : (e i : ℕ) → getD slots (slotAfter s e) 0 ≡ suc i → same? i ≡ true → Walk d (Found (numbered i))
+    met : (e i : ℕ) → getD slots (slotAfter s e) 0 ≡ suc i → same? i ≡ true → Walk d (Found (asRow i))
     opened : (e : ℕ) → d ≤ e → e < slotCount → getD slots (slotAfter s e) 0 ≡ 0 → ((x : ℕ) → d ≤ x → x < e → Passed x) → Walk d (Free (slotAfter s e))
     crowded : ((x : ℕ) → d ≤ x → x < slotCount → Passed x) → Walk d Crowded
 
@@ -69,7 +70,7 @@ module _ (slots : List ℕ) (same? : ℕ → Bool) (s : ℕ) where
   at-slot d zero l e next w = opened d (omega arith) l e (λ x a b. let z : ⊥ = omega arith in absurd z)
   at-slot d (suc i) l e next w = go (same? i) refl
     where
-      go : (b : Bool) → same? i ≡ b → Walk d (cond b (Found (numbered i)) next)
+      go : (b : Bool) → same? i ≡ b → Walk d (cond b (Found (asRow i)) next)
       go true t = met d i e t
       go false f = onwards d (i, e, f) w
 
@@ -137,7 +138,7 @@ pub record Opens (slots : List ℕ) (s t : ℕ) : Type 0 where
 
 -- what a probe answers for rows below n: the one that a scan finds, or the slot for a row that no scan finds
 pub data Answers (slots : List ℕ) (n : ℕ) (same? : ℕ → Bool) (s : ℕ) : Probed → Type 0 where
-  known : (i : ℕ) → i < n → same? i ≡ true → scan n same? ≡ some i → Answers slots n same? s (Found (numbered i))
+  known : (i : ℕ) → i < n → same? i ≡ true → scan n same? ≡ some i → Answers slots n same? s (Found (asRow i))
   free : (t : ℕ) → ((i : ℕ) → i < n → same? i ≡ false) → scan n same? ≡ none → Opens slots s t → Answers slots n same? s (Free t)
 
 module _ (slots : List ℕ) (n : ℕ) (start : ℕ → ℕ) (same? : ℕ → Bool) (s : ℕ) (x : Indexed slots n start) (starts : (i : ℕ) → i < n → same? i ≡ true → start i ≡ s) where

@@ -1,13 +1,18 @@
--- A kind and a payload that are a scalar go to it and back unchanged. Assumes nothing.
+-- A kind and a payload that are a scalar go to it and back unchanged, and those of any value of the type are one. Assumes nothing.
 use mathlib.Core.Path.{_≡_, refl, sym, ap, subst, _∙_}
 use mathlib.Core.Bool.{Bool, true, false, _&&_, _||_, cond}
+use mathlib.Core.List.{List}
 use Prim.Native.Nat.{ℕ, zero, suc, _^_, _<_}
 use native.Mathlib.Omega.{arith}
 use lib.Dec.{T, eqb, ltb, eqb→eq, ltb→lt}
-use lib.Ieee.{Float, binary64, toBits}
-use borrow.Author.Tests.{lt-ltb, ne-eqb}
+use lib.Ieee.{binary64, toBits}
+use mir.Val.{Val}
+use denote.Laws.{Is as Meant}
+use denote.Enum.Declared.{row}
+use borrow.Author.Tests.{lt-ltb}
 use Rattle.model.specs.Table.{scalar?}
 use Rattle.model.proofs.Members.{T-and, T-true}
+use Rattle.document.proofs.scalar.Scalar as S
 use Rattle.document.specs.declared.scalar.Scalar.{Scalar}
 use Rattle.document.specs.declared.scalar.Scalar.the-variants.{Bare, Flag, Count, Rate, NanRate, Name}
 use Rattle.document.specs.declared.scalar.Decoded.{Decoded}
@@ -24,29 +29,15 @@ pub record Back (k p : ℕ) (s : Scalar) : Type 0 where
   pub kind : kindOf s ≡ k
   pub payload : payloadOf s ≡ p
 
--- r is the payload of s, and its kind and payload are a scalar's
-abbrev pub Sent : Scalar → ℕ → Type 0
-Sent s r = (r ≡ payloadOf s) × T (scalar? (kindOf s) (payloadOf s))
-
-pub sent-by : {s t : Scalar} (r : ℕ) → s ≡ t → Sent t r → Sent s r
-sent-by r e h = rw e h
-
-pub flag-sent : (b x : Bool) → b ≡ x → Sent (Flag b) (cond x 1 0)
-flag-sent b true e = rw e (refl, tt)
-flag-sent b false e = rw e (refl, tt)
-
-pub count-sent : (n : ℕ) → n < 2 ^ 64 → Sent (Count n) n
-count-sent n h = (refl, rw (lt-ltb n (2 ^ 64) h) tt)
-
--- of a rate, kept as a float or as bits
-pub rate-sent : (x : Float) (r : ℕ) → r ≡ toBits binary64 x → r < 2 ^ 64 → Sent (Rate x) r
-rate-sent x r e h = (e, rw (← e, lt-ltb r (2 ^ 64) h) tt)
-
-pub nan-sent : (bits : ℕ) → bits < 2 ^ 64 → Sent (NanRate bits) bits
-nan-sent bits h = (refl, rw (lt-ltb bits (2 ^ 64) h) tt)
-
-pub name-sent : (n : ℕ) → n < 2 ^ 32 → Sent (Name n) n
-name-sent n h = (refl, rw (lt-ltb n (2 ^ 32) h) tt)
+-- No value of the type has a kind and a payload that are not a scalar's: a name is below 2^32, and any 64 bits are a count and a rate.
+pub value-scalar : (s : Scalar) (vs : List Val) → Meant (row S.the-type) s vs → payloadOf s < 2 ^ 64 → T (scalar? (kindOf s) (payloadOf s))
+value-scalar Bare vs g l = tt
+value-scalar (Flag true) vs g l = tt
+value-scalar (Flag false) vs g l = tt
+value-scalar (Count n) vs g l = rw (lt-ltb n (2 ^ 64) l) tt
+value-scalar (Rate x) vs g l = rw (lt-ltb (toBits binary64 x) (2 ^ 64) l) tt
+value-scalar (NanRate bits) vs g l = rw (lt-ltb bits (2 ^ 64) l) tt
+value-scalar (Name n) vs g l = rw (lt-ltb n (2 ^ 32) (g .1 .1 .1 .1 .0 .1)) tt
 
 flag-back : (p : ℕ) → p < 2 → payloadOf (Flag (eqb p 1)) ≡ p
 flag-back zero h = refl
@@ -92,17 +83,10 @@ there-and-back k p =
     is : ℕ → Bool → Bool
     is j test = eqb k j && test
 
-and-false : (a : Bool) → false ≡ (a && false)
-and-false true = refl
-and-false false = refl
-
--- what `held` may answer: another payload; a scalar that was decoded; no scalar
-module _ (s : Scalar) (k p : ℕ) where
-  pub other-payload : (r : ℕ) → r ≡ payloadOf s → (r ≡ p → ⊥) → false ≡ hasKindPayload s k p
-  other-payload r e h = rw (← e, ne-eqb r p h) (and-false (eqb (kindOf s) k))
-
-  pub as-decoded : (d : Decoded) (t : Scalar) (r : Bool) → d ≡ decodeScalar k p → d ≡ Is t → r ≡ sameScalar s t → r ≡ hasKindPayload s k p
-  as-decoded d t r e h g = go (scalar? k p) refl (sym e ∙ h)
+-- what `held` may answer: a scalar that was decoded, or none
+module _ (s : Scalar) (k p : ℕ) (d : Decoded) (e : d ≡ decodeScalar k p) where
+  pub as-decoded : (t : Scalar) (r : Bool) → d ≡ Is t → r ≡ sameScalar s t → r ≡ hasKindPayload s k p
+  as-decoded t r h g = go (scalar? k p) refl (sym e ∙ h)
     where
       go : (b : Bool) → scalar? k p ≡ b → cond b (Is (scalarAt k p)) Not ≡ Is t → r ≡ hasKindPayload s k p
       go true f q =
@@ -111,15 +95,18 @@ module _ (s : Scalar) (k p : ℕ) where
           g ∙ λ i. hasKindPayload s ((ap kindOf (sym u) ∙ w .kind) i) ((ap payloadOf (sym u) ∙ w .payload) i)
       go false f q = let z : _≡_ {A = ℕ} 0 1 = cc in let n : ⊥ = omega arith in absurd n
 
-  pub not-decoded : (d : Decoded) (r : ℕ) → d ≡ decodeScalar k p → d ≡ Not → Sent s r → r ≡ p → false ≡ hasKindPayload s k p
-  not-decoded d r e h (f, t) g = go (eqb (kindOf s) k) refl
+  pub not-decoded : (vs : List Val) → Meant (row S.the-type) s vs → p < 2 ^ 64 → d ≡ Not → false ≡ hasKindPayload s k p
+  not-decoded vs g l h = go (hasKindPayload s k p) refl
     where
-      refuted : kindOf s ≡ k → ⊥
-      refuted q =
-          let y : scalar? k p ≡ true = T-true (scalar? k p) .0 (subst T (λ i. scalar? (q i) ((sym f ∙ g) i)) t) in
+      refuted : kindOf s ≡ k → payloadOf s ≡ p → ⊥
+      refuted q f =
+          let t : T (scalar? (kindOf s) (payloadOf s)) = value-scalar s vs g (rw f l) in
+          let y : scalar? k p ≡ true = T-true (scalar? k p) .0 (subst T (λ i. scalar? (q i) (f i)) t) in
           let x : Is (scalarAt k p) ≡ Not = sym (ap (λ b. cond b (Is (scalarAt k p)) Not) y) ∙ sym e ∙ h in
           let z : _≡_ {A = ℕ} 0 1 = cc in omega arith
 
-      go : (b : Bool) → eqb (kindOf s) k ≡ b → false ≡ (b && eqb (payloadOf s) p)
-      go true q = absurd (refuted (eqb→eq (kindOf s) k (rw q tt)))
+      go : (b : Bool) → hasKindPayload s k p ≡ b → false ≡ b
+      go true q =
+          let (a, b) = T-and (eqb (kindOf s) k) (eqb (payloadOf s) p) (rw q tt) in
+          absurd (refuted (eqb→eq (kindOf s) k a) (eqb→eq (payloadOf s) p b))
       go false q = refl

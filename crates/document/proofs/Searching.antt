@@ -9,7 +9,8 @@ use native.Mathlib.Numerals.{add-one}
 use native.Mathlib.Omega.{arith}
 use lib.ListN.{getD}
 use Rattle.document.specs.declared.index.Probed.the-variants.{Found, Free, Crowded}
-use Rattle.document.specs.Index.{slotCount, slotAfter, numbered, atSlot, probeFrom, probe}
+use Rattle.document.specs.Fields.{asRow}
+use Rattle.document.specs.Index.{slotCount, slotAfter, atSlot, probeFrom, probe}
 
 -- after d slots, none of which ended it
 pub record Searched (slots : List ℕ) (same? : ℕ → Bool) (s d : ℕ) : Type 0 where
@@ -37,7 +38,7 @@ module _ (slots : List ℕ) (same? : ℕ → Bool) (s : ℕ) where
     pub searched-free : v ≡ 0 → Free (slotAfter a d) ≡ probe slots same? s
     searched-free z = rw z at turn
 
-    turn-row : (i : ℕ) → v ≡ suc i → cond (same? i) (Found (numbered i)) (probeFrom slots same? s (suc d) (slotCount - suc d)) ≡ probe slots same? s
+    turn-row : (i : ℕ) → v ≡ suc i → cond (same? i) (Found (asRow i)) (probeFrom slots same? s (suc d) (slotCount - suc d)) ≡ probe slots same? s
     turn-row i e = rw e at turn
 
     -- the row, its number being v less 1, passes the test or not
@@ -45,7 +46,7 @@ module _ (slots : List ℕ) (same? : ℕ → Bool) (s : ℕ) where
       before : v ≡ suc (v - 1)
       before = ⊎-elim (λ e. absurd (nz (sym e))) (λ l. omega arith) (eq-or-lt-of-le (zero-le {n = v}))
 
-      pub searched-known : r ≡ true → Found (numbered (v - 1)) ≡ probe slots same? s
+      pub searched-known : r ≡ true → Found (asRow (v - 1)) ≡ probe slots same? s
       searched-known t = rw (sym er ∙ t) at (turn-row (v - 1) before)
 
       pub searched-more : r ≡ false → Searched slots same? s (d + 1)

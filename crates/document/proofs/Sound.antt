@@ -1,34 +1,34 @@
 -- The table check means what document 01, section "Documents", says of a table. Assumes nothing.
 use mathlib.Core.Path.{_≡_, refl, sym, ap, _∙_, subst}
 use mathlib.Core.List.{List}
-use mathlib.Core.Bool.{Bool, true, false, _&&_, _||_}
+use mathlib.Core.Bool.{Bool, true, false, _&&_}
 use Prim.Native.Nat.{ℕ, zero, suc, _%_, _^_, _<_, _≤_}
 use native.Mathlib.Nat.{mul-mod-left}
 use native.Mathlib.Omega.{arith}
 use borrow.Author.Tests.{ltb-true, ltb-false, lt-ltb, eq-eqb, ne-eqb}
-use lib.Dec.{T, eqb, ltb, eqb→eq, ltb→lt}
+use lib.Dec.{eqb, ltb}
 use lib.ListN.{length, getD, List·getD-eq-default}
 use Rattle.model.specs.Limits.{maxChildren, unused}
 use Rattle.model.specs.Automaton.{Automaton, arityOf}
 use Rattle.model.specs.Sound.{Sound}
 use Rattle.model.specs.Table.{Row, rowAt, scalar?, SoundTable}
-use Rattle.model.proofs.Members.{T-and, T-true}
+use Rattle.model.proofs.Members.{T-true}
+use Rattle.model.proofs.Scalars.{few-scalars}
 use Rattle.model.proofs.Rows.{in-getD}
 use Rattle.automaton.specs.Stored.{decode}
 use Rattle.automaton.specs.Check.{checkOf}
 use Rattle.automaton.proofs.Parts.{all-of}
 use Rattle.automaton.proofs.Sound.{sound-decode}
 use Rattle.document.specs.Rows.{rowCells, rowIn, decodeRows, encodeRows, Fits}
-use Rattle.document.specs.Check.{rowCount, placeIn, place?, child?, arityIn, fits?, formCheckOf, distinctCheckOf, usedCheckOf, tableCheckOf, documentCheckOf}
+use Rattle.document.specs.Check.{rowCount, placeIn, place?, child?, arityIn, scalarFor?, formCheckOf, distinctCheckOf, usedCheckOf, tableCheckOf, documentCheckOf}
 use Rattle.document.proofs.Places.{rows-length}
-use Rattle.document.proofs.Scalars.{either}
 use Rattle.document.proofs.Refusals.{both-passed, both-pass}
 use Rattle.document.proofs.Form.{Formed, formed, form-passes, rows-sound, rows-lower}
 use Rattle.document.proofs.Whole.{distinct, distinct-passes, all-used, used-passes, low, low-passes}
 use Rattle.document.proofs.Encoding.{length-encode, decode-encode}
 use Rattle.document.proofs.Encoded.{encoded-count, encoded-row, encoded-place}
 
--- A table that the check does not turn away is sound: its rows are few, each fits its symbol, children are lower, no two rows are equal, all but the last are used, and the levels are at most 256.
+-- A table that the check does not refuse is sound: its rows are few, each fits its symbol, children are lower, no two rows are equal, all but the last are used, and the levels are at most 256.
 pub sound-table : (A : Automaton) (cells : List ℕ) → ((s : ℕ) → arityOf A s ≤ maxChildren) → tableCheckOf A cells ≡ 0 → SoundTable A (decodeRows cells)
 unfolding tableCheckOf
 sound-table A cells few h =
@@ -46,36 +46,17 @@ sound-table A cells few h =
       low = low (decodeRows cells) h₄;
     }
 
--- what a scalar's kind and payload are at most
-scalar-small : (k p : ℕ) → T (scalar? k p) → (k < 65536) × (p < 2 ^ 64)
-scalar-small k p =
-    either (is 0 (eqb p 0) || is 1 (ltb p 2) || is 2 (ltb p (2 ^ 64)) || is 3 (ltb p (2 ^ 64))) (is 4 (ltb p (2 ^ 32)))
-    (either (is 0 (eqb p 0) || is 1 (ltb p 2) || is 2 (ltb p (2 ^ 64))) (is 3 (ltb p (2 ^ 64)))
-    (either (is 0 (eqb p 0) || is 1 (ltb p 2)) (is 2 (ltb p (2 ^ 64)))
-    (either (is 0 (eqb p 0)) (is 1 (ltb p 2))
-    (small 0 (eqb p 0) (λ t. let e = eqb→eq p 0 t in omega arith) (omega arith))
-    (small 1 (ltb p 2) (λ t. let e = ltb→lt p 2 t in omega arith) (omega arith)))
-    (small 2 (ltb p (2 ^ 64)) (ltb→lt p (2 ^ 64)) (omega arith)))
-    (small 3 (ltb p (2 ^ 64)) (ltb→lt p (2 ^ 64)) (omega arith)))
-    (small 4 (ltb p (2 ^ 32)) (λ t. let e = ltb→lt p (2 ^ 32) t in omega arith) (omega arith))
-  where
-    is : ℕ → Bool → Bool
-    is j test = eqb k j && test
-
-    small : (j : ℕ) (test : Bool) → (T test → p < 2 ^ 64) → j < 65536 → T (eqb k j && test) → (k < 65536) × (p < 2 ^ 64)
-    small j test f l h = let (e, t) = T-and (eqb k j) test h in let q = eqb→eq k j e in (omega arith, f t)
-
 module _ (A : Automaton) (rows : List Row) (sound : Sound A) (table : SoundTable A rows) where
   module _ (i : ℕ) (l : i < length rows) where
     row-fits : Fits (rowAt rows i)
     row-fits =
         let r = table .each i l in
-        let s = scalar-small ((rowAt rows i) .kind) ((rowAt rows i) .payload) (r .scalar) in
+        let s = few-scalars ((rowAt rows i) .kind) ((rowAt rows i) .payload) (r .scalar) in
         record {
           symbol = omega (arith, r .known, sound .few-symbols);
           few = rw (r .as-many) (sound .few-children ((rowAt rows i) .symbol));
           places = λ j m. omega (arith, table .lower i l j m, table .few-rows);
-          kind = s .0;
+          kind = omega arith;
           payload = s .1;
         }
 
@@ -100,10 +81,10 @@ module _ (A : Automaton) (rows : List Row) (sound : Sound A) (table : SoundTable
             eq-eqb (getD ((rowAt rows i) .children) k unused) unused
             (List·getD-eq-default ((rowAt rows i) .children) unused (rw many (ltb-false k (arityOf A ((rowAt rows i) .symbol)) e)))
 
-    scalar-ok : fits? (arityIn A (encodeRows rows) i) ((rowIn (encodeRows rows) i) .kind) ((rowIn (encodeRows rows) i) .payload) ≡ true
-    scalar-ok = subst (λ r. fits? (arityOf A (r .symbol)) (r .kind) (r .payload) ≡ true) (sym row-back) (go (arityOf A ((rowAt rows i) .symbol)) refl)
+    scalar-ok : scalarFor? (arityIn A (encodeRows rows) i) ((rowIn (encodeRows rows) i) .kind) ((rowIn (encodeRows rows) i) .payload) ≡ true
+    scalar-ok = subst (λ r. scalarFor? (arityOf A (r .symbol)) (r .kind) (r .payload) ≡ true) (sym row-back) (go (arityOf A ((rowAt rows i) .symbol)) refl)
       where
-        go : (a : ℕ) → arityOf A ((rowAt rows i) .symbol) ≡ a → fits? a ((rowAt rows i) .kind) ((rowAt rows i) .payload) ≡ true
+        go : (a : ℕ) → arityOf A ((rowAt rows i) .symbol) ≡ a → scalarFor? a ((rowAt rows i) .kind) ((rowAt rows i) .payload) ≡ true
         go zero e = T-true (scalar? ((rowAt rows i) .kind) ((rowAt rows i) .payload)) .0 (table .each i l .scalar)
         go (suc a) e =
             let (k, p) = table .each i l .bare (omega arith) in
@@ -131,7 +112,11 @@ module _ (A : Automaton) (rows : List Row) (sound : Sound A) (table : SoundTable
       (both-pass (distinctCheckOf rows) _ (distinct-passes rows (table .distinct))
       (both-pass (usedCheckOf rows) _ (used-passes rows (table .used)) (low-passes rows (table .low)))))
 
--- A set and rows that the whole check does not turn away are a sound automaton and a sound table of it; and it lets those pass.
+-- The rows of a sound table come back from their cells.
+pub rows-back : (A : Automaton) (rows : List Row) → Sound A → SoundTable A rows → decodeRows (encodeRows rows) ≡ rows
+rows-back A rows sound table = decode-encode rows (row-fits A rows sound table)
+
+-- A set and rows that the whole check does not refuse are a sound automaton and a sound table of it; and it lets those pass.
 pub sound-document : (set cells : List ℕ) → documentCheckOf set cells ≡ 0 → Sound (decode set) × SoundTable (decode set) (decodeRows cells)
 sound-document set cells h =
     let (s, t) = both-passed (checkOf set) (tableCheckOf (decode set) cells) h in

@@ -5,16 +5,16 @@ use Prim.Native.Nat.{ℕ, zero, suc, _≤_}
 use native.Mathlib.Omega.{arith}
 use borrow.Author.Needs.{needs}
 use Rattle.model.specs.Limits.{maxRows}
-use Rattle.model.specs.Refusal.{andAfter}
+use Rattle.model.specs.Refusal.{andAfter, unless}
 use Rattle.model.specs.Automaton.{Automaton}
 use Rattle.model.specs.Table.{Lower}
 use Rattle.automaton.specs.declared.Checked.{Checked}
-use Rattle.automaton.specs.declared.Checked.the-variants.{Sound, Refused}
+use Rattle.automaton.specs.declared.Checked.the-variants.{Passed, Refused}
 use Rattle.automaton.specs.Stored.{decode}
 use Rattle.automaton.specs.Check.{checkOf}
-use Rattle.automaton.specs.Answer.{refusalOf, checkedOf}
+use Rattle.automaton.specs.Answer.{checkAnswer}
 use Rattle.automaton.proofs.Sound.{sound-decode}
-use Rattle.automaton.proofs.Verdict.{sound-zero, refused-after, refused-some}
+use Rattle.automaton.proofs.Verdict.{checkedOf, answered, is-answer, passed-zero, passed-after, refused-after, refused-some}
 use Rattle.document.specs.Rows.{rowIn, decodeRows}
 use Rattle.document.specs.Check.{rowCount, arityIn, formCheckOf}
 use Rattle.document.specs.Marks.{Counted, AllScalars}
@@ -51,25 +51,26 @@ form-lower set cells f s e z = rows-lower (decode set) cells (sound-decode set s
 
 pub ruleset tables = (after-stop, after-pass, form-few, form-counted, form-scalars, form-lower, needs)
 
--- answers and their numbers
-pub refused-of : (n : ℕ) → (n ≡ 0 → ⊥) → Refused n ≡ checkedOf n
-refused-of zero h = absurd (h refl)
-refused-of (suc n) h = refl
+-- the answer with a number: passed where it is 0, else a refusal
+module _ (n : ℕ) where
+  pub passed-of : n ≡ 0 → checkAnswer Passed ≡ unless n tt
+  passed-of h = answered 0 n (sym h)
 
-number-of : (n : ℕ) → refusalOf (checkedOf n) ≡ n
-number-of zero = refl
-number-of (suc n) = refl
+  pub refused-of : (n ≡ 0 → ⊥) → checkAnswer (Refused n) ≡ unless n tt
+  refused-of h = is-answer (Refused n) n (go n h)
+    where
+      go : (n : ℕ) → (n ≡ 0 → ⊥) → Refused n ≡ checkedOf n
+      go zero h = absurd (h refl)
+      go (suc n) h = refl
 
--- an answer and its number
-pub answered : (r : Checked) (n : ℕ) → r ≡ checkedOf n → (refusalOf r ≡ n) × (r ≡ checkedOf n)
-answered r n e = (ap refusalOf e ∙ number-of n, e)
+-- an earlier answer a, of the number n: where it passed the later one decides, else its own number
+module _ (a : Checked) (n rest : ℕ) (e : checkAnswer a ≡ unless n tt) where
+  pub later-answers : (r : Checked) (t : ℕ) → a ≡ Passed → t ≡ rest → checkAnswer r ≡ unless t tt → checkAnswer r ≡ unless (andAfter n rest) tt
+  later-answers r t s h g = g ∙ ap (λ m. unless m tt) (h ∙ passed-after a n e rest s)
 
--- the set's answer a, of the number n: where it is sound the table's decides, else its own
-module _ (a : Checked) (n rest : ℕ) (e : a ≡ checkedOf n) where
-  pub table-answers : (r : Checked) (t : ℕ) → a ≡ Sound → t ≡ rest → r ≡ checkedOf t → r ≡ checkedOf (andAfter n rest)
-  table-answers r t s h g = g ∙ ap checkedOf (after-pass n rest t n refl (sound-zero a n e s) h)
+  pub earlier-answers : (m : ℕ) → a ≡ Refused m → checkAnswer (Refused m) ≡ unless (andAfter n rest) tt
+  earlier-answers m s =
+      let p = refused-some a n e m s in
+      refused-of m (λ z. omega arith) ∙ ap (λ k. unless k tt) (refused-after a n e m rest s)
 
-  pub set-answers : (m : ℕ) → a ≡ Refused m → Refused m ≡ checkedOf (andAfter n rest)
-  set-answers m s = let p = refused-some a n m e s in refused-of m (λ z. omega arith) ∙ ap checkedOf (refused-after a n m rest e s)
-
-pub ruleset answers = (refused-of, sound-zero, table-answers, set-answers, needs)
+pub ruleset answers = (passed-of, refused-of, passed-zero, later-answers, earlier-answers, needs)

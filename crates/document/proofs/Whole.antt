@@ -9,7 +9,7 @@ use borrow.Author.Tests.{ltb-true, ltb-false, leb-true, lt-ltb, le-leb, not-true
 use lib.Dec.{T, eqb, leb, ltb, eqb→eq, eqb-refl}
 use lib.ListN.{length}
 use Rattle.model.specs.Limits.{maxLevels}
-use Rattle.model.specs.Lists.{any, allBelow, anyBelow}
+use Rattle.model.specs.Lists.{any, allBelow, anyBelow, uses?}
 use Rattle.model.specs.Tree.{levels}
 use Rattle.model.specs.Table.{Row, rowAt, treeOf, Distinct, AllUsed}
 use Rattle.model.specs.Build.{eqRow}
@@ -17,7 +17,7 @@ use Rattle.model.proofs.Members.{T-true, in-any, any-in}
 use Rattle.model.proofs.Below.{at}
 use Rattle.model.proofs.Build.{eqRow→eq, eqRow-refl}
 use Rattle.automaton.proofs.Parts.{all-of}
-use Rattle.document.specs.Check.{fresh?, uses?, used?, distinctCheckOf, usedCheckOf, levelsCheckOf}
+use Rattle.document.specs.Check.{fresh?, used?, distinctCheckOf, usedCheckOf, levelsCheckOf}
 use Rattle.document.proofs.Refusals.{passed, pass, true-and}
 
 -- the order of two numbers

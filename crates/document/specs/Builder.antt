@@ -1,12 +1,13 @@
 -- The table builder: a row is found by the index, or added where there is room (document 01, section "Documents"). Assumes nothing.
 use mathlib.Core.Path.{_≡_}
-use mathlib.Core.List.{List, [], _∷_, _++_}
-use mathlib.Core.Option.{none, some}
+use mathlib.Core.List.{List}
+use mathlib.Core.Option.{none}
 use mathlib.Core.Bool.{Bool, true, false, _&&_, cond}
-use Prim.Native.Nat.{ℕ, suc, _+_, _*_, _<_, _≤_}
+use Prim.Native.Nat.{ℕ, _+_, _*_, _<_, _≤_}
 use lib.Dec.{ltb, leb}
 use lib.ListN.{length, set, take}
 use Rattle.model.specs.Limits.{maxRows}
+use Rattle.model.specs.Space.{putAt}
 use Rattle.model.specs.Table.{Row}
 use Rattle.model.specs.Build.{eqRow, findRow, addRow}
 use Rattle.document.specs.declared.index.Probed.{Probed}
@@ -14,8 +15,8 @@ use Rattle.document.specs.declared.index.Probed.the-variants.{Found, Fre
 use Rattle.document.specs.declared.builder.Placed.{Placed}
 use Rattle.document.specs.declared.builder.Placed.the-variants.{Known, Added, Full}
 use Rattle.document.specs.Rows.{rowCells, rowIn, rowsBelow, encodeRow}
-use Rattle.document.specs.Put.{putCells}
-use Rattle.document.specs.Index.{slotCount, startSlot, numbered, probe, Indexed}
+use Rattle.document.specs.Fields.{asRow}
+use Rattle.document.specs.Index.{startSlot, probe, Indexed}
 
 -- The state of a builder: n rows in the cells, no two equal, and slots that index them.
 pub record Built (cells slots : List ℕ) (n : ℕ) : Type 0 where
@@ -38,7 +39,7 @@ abbrev pub placeAt : List ℕ → List ℕ → ℕ → ℕ → Row → Probed �
 placeAt cells slots n limit r (Found i) = record { answer = Known i; cells = cells; slots = slots }
 placeAt cells slots n limit r (Free t) =
     cond (roomFor? cells n limit)
-    (record { answer = Added (numbered n); cells = putCells cells n (encodeRow r); slots = set slots t (n + 1) })
+    (record { answer = Added (asRow n); cells = putAt cells (n * rowCells) (encodeRow r); slots = set slots t (n + 1) })
     (record { answer = Full; cells = cells; slots = slots })
 placeAt cells slots n limit r Crowded = record { answer = Full; cells = cells; slots = slots }
 
@@ -54,8 +55,8 @@ pub record Did (p : Placing) (a : Placed) (cs ss : List ℕ) : Type 0 where
 
 -- What p means to a builder with n rows: the row that a plain scan finds, a row more, or none of it where there is no room.
 pub record Grows (cells slots : List ℕ) (n limit : ℕ) (r : Row) (p : Placing) : Type 0 where
-  pub known : (i : ℕ) → p .answer ≡ Known (numbered i) → (addRow (rowsBelow cells n) r ≡ (rowsBelow cells n, i)) × (p .cells ≡ cells) × (p .slots ≡ slots)
-  pub added : (i : ℕ) → p .answer ≡ Added (numbered i) → (i ≡ n) × (roomFor? cells n limit ≡ true) × (addRow (rowsBelow cells n) r ≡ (rowsBelow (p .cells) (n + 1), n)) × Built (p .cells) (p .slots) (n + 1)
+  pub known : (i : ℕ) → p .answer ≡ Known (asRow i) → (addRow (rowsBelow cells n) r ≡ (rowsBelow cells n, i)) × (p .cells ≡ cells) × (p .slots ≡ slots)
+  pub added : (i : ℕ) → p .answer ≡ Added (asRow i) → (i ≡ n) × (roomFor? cells n limit ≡ true) × (addRow (rowsBelow cells n) r ≡ (rowsBelow (p .cells) (n + 1), n)) × Built (p .cells) (p .slots) (n + 1)
   pub full : p .answer ≡ Full → (findRow r (rowsBelow cells n) ≡ none) × (roomFor? cells n limit ≡ false) × (p .cells ≡ cells) × (p .slots ≡ slots)
   pub earlier : take (n * rowCells) (p .cells) ≡ take (n * rowCells) cells
   pub size : length (p .cells) ≡ length cells

@@ -1,11 +1,11 @@
--- The table check: which number turns a table of lent cells away (document 01, section "Turned away, by place"). Four tests, each with a definition of its own. Assumes nothing.
+-- The table check: which number refuses a table of lent cells (document 01, section "Turned away, by place"). Four tests, each with a definition of its own. Assumes nothing.
 use mathlib.Core.List.{List}
-use mathlib.Core.Bool.{Bool, true, false, _&&_, not, cond, _||_}
-use Prim.Native.Nat.{ℕ, zero, suc, _-_, _/_, _%_}
+use mathlib.Core.Bool.{Bool, true, false, _&&_, not, cond}
+use Prim.Native.Nat.{ℕ, _-_, _/_, _%_}
 use lib.Dec.{eqb, leb, ltb}
 use lib.ListN.{length, getD}
 use Rattle.model.specs.Limits.{maxChildren, maxRows, maxLevels, unused}
-use Rattle.model.specs.Lists.{any, allBelow, anyBelow}
+use Rattle.model.specs.Lists.{allBelow, anyBelow, uses?}
 use Rattle.model.specs.Refusal.{demand, andAfter}
 use Rattle.model.specs.Tree.{levels}
 use Rattle.model.specs.Automaton.{Automaton, arityOf}
@@ -49,12 +49,12 @@ unfoldable pub children? : Automaton → List ℕ → ℕ → Bool
 children? A cells i = allBelow maxChildren (child? cells i (arityIn A cells i))
 
 -- on a symbol with n children: a scalar where there are none, else kind 0 and payload 0
-abbrev pub fits? : ℕ → ℕ → ℕ → Bool
-fits? n kind payload = cond (eqb n 0) (scalar? kind payload) (eqb kind 0 && eqb payload 0)
+abbrev pub scalarFor? : ℕ → ℕ → ℕ → Bool
+scalarFor? n kind payload = cond (eqb n 0) (scalar? kind payload) (eqb kind 0 && eqb payload 0)
 
 -- 14, at one row: the kind and the payload fit the symbol
 unfoldable pub scalarFits? : Automaton → List ℕ → ℕ → Bool
-scalarFits? A cells i = fits? (arityIn A cells i) ((rowIn cells i) .kind) ((rowIn cells i) .payload)
+scalarFits? A cells i = scalarFor? (arityIn A cells i) ((rowIn cells i) .kind) ((rowIn cells i) .payload)
 
 -- 11 to 14: the form of the rows, each by itself
 unfoldable pub formCheckOf : Automaton → List ℕ → ℕ
@@ -71,10 +71,6 @@ fresh? rows j = allBelow j (λ i. not (eqRow (rowAt rows j) (rowAt rows i)))
 -- 15: no two rows are equal
 unfoldable pub distinctCheckOf : List Row → ℕ
 distinctCheckOf rows = demand (allBelow (length rows) (fresh? rows)) 15 0
-
--- row j, whose children are cs, is later than row i and has it as a child
-unfoldable pub uses? : ℕ → List ℕ → ℕ → Bool
-uses? j cs i = ltb i j && any (eqb i) cs
 
 -- some later row has row i as a child
 unfoldable pub used? : List Row → ℕ → Bool

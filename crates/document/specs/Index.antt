@@ -5,11 +5,11 @@ use mathlib.Core.Bool.{Bool, cond}
 use Prim.Native.Nat.{ℕ, zero, suc, _+_, _%_, _<_, _≤_}
 use lib.ListN.{length, getD}
 use Rattle.model.specs.Table.{Row}
-use Rattle.document.specs.declared.rows.Row as number
 use Rattle.document.specs.declared.index.Probed.{Probed}
 use Rattle.document.specs.declared.index.Probed.the-variants.{Found, Free, Crowded}
 use Rattle.document.specs.Rows.{encodeRow}
 use Rattle.document.specs.Hash.{rowHash}
+use Rattle.document.specs.Fields.{asRow}
 
 abbrev pub slotCount : ℕ
 slotCount = 2048
@@ -22,13 +22,10 @@ slotAfter s d = (s + d) % slotCount
 unfoldable pub startSlot : Row → ℕ
 startSlot r = rowHash (encodeRow r) % slotCount
 
-abbrev pub numbered : ℕ → number.Row
-numbered i = record { 0 = i }
-
 -- what a slot's number says: empty, a row that passes the test, or a row that does not
 abbrev pub atSlot : (ℕ → Bool) → ℕ → Probed → Probed → Probed
 atSlot same? zero free next = free
-atSlot same? (suc i) free next = cond (same? i) (Found (numbered i)) next
+atSlot same? (suc i) free next = cond (same? i) (Found (asRow i)) next
 
 -- the probe from d steps after slot s on: the first empty slot ends it, or a row that passes the test
 unfoldable pub probeFrom : List ℕ → (ℕ → Bool) → ℕ → ℕ → ℕ → Probed

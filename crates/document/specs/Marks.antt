@@ -6,14 +6,13 @@ use Prim.Native.Nat.{ℕ, _/_, _<_, _≤_}
 use lib.Dec.{T}
 use lib.ListN.{length, getD}
 use Rattle.model.specs.Limits.{maxRows}
-use Rattle.model.specs.Lists.{larger}
+use Rattle.model.specs.Lists.{larger, uses?}
 use Rattle.model.specs.Table.{scalar?}
 use Rattle.model.specs.Build.{eqRow}
 use Rattle.document.specs.Rows.{rowCells, rowIn}
 use Rattle.document.specs.Index.{startSlot}
-use Rattle.document.specs.Check.{uses?}
 
--- n is the number of rows, and 11 does not turn them away for it
+-- n is the number of rows, and 11 does not refuse them for it
 pub record Counted (cells : List ℕ) (n : ℕ) : Type 0 where
   pub rows : n ≡ length cells / rowCells
   pub some : 0 < n

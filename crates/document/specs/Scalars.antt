@@ -1,5 +1,5 @@
 -- Scalars as values, and what a row's kind and payload say of them (document 01, section "Documents"). Assumes nothing.
-use mathlib.Core.Bool.{Bool, true, false, _&&_, cond}
+use mathlib.Core.Bool.{Bool, _&&_, cond}
 use Prim.Native.Nat.{ℕ, zero, suc}
 use lib.Dec.{eqb}
 use lib.Ieee.{binary64, nanBits, ofBits, toBits}

@@ -3,13 +3,13 @@ use crate::fields::RowFields;
 use crate::fields::cells_of;
 use crate::index::Probed;
 use crate::index::SLOTS;
-use crate::index::probe;
+use crate::index::look_up;
 use crate::index::start_slot;
-use crate::rows::MAX_ROWS;
 use crate::rows::ROW_CELLS;
 use crate::rows::Row;
 use crate::rows::put_cells;
-use crate::rows::size;
+use base::limits::MAX_ROWS;
+use base::numbers::size;
 ghost use mathlib.Core.Path.{_≡_};
 ghost use Rattle.document.specs.Rows.{Kept};
 ghost use Rattle.document.specs.Fields.{fieldsRow};
@@ -27,7 +27,7 @@ fn has_room(rows: &[u16], n: u16, limit: u16) -> bool
     ensures { λ r. ⌜ r ≡ roomFor? (now (rows .entry)) n limit ⌝ }
 {
     let m = size(n);
-    (n < limit) & (m < MAX_ROWS) & (m * ROW_CELLS + ROW_CELLS <= rows.len())
+    (n < limit) & (n < MAX_ROWS) & (m * ROW_CELLS + ROW_CELLS <= rows.len())
 }
 
 // The row of these fields among the first n, which the slots index; added as row n where there is none and there is room.
@@ -43,7 +43,7 @@ pub fn find_or_add(
 {
     let cells = cells_of(f);
     let start = start_slot(cells);
-    match probe(&*rows, &*slots, start, f) {
+    match look_up(&*rows, &*slots, start, f) {
         Probed::Found(i) => Placed::Known(i),
         Probed::Free(t) => {
             if !has_room(&*rows, n, limit) {

@@ -1,39 +1,39 @@
 // A row by value: its symbol, child places and scalar; its ten cells; and its equality with a lent row.
-use crate::rows::PLACES;
 use crate::rows::ROW_CELLS;
 use crate::rows::Row;
-use crate::rows::UNUSED;
 use crate::rows::kind;
 use crate::rows::payload;
 use crate::rows::place;
 use crate::rows::symbol;
 use crate::scalar;
 use crate::scalar::Scalar;
+use base::limits::PLACES;
+use base::limits::UNUSED;
 ghost use mathlib.Core.Path.{_≡_};
 ghost use Prim.Native.Nat.{_/_, _%_};
 ghost use Rattle.model.specs.Lists.{eqList};
 ghost use Rattle.model.specs.Build.{eqRow};
 ghost use Rattle.document.specs.Rows.{used, placesOf, rowIn, encodeRow, Kept};
-ghost use Rattle.document.specs.Fields.{fieldsRow, placeAfter};
+ghost use Rattle.document.specs.Fields.{numbersOf, asRows, fieldsRow, placeAfter};
 
 const LAST_PLACE: usize = PLACES - 1;
 
 // Places after the first unused one do not count.
 pub struct RowFields {
     pub symbol: u16,
-    pub places: [u16; PLACES],
+    pub places: [Row; PLACES],
     pub scalar: Scalar,
 }
 
-fn place_after(last: u16, x: u16) -> u16
-    ensures { λ r. ⌜ r ≡ placeAfter last x ⌝ }
+fn place_after(last: Row, x: Row) -> Row
+    ensures { λ r. ⌜ r .0 ≡ placeAfter (last .0) (x .0) ⌝ }
 {
-    if last == UNUSED { UNUSED } else { x }
+    if last.0 == UNUSED { Row(UNUSED) } else { x }
 }
 
 // The places, all unused after the first that is.
-fn settled(places: [u16; PLACES]) -> [u16; PLACES]
-    ensures { λ r. ⌜ r ≡ placesOf (used places) ⌝ }
+fn settled(places: [Row; PLACES]) -> [Row; PLACES]
+    ensures { λ r. ⌜ r ≡ asRows (placesOf (used (numbersOf places))) ⌝ }
 {
     let mut p = places;
     let mut k = 0;
@@ -65,10 +65,10 @@ pub fn cells_of(f: RowFields) -> [u16; ROW_CELLS]
     let w = z / 65536;
     [
         f.symbol,
-        p[0],
-        p[1],
-        p[2],
-        p[3],
+        p[0].0,
+        p[1].0,
+        p[2].0,
+        p[3].0,
         k,
         low_cell(x),
         low_cell(y),
@@ -78,18 +78,18 @@ pub fn cells_of(f: RowFields) -> [u16; ROW_CELLS]
 }
 
 // Whether the places of row i are these, up to the first unused one.
-fn same_places(rows: &[u16], i: u16, places: [u16; PLACES]) -> bool
-    ensures { λ r. ⌜ r ≡ eqList (used places) ((rowIn (now (rows .entry)) i) .children) ⌝ }
+fn same_places(rows: &[u16], i: Row, places: [Row; PLACES]) -> bool
+    ensures { λ r. ⌜ r ≡ eqList (used (numbersOf places)) ((rowIn (now (rows .entry)) (i .0)) .children) ⌝ }
 {
     let mut k = 0;
     while k < PLACES {
         let x = places[k];
-        let y = place(rows, Row(i), k as u16);
+        let y = place(rows, i, k as u16);
         k += 1;
-        if x != y.0 {
+        if x.0 != y.0 {
             return false;
         }
-        if x == UNUSED {
+        if x.0 == UNUSED {
             return true;
         }
     }
@@ -108,5 +108,5 @@ pub fn same_row(rows: &[u16], i: Row, f: RowFields) -> bool
         return false;
     }
     let places = f.places;
-    same_places(rows, i.0, places)
+    same_places(rows, i, places)
 }

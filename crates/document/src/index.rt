@@ -4,7 +4,7 @@ use crate::fields::same_row;
 use crate::hash::row_hash;
 use crate::rows::ROW_CELLS;
 use crate::rows::Row;
-use crate::rows::size;
+use base::numbers::size;
 ghost use mathlib.Core.Path.{_≡_};
 ghost use Prim.Native.Nat.{_%_};
 ghost use Rattle.model.specs.Build.{eqRow};
@@ -31,7 +31,7 @@ pub fn start_slot(cells: [u16; ROW_CELLS]) -> u16
 }
 
 // Looks for a row that equals the fields, from slot start on.
-pub fn probe(rows: &[u16], slots: &[u16; SLOTS], start: u16, f: RowFields) -> Probed
+pub fn look_up(rows: &[u16], slots: &[u16; SLOTS], start: u16, f: RowFields) -> Probed
     ensures { λ r. ⌜ r ≡ probe (now (slots .entry)) (λ i. eqRow (fieldsRow f) (rowIn (now (rows .entry)) i)) start ⌝ }
 {
     let mut d = 0;

@@ -11,24 +11,25 @@ mod tests; // tests.rt: the four tests of a table
 use automaton::Checked;
 pub use scalar::Scalar;
 ghost use mathlib.Core.Path.{_≡_};
-ghost use Rattle.automaton.specs.Answer.{refusalOf, checkedOf};
+ghost use Rattle.model.specs.Refusal.{unless};
+ghost use Rattle.automaton.specs.Answer.{checkAnswer};
 ghost use Rattle.document.specs.Check.{documentCheckOf};
 
 fn answer(n: u16) -> Checked
-    ensures { λ r. ⌜ r ≡ checkedOf n ⌝ }
+    ensures { λ r. ⌜ checkAnswer r ≡ unless n tt ⌝ }
 {
     if n == 0 {
-        return Checked::Sound;
+        return Checked::Passed;
     }
     Checked::Refused(n)
 }
 
-// Whether rows are a sound table for a sound set: the number that turns the set away, else the one that turns the table away.
+// Whether rows are a sound table for a sound set: the number that refuses the set, else the one that refuses the table.
 pub fn check(set: &[u8], rows: &[u16]) -> Checked
-    ensures { λ r. ⌜ (refusalOf r ≡ documentCheckOf (now (set .entry)) (now (rows .entry))) × (r ≡ checkedOf (documentCheckOf (now (set .entry)) (now (rows .entry)))) ⌝ }
+    ensures { λ r. ⌜ checkAnswer r ≡ unless (documentCheckOf (now (set .entry)) (now (rows .entry))) tt ⌝ }
 {
     match automaton::check(set) {
-        Checked::Sound => answer(tests::table(set, rows)),
+        Checked::Passed => answer(tests::table(set, rows)),
         Checked::Refused(n) => Checked::Refused(n),
     }
 }

@@ -1,18 +1,20 @@
 // Marks of numbers that a later one uses: a row that a later row has as a child, a step of a run that a later step takes.
-use crate::rows::PLACES;
-use crate::rows::UNUSED;
-use crate::rows::size;
+use crate::rows::Row;
+use base::limits::PLACES;
+use base::limits::UNUSED;
+use base::numbers::size;
 ghost use mathlib.Core.Path.{_≡_};
 ghost use mathlib.Core.Bool.{true, false};
 ghost use lib.ListN.{getD, set};
 ghost use Rattle.model.specs.Lists.{allBelow};
 ghost use Rattle.document.specs.Rows.{used};
+ghost use Rattle.document.specs.Fields.{numbersOf};
 ghost use Rattle.document.specs.Marks.{Marked};
 
-fn set_mark(marks: &mut [bool], i: u16)
-    ensures { λ r. ⌜ now (marks .exit) ≡ set (now (marks .entry)) i true ⌝ }
+// A mark past the end is none.
+pub fn set_mark(marks: &mut [bool], at: usize)
+    ensures { λ r. ⌜ now (marks .exit) ≡ set (now (marks .entry)) at true ⌝ }
 {
-    let at = size(i);
     if marks.len() <= at {
         return;
     }
@@ -20,26 +22,25 @@ fn set_mark(marks: &mut [bool], i: u16)
 }
 
 // Marks each of the places, up to the first unused one, that is lower than j.
-pub fn mark(marks: &mut [bool], j: u16, places: [u16; PLACES])
-    ensures { λ r. ⌜ Marked j (used places) (now (marks .entry)) (now (marks .exit)) ⌝ }
+pub fn mark(marks: &mut [bool], j: Row, places: [Row; PLACES])
+    ensures { λ r. ⌜ Marked (j .0) (used (numbersOf places)) (now (marks .entry)) (now (marks .exit)) ⌝ }
 {
     let mut k = 0;
     while k < PLACES {
         let x = places[k];
         k += 1;
-        if x == UNUSED {
+        if x.0 == UNUSED {
             return;
         }
-        if x < j {
-            set_mark(marks, x);
+        if x.0 < j.0 {
+            set_mark(marks, size(x.0));
         }
     }
 }
 
-fn is_marked(marks: &[bool], i: u16) -> bool
-    ensures { λ r. ⌜ r ≡ getD (now (marks .entry)) i false ⌝ }
+fn is_marked(marks: &[bool], at: usize) -> bool
+    ensures { λ r. ⌜ r ≡ getD (now (marks .entry)) at false ⌝ }
 {
-    let at = size(i);
     if at < marks.len() {
         return marks[at];
     }
@@ -52,7 +53,7 @@ pub fn all_marked(marks: &[bool], n: u16) -> bool
 {
     let mut i = 0;
     while i < n {
-        if is_marked(marks, i) {
+        if is_marked(marks, size(i)) {
             i += 1;
         } else {
             return false;

@@ -3,15 +3,21 @@ use crate::fields::RowFields;
 use crate::fields::cells_of;
 use crate::scalar::Decoded;
 use crate::scalar::Scalar;
-use crate::scalar::decode;
+use crate::scalar::from_cells;
+use base::limits::MAX_CHILDREN;
+use base::limits::PLACES;
+use base::limits::UNUSED;
+use base::numbers::size;
+use base::numbers::wide;
+use base::space;
 ghost use mathlib.Core.Path.{_≡_};
-ghost use Prim.Native.Nat.{_+_, _/_, _<_};
+ghost use Prim.Native.Nat.{_*_, _/_};
 ghost use lib.ListN.{length};
+ghost use Rattle.model.specs.Space.{putAt};
 ghost use Rattle.document.specs.Rows.{rowCells, cellIn, placesIn, rowIn, encodeRow};
 ghost use Rattle.document.specs.Scalars.{decodeScalar};
-ghost use Rattle.document.specs.Fields.{fieldsRow};
+ghost use Rattle.document.specs.Fields.{asRows, fieldsRow, orBare, fieldsIn};
 ghost use Rattle.document.specs.Check.{placeIn};
-ghost use Rattle.document.specs.Put.{orBare, fieldsIn, putCells};
 
 // A row's number.
 pub struct Row(pub u16);
@@ -19,27 +25,7 @@ pub struct Row(pub u16);
 // The number of a step of a written run.
 pub struct Step(pub u16);
 
-pub const MAX_ROWS: usize = 1024;
-
 pub const ROW_CELLS: usize = 10;
-
-pub const PLACES: usize = 4;
-
-pub const MAX_CHILDREN: u16 = 4;
-
-pub const UNUSED: u16 = 65535;
-
-pub(crate) fn size(x: u16) -> usize
-    ensures { λ r. ⌜ (r ≡ x) × (r < 65536) ⌝ }
-{
-    x as usize
-}
-
-fn wide(x: u16) -> u64
-    ensures { λ r. ⌜ (r ≡ x) × (r < 65536) ⌝ }
-{
-    x as u64
-}
 
 // Cell k of row i.
 pub fn cell(rows: &[u16], i: Row, k: u16) -> u16
@@ -93,21 +79,21 @@ pub fn payload(rows: &[u16], i: Row) -> u64
 fn scalar_of(kind: u16, payload: u64) -> Scalar
     ensures { λ r. ⌜ r ≡ orBare (decodeScalar kind payload) ⌝ }
 {
-    match decode(kind, payload) {
+    match from_cells(kind, payload) {
         Decoded::Is(s) => s,
         Decoded::Not => Scalar::Bare,
     }
 }
 
 // The four places of row i.
-pub(crate) fn places_of(rows: &[u16], i: Row) -> [u16; PLACES]
-    ensures { λ r. ⌜ r ≡ placesIn (now (rows .entry)) (i .0) ⌝ }
+pub(crate) fn places_of(rows: &[u16], i: Row) -> [Row; PLACES]
+    ensures { λ r. ⌜ r ≡ asRows (placesIn (now (rows .entry)) (i .0)) ⌝ }
 {
     [
-        cell(rows, i, 1),
-        cell(rows, i, 2),
-        cell(rows, i, 3),
-        cell(rows, i, 4),
+        Row(cell(rows, i, 1)),
+        Row(cell(rows, i, 2)),
+        Row(cell(rows, i, 3)),
+        Row(cell(rows, i, 4)),
     ]
 }
 
@@ -126,22 +112,14 @@ pub fn fields_at(rows: &[u16], i: Row) -> RowFields
 
 // Makes the cells row i of the space; where they do not fit whole, nothing is written.
 pub fn put_cells(out: &mut [u16], i: Row, cells: [u16; ROW_CELLS])
-    ensures { λ r. ⌜ now (out .exit) ≡ putCells (now (out .entry)) (i .0) cells ⌝ }
+    ensures { λ r. ⌜ now (out .exit) ≡ putAt (now (out .entry)) (i .0 * rowCells) cells ⌝ }
 {
-    let at = size(i.0) * ROW_CELLS;
-    if out.len() < at + ROW_CELLS {
-        return;
-    }
-    let mut k = 0;
-    while k < ROW_CELLS {
-        out[at + k] = cells[k];
-        k += 1;
-    }
+    space::put_cells(out, size(i.0) * ROW_CELLS, &cells);
 }
 
 // The same with a row by value.
 pub fn put_row(out: &mut [u16], i: Row, f: RowFields)
-    ensures { λ r. ⌜ now (out .exit) ≡ putCells (now (out .entry)) (i .0) (encodeRow (fieldsRow f)) ⌝ }
+    ensures { λ r. ⌜ now (out .exit) ≡ putAt (now (out .entry)) (i .0 * rowCells) (encodeRow (fieldsRow f)) ⌝ }
 {
     put_cells(out, i, cells_of(f));
 }

@@ -1,8 +1,6 @@
 // Scalars: the five kinds, their kind and payload in a row, and their equality.
 ghost use mathlib.Core.Path.{_≡_};
 ghost use lib.Ieee.{binary64, toBits};
-ghost use lib.Dec.{T};
-ghost use Rattle.model.specs.Table.{scalar?};
 ghost use Rattle.document.specs.Scalars.{rateOf, kindOf, payloadOf, decodeScalar, hasKindPayload, sameScalar};
 
 // A bit pattern without its sign is a NaN where it is above that of infinity.
@@ -54,10 +52,8 @@ pub fn kind(s: Scalar) -> u16
     }
 }
 
-// The second promise: no value of the type has a kind and a payload that are not a scalar's.
 pub fn payload(s: Scalar) -> u64
     ensures { λ r. ⌜ r ≡ payloadOf s ⌝ }
-    ensures scalar { λ r. ⌜ T (scalar? (kindOf s) (payloadOf s)) ⌝ }
 {
     match s {
         Scalar::Bare => 0,
@@ -75,7 +71,7 @@ pub enum Decoded {
     Not,
 }
 
-pub fn decode(kind: u16, payload: u64) -> Decoded
+pub fn from_cells(kind: u16, payload: u64) -> Decoded
     ensures { λ r. ⌜ r ≡ decodeScalar kind payload ⌝ }
 {
     match kind {
@@ -137,14 +133,11 @@ pub fn same(a: Scalar, b: Scalar) -> bool
     }
 }
 
-// Whether a scalar is what a row's kind and payload hold.
+// Whether a scalar is what a row's kind and payload hold; where they hold none, no value of the type is it.
 pub fn held(s: Scalar, kind: u16, bits: u64) -> bool
     ensures { λ r. ⌜ r ≡ hasKindPayload s kind bits ⌝ }
 {
-    if payload(s) != bits {
-        return false;
-    }
-    match decode(kind, bits) {
+    match from_cells(kind, bits) {
         Decoded::Is(t) => same(s, t),
         Decoded::Not => false,
     }

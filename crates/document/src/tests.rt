@@ -2,27 +2,28 @@
 use crate::fields::cells_of;
 use crate::index::Probed;
 use crate::index::SLOTS;
-use crate::index::probe;
+use crate::index::look_up;
 use crate::index::start_slot;
 use crate::marks::all_marked;
 use crate::marks::mark;
-use crate::rows::MAX_CHILDREN;
-use crate::rows::MAX_ROWS;
 use crate::rows::ROW_CELLS;
 use crate::rows::Row;
-use crate::rows::UNUSED;
 use crate::rows::count;
 use crate::rows::fields_at;
 use crate::rows::kind;
 use crate::rows::payload;
 use crate::rows::place;
 use crate::rows::places_of;
-use crate::rows::size;
 use crate::rows::symbol;
 use crate::scalar::Decoded;
-use crate::scalar::decode;
+use crate::scalar::from_cells;
 use automaton::arity;
 use automaton::header;
+use base::limits::MAX_CHILDREN;
+use base::limits::MAX_LEVELS;
+use base::limits::MAX_ROWS;
+use base::limits::UNUSED;
+use base::numbers::size;
 ghost use mathlib.Core.Path.{_≡_};
 ghost use mathlib.Core.Bool.{false};
 ghost use Prim.Native.Nat.{_-_, _<_, _≤_};
@@ -36,25 +37,26 @@ ghost use Rattle.automaton.specs.Stored.{decode};
 ghost use Rattle.automaton.specs.Check.{checkOf};
 ghost use Rattle.document.specs.Rows.{rowIn, decodeRows};
 ghost use Rattle.document.specs.Index.{probe};
-ghost use Rattle.document.specs.Check.{rowCount, counted?, known?, place?, child?, children?, fits?, scalarFits?, formCheckOf, fresh?, distinctCheckOf, used?, usedCheckOf, levelsCheckOf, tableCheckOf};
+ghost use Rattle.document.specs.Check.{rowCount, counted?, known?, place?, child?, children?, scalarFor?, scalarFits?, formCheckOf, fresh?, distinctCheckOf, used?, usedCheckOf, levelsCheckOf, tableCheckOf};
 ghost use Rattle.document.specs.Marks.{Counted, AllScalars, sameAs, startOf, highestOf};
 
-const MAX_LEVELS: u16 = 256;
+// The length of a scratch over all rows.
+const ROWS: usize = MAX_ROWS as usize;
 
 // 11: 1 to 1,024 rows, none cut short.
 fn counted(rows: &[u16]) -> bool
     ensures { λ r. ⌜ r ≡ counted? (now (rows .entry)) ⌝ }
 {
     let n = count(rows);
-    (1 <= n) & ((n <= MAX_ROWS) & (rows.len() % ROW_CELLS == 0))
+    (1 <= n) & ((n <= ROWS) & (rows.len() % ROW_CELLS == 0))
 }
 
 // 12 at row i.
-fn symbol_known(set: &[u8], rows: &[u16], i: u16) -> bool
-    ensures { λ r. ⌜ r ≡ known? (decode (now (set .entry))) (now (rows .entry)) i ⌝ }
+fn symbol_known(set: &[u8], rows: &[u16], i: Row) -> bool
+    ensures { λ r. ⌜ r ≡ known? (decode (now (set .entry))) (now (rows .entry)) (i .0) ⌝ }
 {
     let h = header(set);
-    symbol(rows, Row(i)) < h.symbols
+    symbol(rows, i) < h.symbols
 }
 
 fn symbols_known(set: &[u8], rows: &[u16], n: u16) -> bool
@@ -63,7 +65,7 @@ fn symbols_known(set: &[u8], rows: &[u16], n: u16) -> bool
 {
     let mut i = 0;
     while i < n {
-        if symbol_known(set, rows, i) {
+        if symbol_known(set, rows, Row(i)) {
             i += 1;
         } else {
             return false;
@@ -72,21 +74,20 @@ fn symbols_known(set: &[u8], rows: &[u16], n: u16) -> bool
     true
 }
 
-fn place_fits(in_use: bool, i: u16, x: u16) -> bool
-    ensures { λ r. ⌜ r ≡ place? «in_use» i x ⌝ }
+fn place_fits(in_use: bool, i: Row, x: Row) -> bool
+    ensures { λ r. ⌜ r ≡ place? «in_use» (i .0) (x .0) ⌝ }
 {
-    if in_use { x < i } else { x == UNUSED }
+    if in_use { x.0 < i.0 } else { x.0 == UNUSED }
 }
 
-fn child_fits(rows: &[u16], i: u16, arity: u16, k: u16) -> bool
-    ensures { λ r. ⌜ r ≡ child? (now (rows .entry)) i arity k ⌝ }
+fn child_fits(rows: &[u16], i: Row, arity: u16, k: u16) -> bool
+    ensures { λ r. ⌜ r ≡ child? (now (rows .entry)) (i .0) arity k ⌝ }
 {
-    let x = place(rows, Row(i), k);
-    place_fits(k < arity, i, x.0)
+    place_fits(k < arity, i, place(rows, i, k))
 }
 
-fn places_fit(rows: &[u16], i: u16, arity: u16) -> bool
-    ensures { λ r. ⌜ r ≡ allBelow maxChildren (child? (now (rows .entry)) i arity) ⌝ }
+fn places_fit(rows: &[u16], i: Row, arity: u16) -> bool
+    ensures { λ r. ⌜ r ≡ allBelow maxChildren (child? (now (rows .entry)) (i .0) arity) ⌝ }
 {
     let n = MAX_CHILDREN;
     let mut k = 0;
@@ -101,10 +102,10 @@ fn places_fit(rows: &[u16], i: u16, arity: u16) -> bool
 }
 
 // 13 at row i.
-fn children_fit(set: &[u8], rows: &[u16], i: u16) -> bool
-    ensures { λ r. ⌜ r ≡ children? (decode (now (set .entry))) (now (rows .entry)) i ⌝ }
+fn children_fit(set: &[u8], rows: &[u16], i: Row) -> bool
+    ensures { λ r. ⌜ r ≡ children? (decode (now (set .entry))) (now (rows .entry)) (i .0) ⌝ }
 {
-    let a = arity(set, symbol(rows, Row(i)));
+    let a = arity(set, symbol(rows, i));
     places_fit(rows, i, a)
 }
 
@@ -114,7 +115,7 @@ fn all_children_fit(set: &[u8], rows: &[u16], n: u16) -> bool
 {
     let mut i = 0;
     while i < n {
-        if children_fit(set, rows, i) {
+        if children_fit(set, rows, Row(i)) {
             i += 1;
         } else {
             return false;
@@ -126,14 +127,14 @@ fn all_children_fit(set: &[u8], rows: &[u16], n: u16) -> bool
 fn is_scalar(kind: u16, payload: u64) -> bool
     ensures { λ r. ⌜ r ≡ scalar? kind payload ⌝ }
 {
-    match decode(kind, payload) {
+    match from_cells(kind, payload) {
         Decoded::Is(_) => true,
         Decoded::Not => false,
     }
 }
 
 fn fits_arity(arity: u16, kind: u16, payload: u64) -> bool
-    ensures { λ r. ⌜ r ≡ fits? arity kind payload ⌝ }
+    ensures { λ r. ⌜ r ≡ scalarFor? arity kind payload ⌝ }
 {
     if arity == 0 {
         return is_scalar(kind, payload);
@@ -142,11 +143,11 @@ fn fits_arity(arity: u16, kind: u16, payload: u64) -> bool
 }
 
 // 14 at row i.
-fn scalar_fits(set: &[u8], rows: &[u16], i: u16) -> bool
-    ensures { λ r. ⌜ r ≡ scalarFits? (decode (now (set .entry))) (now (rows .entry)) i ⌝ }
+fn scalar_fits(set: &[u8], rows: &[u16], i: Row) -> bool
+    ensures { λ r. ⌜ r ≡ scalarFits? (decode (now (set .entry))) (now (rows .entry)) (i .0) ⌝ }
 {
-    let a = arity(set, symbol(rows, Row(i)));
-    fits_arity(a, kind(rows, Row(i)), payload(rows, Row(i)))
+    let a = arity(set, symbol(rows, i));
+    fits_arity(a, kind(rows, i), payload(rows, i))
 }
 
 fn all_scalars_fit(set: &[u8], rows: &[u16], n: u16) -> bool
@@ -155,7 +156,7 @@ fn all_scalars_fit(set: &[u8], rows: &[u16], n: u16) -> bool
 {
     let mut i = 0;
     while i < n {
-        if scalar_fits(set, rows, i) {
+        if scalar_fits(set, rows, Row(i)) {
             i += 1;
         } else {
             return false;
@@ -185,12 +186,12 @@ pub(crate) fn form(set: &[u8], rows: &[u16]) -> u16
 }
 
 // Looks for row j among the rows that the slots index.
-fn probe_row(rows: &[u16], slots: &[u16; SLOTS], j: u16) -> Probed
-    requires { ⌜ T (scalar? ((rowIn (now rows) j) .kind) ((rowIn (now rows) j) .payload)) ⌝ }
-    ensures { λ r. ⌜ r ≡ probe (now (slots .entry)) (sameAs (now (rows .entry)) j) (startOf (now (rows .entry)) j) ⌝ }
+fn probe_row(rows: &[u16], slots: &[u16; SLOTS], j: Row) -> Probed
+    requires { ⌜ T (scalar? ((rowIn (now rows) (j .0)) .kind) ((rowIn (now rows) (j .0)) .payload)) ⌝ }
+    ensures { λ r. ⌜ r ≡ probe (now (slots .entry)) (sameAs (now (rows .entry)) (j .0)) (startOf (now (rows .entry)) (j .0)) ⌝ }
 {
-    let f = fields_at(rows, Row(j));
-    probe(rows, slots, start_slot(cells_of(f)), f)
+    let f = fields_at(rows, j);
+    look_up(rows, slots, start_slot(cells_of(f)), f)
 }
 
 // 15: each row is looked for among the earlier ones, then entered.
@@ -201,7 +202,7 @@ fn all_distinct(rows: &[u16], n: u16) -> bool
     let mut slots = [0u16; SLOTS];
     let mut j = 0;
     while j < n {
-        let found = probe_row(rows, &slots, j);
+        let found = probe_row(rows, &slots, Row(j));
         j += 1;
         match found {
             Probed::Found(_) => return false,
@@ -225,11 +226,11 @@ fn all_used(rows: &[u16], n: u16) -> bool
     requires { ⌜ Counted (now rows) n ⌝ }
     ensures { λ r. ⌜ r ≡ allBelow (length (decodeRows (now (rows .entry))) - 1) (used? (decodeRows (now (rows .entry)))) ⌝ }
 {
-    let mut used = [false; MAX_ROWS];
+    let mut used = [false; ROWS];
     let mut j = 0;
     while j < n {
         let places = places_of(rows, Row(j));
-        mark(&mut used, j, places);
+        mark(&mut used, Row(j), places);
         j += 1;
     }
     all_marked(&used, n - 1)
@@ -244,10 +245,10 @@ fn larger_of(a: u16, b: u16) -> u16
     a
 }
 
-fn height_at(heights: &[u16], c: u16) -> u16
-    ensures { λ r. ⌜ r ≡ getD (now (heights .entry)) c 0 ⌝ }
+fn height_at(heights: &[u16], c: Row) -> u16
+    ensures { λ r. ⌜ r ≡ getD (now (heights .entry)) (c .0) 0 ⌝ }
 {
-    let at = size(c);
+    let at = size(c.0);
     if at < heights.len() {
         return heights[at];
     }
@@ -255,19 +256,19 @@ fn height_at(heights: &[u16], c: u16) -> u16
 }
 
 // The height of row i's highest child, 0 where it has none.
-fn highest_child(rows: &[u16], heights: &[u16], i: u16) -> u16
-    ensures { λ r. ⌜ r ≡ highestOf (now (heights .entry)) ((rowIn (now (rows .entry)) i) .children) ⌝ }
+fn highest_child(rows: &[u16], heights: &[u16], i: Row) -> u16
+    ensures { λ r. ⌜ r ≡ highestOf (now (heights .entry)) ((rowIn (now (rows .entry)) (i .0)) .children) ⌝ }
 {
     let n = MAX_CHILDREN;
     let mut k = 0;
     let mut h = 0;
     while k < n {
-        let c = place(rows, Row(i), k);
+        let c = place(rows, i, k);
         k += 1;
         if c.0 == UNUSED {
             return h;
         }
-        h = larger_of(h, height_at(heights, c.0));
+        h = larger_of(h, height_at(heights, c));
     }
     h
 }
@@ -277,14 +278,14 @@ fn levels_of(rows: &[u16], n: u16) -> u16
     requires { ⌜ Counted (now rows) n × Lower (decodeRows (now rows)) ⌝ }
     ensures { λ r. ⌜ r ≡ levels (treeOf (decodeRows (now (rows .entry)))) ⌝ }
 {
-    let mut heights = [0u16; MAX_ROWS];
+    let mut heights = [0u16; ROWS];
     let mut i = 0;
     while i < n {
-        let h = highest_child(rows, &heights, i) + 1;
+        let h = highest_child(rows, &heights, Row(i)) + 1;
         heights[size(i)] = h;
         i += 1;
     }
-    height_at(&heights, n - 1)
+    height_at(&heights, Row(n - 1))
 }
 
 // 16, or 0.

@@ -1,242 +1,31 @@
 // The cases and edges of document 01, section "Examples, with the edges", run: a line for each, and `stdout` has what the paper says.
 use automaton::Checked;
+use base::limits::UNUSED;
+use base::space::put;
 use boolean::Combined;
 use console::OUTPUT;
 use document::Scalar;
 use document::fields::RowFields;
 use document::rows::Row;
-use document::rows::UNUSED;
 use document::rows::put_row;
 use libc::STDOUT_FILENO;
 use membership::Judged;
-use names::bytes::put;
 
 // Set E: state 0 with tag 0, state 1 final; pair(0,0) to 1, a to 0, b to 0.
-const E: [u8; 59] = [
-    3,
-    0,
-    2,
-    0,
-    1,
-    0,
-    3,
-    0,
-    16,
-    0,
-    19,
-    0,
-    23,
-    0,
-    59,
-    0,
-    2,
-    0,
-    0,
-    0,
-    1,
-    1,
-    0,
-    0,
-    0,
-    1,
-    0,
-    0,
-    0,
-    0,
-    0,
-    255,
-    255,
-    255,
-    255,
-    1,
-    0,
-    0,
-    0,
-    255,
-    255,
-    255,
-    255,
-    255,
-    255,
-    255,
-    255,
-    2,
-    0,
-    0,
-    0,
-    255,
-    255,
-    255,
-    255,
-    255,
-    255,
-    255,
-    255,
-];
+const E: [u8; 59] =
+    *b"\x03\x00\x02\x00\x01\x00\x03\x00\x10\x00\x13\x00\x17\x00\x3b\x00\x02\x00\x00\x00\x01\x01\x00\x00\x00\x01\x00\x00\x00\x00\x00\xff\xff\xff\xff\x01\x00\x00\x00\xff\xff\xff\xff\xff\xff\xff\xff\x02\x00\x00\x00\xff\xff\xff\xff\xff\xff\xff\xff";
 
 // Set G: q = 0 final, r = 1 with tag 0; g(q) to r, g(r) to q, a to q.
-const G: [u8; 58] = [
-    2,
-    0,
-    2,
-    0,
-    1,
-    0,
-    3,
-    0,
-    16,
-    0,
-    18,
-    0,
-    22,
-    0,
-    58,
-    0,
-    1,
-    0,
-    1,
-    0,
-    0,
-    1,
-    0,
-    0,
-    1,
-    0,
-    0,
-    0,
-    255,
-    255,
-    255,
-    255,
-    255,
-    255,
-    0,
-    0,
-    0,
-    0,
-    1,
-    0,
-    255,
-    255,
-    255,
-    255,
-    255,
-    255,
-    1,
-    0,
-    0,
-    0,
-    255,
-    255,
-    255,
-    255,
-    255,
-    255,
-    255,
-    255,
-];
+const G: [u8; 58] =
+    *b"\x02\x00\x02\x00\x01\x00\x03\x00\x10\x00\x12\x00\x16\x00\x3a\x00\x01\x00\x01\x00\x00\x01\x00\x00\x01\x00\x00\x00\xff\xff\xff\xff\xff\xff\x00\x00\x00\x00\x01\x00\xff\xff\xff\xff\xff\xff\x01\x00\x00\x00\xff\xff\xff\xff\xff\xff\xff\xff";
 
 // Set D: only pair(0,0) to 0, state 0 final.
-const D: [u8; 33] = [
-    3,
-    0,
-    1,
-    0,
-    0,
-    0,
-    1,
-    0,
-    16,
-    0,
-    19,
-    0,
-    21,
-    0,
-    33,
-    0,
-    2,
-    0,
-    0,
-    1,
-    0,
-    0,
-    0,
-    0,
-    0,
-    0,
-    0,
-    0,
-    0,
-    255,
-    255,
-    255,
-    255,
-];
+const D: [u8; 33] =
+    *b"\x03\x00\x01\x00\x00\x00\x01\x00\x10\x00\x13\x00\x15\x00\x21\x00\x02\x00\x00\x01\x00\x00\x00\x00\x00\x00\x00\x00\x00\xff\xff\xff\xff";
 
 // Set B, untagged: a to 0, a to 1, pair(0,1) to 2, 2 final.
-const B: [u8; 61] = [
-    3,
-    0,
-    3,
-    0,
-    0,
-    0,
-    3,
-    0,
-    16,
-    0,
-    19,
-    0,
-    25,
-    0,
-    61,
-    0,
-    2,
-    0,
-    0,
-    0,
-    0,
-    0,
-    0,
-    1,
-    0,
-    0,
-    0,
-    2,
-    0,
-    0,
-    0,
-    1,
-    0,
-    255,
-    255,
-    255,
-    255,
-    1,
-    0,
-    0,
-    0,
-    255,
-    255,
-    255,
-    255,
-    255,
-    255,
-    255,
-    255,
-    1,
-    0,
-    1,
-    0,
-    255,
-    255,
-    255,
-    255,
-    255,
-    255,
-    255,
-    255,
-];
+const B: [u8; 61] =
+    *b"\x03\x00\x03\x00\x00\x00\x03\x00\x10\x00\x13\x00\x19\x00\x3d\x00\x02\x00\x00\x00\x00\x00\x00\x01\x00\x00\x00\x02\x00\x00\x00\x01\x00\xff\xff\xff\xff\x01\x00\x00\x00\xff\xff\xff\xff\xff\xff\xff\xff\x01\x00\x01\x00\xff\xff\xff\xff\xff\xff\xff\xff";
 
 // The cells of 1,025 rows.
 const CELLS: usize = 10250;
@@ -253,7 +42,7 @@ fn refused(n: u16) {
 
 fn checked(c: Checked) {
     match c {
-        Checked::Sound => say(b"sound\n"),
+        Checked::Passed => say(b"sound\n"),
         Checked::Refused(n) => refused(n),
     }
 }
@@ -319,7 +108,7 @@ fn together() {
 fn little_room() {
     let mut cells = [0u16; 20];
     put_row(&mut cells, Row(0), leaf(7));
-    put_row(&mut cells, Row(1), pair(0, 0));
+    put_row(&mut cells, Row(1), pair(Row(0), Row(0)));
     let mut work = [0u16; 32];
     let mut run = [0u16; 6];
     say(b"E, pair(a=7,a=7), room 1: ");
@@ -366,28 +155,29 @@ fn symbols(case: &[u8], n: u8) {
 fn leaf(count: u16) -> RowFields {
     RowFields {
         symbol: 1,
-        places: [UNUSED; 4],
+        places: [Row(UNUSED); 4],
         scalar: Scalar::Count(count as u64),
     }
 }
 
-fn pair(a: u16, b: u16) -> RowFields {
+fn pair(a: Row, b: Row) -> RowFields {
     RowFields {
         symbol: 0,
-        places: [a, b, UNUSED, UNUSED],
+        places: [a, b, Row(UNUSED), Row(UNUSED)],
         scalar: Scalar::Bare,
     }
 }
 
-// Row i of a table: 512 leaves, 511 pairs that join them to one tree, and pairs of all so far with the first leaf.
-fn row(i: u16) -> RowFields {
+// The fields of row number i of a table: 512 leaves, 511 pairs that join them to one tree, and pairs of all so far with the first leaf.
+fn fields(i: u16) -> RowFields {
     if i < 512 {
         return leaf(i);
     }
     if i < 1023 {
-        return pair(2 * (i - 512), 2 * (i - 512) + 1);
+        let a = 2 * (i - 512);
+        return pair(Row(a), Row(a + 1));
     }
-    pair(i - 1, 0)
+    pair(Row(i - 1), Row(0))
 }
 
 // A table of so many rows.
@@ -396,7 +186,7 @@ fn table(case: &[u8], rows: u16) {
     let mut cells = [0u16; CELLS];
     let mut i = 0;
     while i < rows {
-        put_row(&mut cells, Row(i), row(i));
+        put_row(&mut cells, Row(i), fields(i));
         i += 1;
     }
     let n = rows as usize * 10;

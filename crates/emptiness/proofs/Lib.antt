@@ -11,5 +11,6 @@ pub mod Rooting
 pub mod Rooted
 pub mod Puts
 pub mod Verdicts
+pub mod Answered
 pub mod Meaning
 pub mod Outcome

@@ -142,7 +142,7 @@ module _ (A : Automaton) (marks : List ℕ) (q : ℕ) where
       (and-T (leb x (i * maxChildren + k)) (eqb (place (ruleAt A i) k) q) (T-true (leb x (i * maxChildren + k)) .1 (le-leb x (i * maxChildren + k) a)) (subst (λ z. T (eqb z q)) (sym e ∙ place-number A i k l) (eqb-refl q)))
 
   module _ (last before next₀ added₀ : List ℕ) (n₀ : ℕ) (L : Linked A (placesOf A) last before) where
-    pub follow-start : (x : ℕ) → q < 256 → x ≡ getD last q 0 → Following A marks q x next₀ added₀ n₀ next₀ added₀ n₀
+    follow-start : (x : ℕ) → q < 256 → x ≡ getD last q 0 → Following A marks q x next₀ added₀ n₀ next₀ added₀ n₀
     follow-start x l ex =
         let M : Last A q (placesOf A) x = subst (Last A q (placesOf A)) (sym ex) (L .lasts q l) in
         record {
@@ -168,13 +168,13 @@ module _ (A : Automaton) (marks : List ℕ) (q : ℕ) where
       M : Last A q p (getD before p 0)
       M = subst (λ z. Last A z p (getD before p 0)) (F .names p one-less) (L .befores p (omega (arith, one-less, F .inside)) (let e = F .names p one-less in omega (arith, F .small)))
 
-      pub follow-less : (y : ℕ) → y ≡ getD before p 0 → y < x
+      follow-less : (y : ℕ) → y ≡ getD before p 0 → y < x
       follow-less y ey = omega (arith, M .inside, one-less)
 
-      pub rule-in : (i : ℕ) → i ≡ p / 4 → i < length (A .rules)
-      rule-in i ei = omega (arith, F .inside, one-less)
+      rule-known : (i : ℕ) → i ≡ p / 4 → i < length (A .rules)
+      rule-known i ei = omega (arith, F .inside, one-less)
 
-      pub follow-more : (i y n′ : ℕ) (next′ added′ : List ℕ) → i ≡ p / 4 → y ≡ getD before p 0 → Tries A marks (this? i) next added n next′ added′ n′ → Following A marks q y next₀ added₀ n₀ next′ added′ n′
+      follow-more : (i y n′ : ℕ) (next′ added′ : List ℕ) → i ≡ p / 4 → y ≡ getD before p 0 → Tries A marks (this? i) next added n next′ added′ n′ → Following A marks q y next₀ added₀ n₀ next′ added′ n′
       unfolding this?
       follow-more i y n′ next′ added′ ei ey T′ =
           let N : Last A q p y = subst (Last A q p) (sym ey) M in
@@ -200,8 +200,30 @@ module _ (A : Automaton) (marks : List ℕ) (q : ℕ) where
               go k lk a e (no l) (yes c) = let f : i ≡ j = omega arith in or-right (done j || named? A q x j) (eqb j i) (subst (λ z. T (eqb j z)) (sym f) (eqb-refl j))
               go k lk a e (no l) (no c) = or-left (done j || named? A q x j) (eqb j i) (or-right (done j) (named? A q x j) (at-named x j k lk (omega (arith, one-less)) e))
 
-    pub follow-end : (x n : ℕ) (next added : List ℕ) → x ≡ 0 → Following A marks q x next₀ added₀ n₀ next added n → q < maxStates → Tries A marks (named? A q 0) next₀ added₀ n₀ next added n
+    follow-end : (x n : ℕ) (next added : List ℕ) → x ≡ 0 → Following A marks q x next₀ added₀ n₀ next added n → q < maxStates → Tries A marks (named? A q 0) next₀ added₀ n₀ next added n
     follow-end x n next added e F l = subst (λ z. Tries A marks (named? A q z) next₀ added₀ n₀ next added n) e (F .tries)
+
+-- the same of whichever state's list begins at number x₀
+pub record Follows (A : Automaton) (marks last : List ℕ) (x₀ x : ℕ) (next₀ added₀ : List ℕ) (n₀ : ℕ) (next added : List ℕ) (n : ℕ) : Type 0 where
+  pub gives : (q : ℕ) → q < maxStates → x₀ ≡ getD last q 0 → Following A marks q x next₀ added₀ n₀ next added n
+
+module _ (A : Automaton) (marks last before next₀ added₀ : List ℕ) (n₀ x₀ : ℕ) (L : Linked A (placesOf A) last before) where
+  pub follows-start : Follows A marks last x₀ x₀ next₀ added₀ n₀ next₀ added₀ n₀
+  follows-start = record { gives = λ q l e. follow-start A marks q last before next₀ added₀ n₀ L x₀ l e }
+
+  module _ (x p : ℕ) (next added : List ℕ) (n : ℕ) (F : Follows A marks last x₀ x next₀ added₀ n₀ next added n) (h : x ≡ 0 → ⊥) (ep : p ≡ x - 1) where
+    pub follows-more : (i y n′ : ℕ) (next′ added′ : List ℕ) → i ≡ p / 4 → y ≡ getD before p 0 → Tries A marks (this? i) next added n next′ added′ n′ → Follows A marks last x₀ y next₀ added₀ n₀ next′ added′ n′
+    follows-more i y n′ next′ added′ ei ey T′ = record { gives = λ q l e. follow-more A marks q last before next₀ added₀ n₀ L x p next added n (F .gives q l e) h ep i y n′ next′ added′ ei ey T′ }
+
+    module _ (q : ℕ) (e : x₀ ≡ getD last q 0) (l : q < 256) where
+      pub follows-less : (y : ℕ) → y ≡ getD before p 0 → y < x
+      follows-less = follow-less A marks q last before next₀ added₀ n₀ L x p next added n (F .gives q l e) h ep
+
+      pub rule-in : (i : ℕ) → i ≡ p / 4 → i < length (A .rules)
+      rule-in = rule-known A marks q last before next₀ added₀ n₀ L x p next added n (F .gives q l e) h ep
+
+  pub follows-end : (q x n : ℕ) (next added : List ℕ) → x ≡ 0 → x₀ ≡ getD last q 0 → Follows A marks last x₀ x next₀ added₀ n₀ next added n → q < maxStates → Tries A marks (named? A q 0) next₀ added₀ n₀ next added n
+  follows-end q x n next added z e F l = follow-end A marks q last before next₀ added₀ n₀ L x n next added z (F .gives q l e) l
 
 -- a number that is no state's names nothing
 pub no-state : (A : Automaton) (marks : List ℕ) (q : ℕ) (next added : List ℕ) (n : ℕ) → 256 ≤ q → q < maxStates → Tries A marks (named? A q 0) next added n next added n
@@ -209,4 +231,4 @@ no-state A marks q next added n l g = let z : ⊥ = omega arith in absurd z
 
 pub ruleset linking = (child-at, linked-past, linked-more, needs)
 
-pub ruleset following = (sound-decode, follow-start, follow-less, rule-in, follow-more, follow-end, no-state, needs)
+pub ruleset following = (sound-decode, follows-start, follows-less, rule-in, follows-more, follows-end, no-state, needs)

@@ -1,6 +1,6 @@
 -- Laws for the functions that mark: what each return and each loop of theirs shows. Assumes nothing.
 use mathlib.Core.Path.{_≡_, refl, sym, ap, _∙_, subst}
-use mathlib.Core.List.{List}
+use mathlib.Core.List.{List, map}
 use mathlib.Core.Logic.{_⊎_, inl, inr}
 use mathlib.Core.Bool.{Bool, true, false, _&&_, _||_}
 use Prim.Native.Nat.{ℕ, suc, _+_, _<_, _≤_}
@@ -10,7 +10,7 @@ use native.Mathlib.Omega.{arith}
 use borrow.Author.Needs.{needs}
 use borrow.Author.Tests.{eqb-false, ltb-true, ltb-false}
 use lib.Dec.{T, eqb, ltb, eqb→eq}
-use lib.ListN.{length, getD, replicate, List·getD-eq-default}
+use lib.ListN.{length, getD, replicate, List·getD-eq-default, List·getD-map}
 use Rattle.model.specs.Limits.{maxChildren, maxStates, unused}
 use Rattle.model.specs.Automaton.{State, Automaton, noState, arityOf, final?}
 use Rattle.model.specs.Order.{place}
@@ -21,11 +21,12 @@ use Rattle.model.proofs.Rows.{in-getD}
 use Rattle.model.proofs.Tab.{tab-at}
 use Rattle.automaton.specs.Stored.{decode}
 use Rattle.automaton.specs.Check.{checkOf}
-use Rattle.automaton.specs.Answer.{Holds}
+use Rattle.automaton.specs.Answer.{IsRule}
+use Rattle.automaton.specs.declared.State as number
 use Rattle.automaton.specs.declared.StoredRule.{StoredRule}
 use Rattle.automaton.proofs.Sound.{sound-decode}
 use Rattle.emptiness.specs.Places.{named?}
-use Rattle.emptiness.specs.Marking.{marked?, childMarked?, ready?, this?, early?, woken?, Tried, Tries, Woken, LowestAdded}
+use Rattle.emptiness.specs.Marking.{marked?, childMarked?, ready?, this?, early?, propagated?, Tried, Tries, Propagated, LowestAdded}
 use Rattle.emptiness.proofs.Tries.{T-or, tried-none}
 use Rattle.emptiness.proofs.Links.{zeros-long}
 
@@ -47,8 +48,15 @@ module _ (s : List ℕ) (sound : checkOf s ≡ 0) where
 pub rule-small : (s : List ℕ) (i : ℕ) → checkOf s ≡ 0 → i < length ((decode s) .rules) → i + 1 < 65536
 rule-small s i c l = omega (arith, sound-decode s c .few-rules)
 
+pub child-few : (s : List ℕ) (i f k x : ℕ) → checkOf s ≡ 0 → f ≡ (ruleAt (decode s) i) .symbol → x ≡ arityOf (decode s) f → k < x → k < 4
+child-few s i f k x c ef ex l = let e = ex ∙ ap (arityOf (decode s)) ef in omega (arith, sound-decode s c .few-children ((ruleAt (decode s) i) .symbol))
+
+-- the state in place k of a rule's
+pub marked-at : (marks : List ℕ) (ps : List number.State) (k at : ℕ) (b : Bool) → b ≡ marked? marks ((getD ps at (record { 0 = 0 })) .0) → at ≡ k → b ≡ marked? marks (getD (map (λ q. q .0) ps) k 0)
+marked-at marks ps k at b e ea = e ∙ ap (marked? marks) (sym (List·getD-map (λ (q : number.State). q .0) ps at (record { 0 = 0 })) ∙ ap (λ j. getD (map (λ q. q .0) ps) j 0) ea)
+
 -- the children of rule i, read once: those before place k are marked
-module _ (s : List ℕ) (sound : checkOf s ≡ 0) (marks : List ℕ) (i n k : ℕ) (l : i < length ((decode s) .rules)) (x : StoredRule) (H : Holds x (ruleAt (decode s) i)) (p : Passed (childMarked? marks (ruleAt (decode s) i)) (length ((ruleAt (decode s) i) .children)) n k) (lk : k < n) (b : Bool) (eb : b ≡ marked? marks (getD (x .places) k 0)) where
+module _ (s : List ℕ) (sound : checkOf s ≡ 0) (marks : List ℕ) (i n k : ℕ) (l : i < length ((decode s) .rules)) (x : StoredRule) (H : IsRule x (ruleAt (decode s) i)) (p : Passed (childMarked? marks (ruleAt (decode s) i)) (length ((ruleAt (decode s) i) .children)) n k) (lk : k < n) (b : Bool) (eb : b ≡ marked? marks (getD (map (λ q. q .0) (x .places)) k 0)) where
   child-is : b ≡ childMarked? marks (ruleAt (decode s) i) k
   unfolding childMarked?
   child-is =
@@ -76,20 +84,20 @@ module _ (s : List ℕ) where
   round-all marks next added n i r t l g e = let q : i ≡ length ((decode s) .rules) = omega arith in subst (λ z. Tried (decode s) marks (early? z) next added n) q t
 
   module _ (marks states : List ℕ) where
-    pub woken-none : Woken (decode s) marks states 0 marks (replicate maxStates 0) 0
-    unfolding woken?
-    woken-none = record { gives = λ l h. tried-none (decode s) marks (woken? (decode s) states 0) (replicate maxStates 0) (λ j d. d) l (zeros-long maxStates) }
+    pub propagated-none : Propagated (decode s) marks states 0 marks (replicate maxStates 0) 0
+    unfolding propagated?
+    propagated-none = record { gives = λ l h. tried-none (decode s) marks (propagated? (decode s) states 0) (replicate maxStates 0) (λ j d. d) l (zeros-long maxStates) }
 
-    pub woken-more : (next added next′ added′ : List ℕ) (m m′ x q : ℕ) → Woken (decode s) marks states x next added m → q ≡ getD states x 0 → (q < maxStates → Tries (decode s) marks (named? (decode s) q 0) next added m next′ added′ m′) → Woken (decode s) marks states (x + 1) next′ added′ m′
-    unfolding woken?
-    woken-more next added next′ added′ m m′ x q W e T′ = rw add-one (record {
+    pub propagated-more : (next added next′ added′ : List ℕ) (m m′ x q : ℕ) → Propagated (decode s) marks states x next added m → q ≡ getD states x 0 → (q < maxStates → Tries (decode s) marks (named? (decode s) q 0) next added m next′ added′ m′) → Propagated (decode s) marks states (x + 1) next′ added′ m′
+    unfolding propagated?
+    propagated-more next added next′ added′ m m′ x q W e T′ = rw add-one (record {
       gives = λ l h.
-          subst (λ z. Tried (decode s) marks (λ j. woken? (decode s) states x j || named? (decode s) z 0 j) next′ added′ m′) e
-          (T′ (let g = h x (omega arith) in omega arith) .gives (woken? (decode s) states x) (W .gives l (λ y ly. h y (omega arith))));
+          subst (λ z. Tried (decode s) marks (λ j. propagated? (decode s) states x j || named? (decode s) z 0 j) next′ added′ m′) e
+          (T′ (let g = h x (omega arith) in omega arith) .gives (propagated? (decode s) states x) (W .gives l (λ y ly. h y (omega arith))));
     })
 
-    pub woken-all : (next added : List ℕ) (m x n : ℕ) → Woken (decode s) marks states x next added m → x ≤ n → n ≤ x → Woken (decode s) marks states n next added m
-    woken-all next added m x n W l g = let q : x ≡ n = omega arith in subst (λ z. Woken (decode s) marks states z next added m) q W
+    pub propagated-all : (next added : List ℕ) (m x n : ℕ) → Propagated (decode s) marks states x next added m → x ≤ n → n ≤ x → Propagated (decode s) marks states n next added m
+    propagated-all next added m x n W l g = let q : x ≡ n = omega arith in subst (λ z. Propagated (decode s) marks states z next added m) q W
 
 final-in : (A : Automaton) (q : ℕ) → final? A q ≡ true → q < length (A .states)
 final-in A q e = go (decLt q (length (A .states)))
@@ -153,6 +161,6 @@ pub ruleset readying = (width-is, passed-none, ready-more, ready-stop, passed-al
 
 pub ruleset rounding = (round-start, round-more, round-all, needs)
 
-pub ruleset waking = (woken-none, woken-more, woken-all, needs)
+pub ruleset propagating = (propagated-none, propagated-more, propagated-all, needs)
 
 pub ruleset lows = (low-none, low-this, low-other, low-all, needs)

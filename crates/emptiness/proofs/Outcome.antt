@@ -1,31 +1,35 @@
 -- The entry point's answers: the set is tried first, then the space and the tags, then what was found stands. Assumes nothing.
 use mathlib.Core.Path.{_≡_, refl, sym, ap, _∙_}
 use mathlib.Core.List.{List}
-use mathlib.Core.Option.{Option, none, some}
+use mathlib.Core.Option.{Option}
 use Prim.Native.Nat.{ℕ, zero, suc, _*_, _/_, _<_, _≤_}
 use native.Mathlib.Omega.{arith}
 use borrow.Author.Needs.{needs}
 use borrow.Author.Tests.{leb-true}
 use lib.Dec.{leb}
 use lib.ListN.{length}
-use Rattle.model.specs.Refusal.{demand}
+use Rattle.model.specs.Refusal.{demand, gives, refuses, unless}
 use Rattle.model.specs.Tree.{Tree}
 use Rattle.model.specs.Witness.{witness, apart?}
 use Rattle.automaton.specs.Stored.{decode}
 use Rattle.automaton.specs.Check.{checkOf}
-use Rattle.automaton.specs.Answer.{checkedOf}
+use Rattle.automaton.specs.Answer.{checkAnswer}
 use Rattle.automaton.specs.declared.Checked.{Checked}
 use Rattle.automaton.specs.declared.Checked.the-variants as checked
-use Rattle.automaton.proofs.Verdict.{sound-zero, refused-after, sound-after, refused-some}
+use Rattle.automaton.proofs.Verdict.{passed-zero, refused-after, passed-after, refused-some}
 use Rattle.document.specs.Rows.{rowCells}
 use Rattle.document.proofs.Refusals.{passed}
 use Rattle.emptiness.specs.declared.Emptiness.{Emptiness}
-use Rattle.emptiness.specs.declared.Emptiness.the-variants.{Refused}
-use Rattle.emptiness.specs.Answer.{sampleCheckOf, witnessCheckOf, answerOf, spaceOf, emptinessOf, spaceAfter, refusalOf}
+use Rattle.emptiness.specs.Answer.{sampleCheckOf, witnessCheckOf, emptinessAnswer, shapeOf, spaceOf, emptinessOf, spaceAfter}
 
-refused-answer : (k m : ℕ) (o : Option Tree) → m ≡ k → 0 < m → Refused m ≡ answerOf k o
+refused-answer : (k m : ℕ) (o : Option (ℕ × ℕ)) → m ≡ k → 0 < m → refuses m ≡ unless k o
+unfolding unless
 refused-answer zero m o e l = let z : ⊥ = omega arith in absurd z
-refused-answer (suc k) m o e l = ap Refused e
+refused-answer (suc k) m o e l = ap refuses e
+
+given-answer : (k : ℕ) (o : Option (ℕ × ℕ)) → k ≡ 0 → gives o ≡ unless k o
+unfolding unless
+given-answer k o e = rw e
 
 refused-cells : (k m : ℕ) (o : Option Tree) (cells : List ℕ) → m ≡ k → 0 < m → cells ≡ spaceOf k o cells
 refused-cells zero m o cells e l = let z : ⊥ = omega arith in absurd z
@@ -35,38 +39,31 @@ above-zero : (x : ℕ) → (x ≡ 0 → ⊥) → 0 < x
 above-zero zero h = absurd (h refl)
 above-zero (suc x) h = omega arith
 
-no-refusal : (o : Option Tree) → refusalOf (answerOf 0 o) ≡ 0
-no-refusal none = refl
-no-refusal (some w) = refl
-
-module _ (s cells : List ℕ) (r : Checked) (er : r ≡ checkedOf (checkOf s)) where
-  pub set-number : (m : ℕ) → r ≡ checked.Refused m → m ≡ witnessCheckOf s (length cells)
+module _ (s cells : List ℕ) (r : Checked) (er : checkAnswer r ≡ unless (checkOf s) tt) where
+  set-number : (m : ℕ) → r ≡ checked.Refused m → m ≡ witnessCheckOf s (length cells)
   unfolding witnessCheckOf
-  set-number m e = refused-after r (checkOf s) m (sampleCheckOf (decode s) (length cells)) er e
+  set-number m e = refused-after r (checkOf s) er m (sampleCheckOf (decode s) (length cells)) e
 
-  pub set-answer : (m : ℕ) → r ≡ checked.Refused m → Refused m ≡ emptinessOf s (length cells)
-  set-answer m e = refused-answer (witnessCheckOf s (length cells)) m (witness (decode s)) (set-number m e) (refused-some r (checkOf s) m er e)
+  pub set-answer : (m : ℕ) → r ≡ checked.Refused m → refuses m ≡ emptinessOf s (length cells)
+  set-answer m e = refused-answer (witnessCheckOf s (length cells)) m (shapeOf (witness (decode s))) (set-number m e) (refused-some r (checkOf s) er m e)
 
   pub set-space : (m : ℕ) → r ≡ checked.Refused m → cells ≡ spaceAfter s cells
-  set-space m e = refused-cells (witnessCheckOf s (length cells)) m (witness (decode s)) cells (set-number m e) (refused-some r (checkOf s) m er e)
+  set-space m e = refused-cells (witnessCheckOf s (length cells)) m (witness (decode s)) cells (set-number m e) (refused-some r (checkOf s) er m e)
 
-  module _ (eS : r ≡ checked.Sound) (x : ℕ) (ex : x ≡ sampleCheckOf (decode s) (length cells)) where
-    pub sample-number : x ≡ witnessCheckOf s (length cells)
+  module _ (eS : r ≡ checked.Passed) (x : ℕ) (ex : x ≡ sampleCheckOf (decode s) (length cells)) where
+    sample-number : x ≡ witnessCheckOf s (length cells)
     unfolding witnessCheckOf
-    sample-number = ex ∙ sound-after r (checkOf s) (sampleCheckOf (decode s) (length cells)) er eS
+    sample-number = ex ∙ passed-after r (checkOf s) er (sampleCheckOf (decode s) (length cells)) eS
 
-    pub sample-answer : (x ≡ 0 → ⊥) → Refused x ≡ emptinessOf s (length cells)
-    sample-answer h = refused-answer (witnessCheckOf s (length cells)) x (witness (decode s)) sample-number (above-zero x h)
+    pub sample-answer : (x ≡ 0 → ⊥) → refuses x ≡ emptinessOf s (length cells)
+    sample-answer h = refused-answer (witnessCheckOf s (length cells)) x (shapeOf (witness (decode s))) sample-number (above-zero x h)
 
     pub sample-space : (x ≡ 0 → ⊥) → cells ≡ spaceAfter s cells
     sample-space h = refused-cells (witnessCheckOf s (length cells)) x (witness (decode s)) cells sample-number (above-zero x h)
 
     module _ (h : x ≡ 0) where
-      pub found-answer : (e : Emptiness) → e ≡ answerOf 0 (witness (decode s)) → e ≡ emptinessOf s (length cells)
-      found-answer e ee = ee ∙ ap (λ k. answerOf k (witness (decode s))) (sym h ∙ sample-number)
-
-      pub found-number : (e : Emptiness) → e ≡ answerOf 0 (witness (decode s)) → refusalOf e ≡ witnessCheckOf s (length cells)
-      found-number e ee = ap refusalOf ee ∙ no-refusal (witness (decode s)) ∙ sym h ∙ sample-number
+      pub found-answer : (e : Emptiness) → emptinessAnswer e ≡ gives (shapeOf (witness (decode s))) → emptinessAnswer e ≡ emptinessOf s (length cells)
+      found-answer e ee = ee ∙ given-answer (witnessCheckOf s (length cells)) (shapeOf (witness (decode s))) (sym sample-number ∙ h)
 
       pub found-space : (cells′ : List ℕ) → cells′ ≡ spaceOf 0 (witness (decode s)) cells → cells′ ≡ spaceAfter s cells
       found-space cells′ ec = ec ∙ ap (λ k. spaceOf k (witness (decode s)) cells) (sym h ∙ sample-number)
@@ -78,4 +75,4 @@ module _ (s cells : List ℕ) (r : Checked) (er : r ≡ checkedOf (checkOf s)) w
           let l = leb-true (length ((decode s) .states)) (length cells / rowCells) (passed (leb (length ((decode s) .states)) (length cells / rowCells)) 42 (demand (apart? (decode s)) 41 0) (omega arith) (sym ex ∙ h) .0) in
           omega arith
 
-pub ruleset outcome = (sound-zero, set-number, sample-number, found-number, set-answer, set-space, sample-answer, sample-space, found-answer, found-space, roomy, needs)
+pub ruleset outcome = (passed-zero, set-answer, set-space, sample-answer, sample-space, found-answer, found-space, roomy, needs)

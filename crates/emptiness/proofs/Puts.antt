@@ -2,13 +2,14 @@
 use mathlib.Core.Path.{_≡_, refl, sym, ap, _∙_, subst}
 use mathlib.Core.Bool.{Bool, true, false, cond}
 use mathlib.Core.List.{List, [], _∷_}
-use Prim.Native.Nat.{ℕ, zero, suc, _+_, _<_, _≤_}
+use Prim.Native.Nat.{ℕ, zero, suc, _+_, _*_, _<_, _≤_}
 use native.Mathlib.Omega.{arith}
 use borrow.Author.Needs.{needs}
 use borrow.Author.Tests.{lt-ltb, le-ltb}
 use lib.ListN.{length, getD, set}
 use Rattle.model.specs.Limits.{maxChildren, maxStates, maxRows, unused}
 use Rattle.model.specs.Lists.{tab}
+use Rattle.model.specs.Space.{putAt}
 use Rattle.model.specs.Automaton.{Rule}
 use Rattle.model.specs.Order.{place}
 use Rattle.model.specs.Table.{Row}
@@ -16,14 +17,14 @@ use Rattle.model.specs.Build.{eqRow}
 use Rattle.document.specs.declared.rows.Row as number
 use Rattle.document.specs.declared.builder.Placed.{Placed}
 use Rattle.document.specs.declared.builder.Placed.the-variants.{Known, Added, Full}
-use Rattle.document.specs.Rows.{used, rowIn, encodeRow, Kept}
-use Rattle.document.specs.Put.{putCells}
+use Rattle.document.specs.Rows.{rowCells, used, rowIn, encodeRow, Kept}
 use Rattle.document.specs.declared.index.Probed.{Probed}
 use Rattle.document.specs.declared.index.Probed.the-variants.{Found, Free, Crowded}
-use Rattle.document.specs.Index.{startSlot, numbered, probe}
+use Rattle.document.specs.Index.{startSlot, probe}
+use Rattle.document.specs.Fields.{asRow, numbersOf}
 use Rattle.document.specs.Builder.{roomFor?, Placing, placeAt, findOrAdd, Did}
 use Rattle.document.proofs.Placement.{room}
-use Rattle.emptiness.specs.Building.{memoPlace, ruleRow, noted, remembered, counted, Put}
+use Rattle.emptiness.specs.Building.{memoPlace, ruleRow, noted, remembered, counted, RowPut}
 
 pub place-memo : (memo : List ℕ) (r : Rule) (k c x : ℕ) → c ≡ place r k → x ≡ getD memo c unused → x ≡ memoPlace memo r k
 unfolding memoPlace
@@ -46,12 +47,12 @@ pub noted-past : (memo : List ℕ) (at q x : ℕ) → at ≡ q → 256 ≤ at �
 unfolding noted
 noted-past memo at q x e h = rw (le-ltb q maxStates (omega arith))
 
-pub row-fields : (memo ps : List ℕ) (r : Rule) (f : ℕ) → f ≡ r .symbol → ps ≡ tab maxChildren (memoPlace memo r) → _≡_ {A = Row} (record { symbol = f; kind = 0; payload = 0; children = used ps }) (ruleRow memo r)
+pub row-fields : (memo : List ℕ) (ps : List number.Row) (r : Rule) (f : ℕ) → f ≡ r .symbol → numbersOf ps ≡ tab maxChildren (memoPlace memo r) → _≡_ {A = Row} (record { symbol = f; kind = 0; payload = 0; children = used (numbersOf ps) }) (ruleRow memo r)
 row-fields memo ps r f ef ep = λ i. record { symbol = ef i; kind = 0; payload = 0; children = used (ep i) }
 
 -- the row was there, was added, or found no room
 module _ (r : Rule) (limit q : ℕ) (cells slots memo : List ℕ) (n : ℕ) (own : Row) (eo : own ≡ ruleRow memo r) (a : Placed) (cells′ slots′ : List ℕ) (D : Did (findOrAdd cells slots n limit own) a cells′ slots′) (K : Kept own) where
-  given : (b : Placed) (memo′ : List ℕ) (n′ : ℕ) → a ≡ b → memo′ ≡ remembered memo q b → n′ ≡ counted n b → Put r limit q cells slots memo n cells′ slots′ memo′ n′
+  given : (b : Placed) (memo′ : List ℕ) (n′ : ℕ) → a ≡ b → memo′ ≡ remembered memo q b → n′ ≡ counted n b → RowPut r limit q cells slots memo n cells′ slots′ memo′ n′
   given b memo′ n′ e em en =
       record {
         cells-are = D .cells ∙ ap (λ (o : Row). (findOrAdd cells slots n limit o) .cells) eo;
@@ -61,16 +62,16 @@ module _ (r : Rule) (limit q : ℕ) (cells slots memo : List ℕ) (n : ℕ) (own
         kept = subst Kept eo K;
       }
 
-  pub put-known : (i : number.Row) (memo′ : List ℕ) → a ≡ Known i → memo′ ≡ noted memo q (i .0) → Put r limit q cells slots memo n cells′ slots′ memo′ n
+  pub put-known : (i : number.Row) (memo′ : List ℕ) → a ≡ Known i → memo′ ≡ noted memo q (i .0) → RowPut r limit q cells slots memo n cells′ slots′ memo′ n
   put-known i memo′ e em = given (Known i) memo′ n e em refl
 
-  pub put-added : (i : number.Row) (memo′ : List ℕ) (n′ : ℕ) → a ≡ Added i → memo′ ≡ noted memo q (i .0) → n′ ≡ n + 1 → Put r limit q cells slots memo n cells′ slots′ memo′ n′
+  pub put-added : (i : number.Row) (memo′ : List ℕ) (n′ : ℕ) → a ≡ Added i → memo′ ≡ noted memo q (i .0) → n′ ≡ n + 1 → RowPut r limit q cells slots memo n cells′ slots′ memo′ n′
   put-added i memo′ n′ e em en = given (Added i) memo′ n′ e em en
 
-  pub put-full : a ≡ Full → Put r limit q cells slots memo n cells′ slots′ memo n
+  pub put-full : a ≡ Full → RowPut r limit q cells slots memo n cells′ slots′ memo n
   put-full e = given Full memo n e refl refl
 
-few-by : (cells slots : List ℕ) (n limit : ℕ) (r : Row) (b : Bool) (t : ℕ) (i : number.Row) → b ≡ roomFor? cells n limit → (cond {A = Placing} b (record { answer = Added (numbered n); cells = putCells cells n (encodeRow r); slots = set slots t (n + 1) }) (record { answer = Full; cells = cells; slots = slots })) .answer ≡ Added i → n < maxRows
+few-by : (cells slots : List ℕ) (n limit : ℕ) (r : Row) (b : Bool) (t : ℕ) (i : number.Row) → b ≡ roomFor? cells n limit → (cond {A = Placing} b (record { answer = Added (asRow n); cells = putAt cells (n * rowCells) (encodeRow r); slots = set slots t (n + 1) }) (record { answer = Full; cells = cells; slots = slots })) .answer ≡ Added i → n < maxRows
 few-by cells slots n limit r true t i eb e = room cells n limit true eb refl .few
 few-by cells slots n limit r false t i eb e = let z : _≡_ {A = ℕ} 0 1 = cc in let y : ⊥ = omega arith in absurd y
 

@@ -12,6 +12,7 @@ use lib.Dec.{T}
 use lib.ListN.{length, getD, set, drop, length-append, length-set}
 use lib.Seq.{getD-set-same, getD-set-other}
 use Rattle.model.specs.Limits.{unused}
+use Rattle.model.specs.Space.{putAt}
 use Rattle.model.specs.Tree.{Tree}
 use Rattle.model.specs.Automaton.{Automaton, arityOf}
 use Rattle.model.specs.Written.{ruleAt, noRule}
@@ -25,13 +26,12 @@ use Rattle.model.proofs.Rounds.{in-states}
 use Rattle.document.specs.declared.builder.Placed.{Placed}
 use Rattle.document.specs.declared.builder.Placed.the-variants.{Known, Added, Full}
 use Rattle.document.specs.Rows.{rowCells, rowIn, rowsBelow, encodeRow, encodeRows}
-use Rattle.document.specs.Put.{putCells}
 use Rattle.document.specs.Builder.{Built, findOrAdd, Grows}
 use Rattle.document.proofs.Putting.{rows-put}
 use Rattle.document.proofs.Placement.{room}
 use Rattle.document.proofs.Building.{grows}
 use Rattle.emptiness.specs.Marking.{MadeBy, Made}
-use Rattle.emptiness.specs.Building.{ruleRow, remembered, counted, Put, RowOf, Job, Done, Builds}
+use Rattle.emptiness.specs.Building.{ruleRow, remembered, counted, RowPut, RowOf, Job, Done, Builds}
 use Rattle.emptiness.proofs.Tabling.{known-already, no-mark, no-depth, loops-start, loops-more, Any, rows-long, distinct-rows, cells-long, Mid, Loops, as-many}
 use Rattle.emptiness.proofs.Puts.{noted-in}
 use Rattle.emptiness.proofs.Rooting.{added-cells, has-room, front-more, root-added}
@@ -99,7 +99,7 @@ module _ (A : Automaton) (marks : List ℕ) (limit depth q i : ℕ) (cells₀ sl
             stays = λ p. stay p (ℕ-discrete p q);
           }
 
-    module _ (cells′ slots′ memo′ : List ℕ) (n′ : ℕ) (P : Put (ruleAt A i) limit q cells slots memo n cells′ slots′ memo′ n′) where
+    module _ (cells′ slots′ memo′ : List ℕ) (n′ : ℕ) (P : RowPut (ruleAt A i) limit q cells slots memo n cells′ slots′ memo′ n′) where
       G : Grows cells slots n limit own (findOrAdd cells slots n limit own)
       G = grows cells slots n limit (D .tabled .built) own (P .kept)
 
@@ -128,7 +128,7 @@ module _ (A : Automaton) (marks : List ℕ) (limit depth q i : ℕ) (cells₀ sl
           moved c″ ((findOrAdd cells slots n limit own) .slots) (set memo q n) (n + 1) (P .cells-are) (P .slots-are) (P .memo-is ∙ ap (remembered memo q) ea ∙ sym (noted-in memo q q (j .0) refl inside) ∙ ap (set memo q) ej) (P .count ∙ ap (counted n) ea)
           (done c″ ((findOrAdd cells slots n limit own) .slots) (n + 1) n (adds ∙ e) b
           (subst (λ z. z ≡ encodeRows (rowsBelow z (n + 1)) ++ drop ((n + 1) * rowCells) base) (sym pc)
-          (subst (λ m. putCells cells n (encodeRow own) ≡ encodeRows (rowsBelow (putCells cells n (encodeRow own)) m) ++ drop (m * rowCells) base) (sym (add-one n)) (front-more (D .tabled) own (rm .fits) (P .kept))))
+          (subst (λ m. putAt cells (n * rowCells) (encodeRow own) ≡ encodeRows (rowsBelow (putAt cells (n * rowCells) (encodeRow own)) m) ++ drop (m * rowCells) base) (sym (add-one n)) (front-more (D .tabled) own (rm .fits) (P .kept))))
           (λ x l. (
             omega (arith, ap length rows″, length-append (rowsBelow cells n) (own ∷ [])),
             ap (λ rs. treeAt rs x) rows″ ∙ tree-kept (rowsBelow cells n) (own ∷ []) (D .tabled .lower) (suc x) x l,
@@ -144,7 +144,7 @@ module _ (A : Automaton) (marks : List ℕ) (limit depth q i : ℕ) (cells₀ sl
           absurd z
 
   -- THE STATE'S TREE IS ADDED
-  pub put-done : (x : ℕ) (cells′ slots′ memo′ : List ℕ) (n′ : ℕ) → x ≡ getD marks q 0 → (x ≡ 0 → ⊥) → i ≡ x - 1 → Put (ruleAt A i) limit q cells slots memo n cells′ slots′ memo′ n′ → Builds A marks limit depth q cells₀ slots₀ memo₀ n₀ cells′ slots′ memo′ n′
+  pub put-done : (x : ℕ) (cells′ slots′ memo′ : List ℕ) (n′ : ℕ) → x ≡ getD marks q 0 → (x ≡ 0 → ⊥) → i ≡ x - 1 → RowPut (ruleAt A i) limit q cells slots memo n cells′ slots′ memo′ n′ → Builds A marks limit depth q cells₀ slots₀ memo₀ n₀ cells′ slots′ memo′ n′
   put-done x cells′ slots′ memo′ n′ ex hx ei P = record {
     gives = λ N base t J.
         let M : MadeBy A N (some t) i =

@@ -11,6 +11,7 @@ use lib.Dec.{T}
 use lib.ListN.{length, getD, set, take, drop, length-map, drop-of-length-le, List·getD-eq-default}
 use lib.Seq.{drop-drop, drop-append-add, take-at}
 use Rattle.model.specs.Limits.{maxChildren, maxRows, unused}
+use Rattle.model.specs.Space.{putAt}
 use Rattle.model.specs.Tree.{Tree, forest}
 use Rattle.model.specs.Automaton.{Automaton}
 use Rattle.model.specs.Order.{place}
@@ -18,6 +19,7 @@ use Rattle.model.specs.Written.{ruleAt}
 use Rattle.model.specs.Table.{Row, treeAt, Lower, Distinct}
 use Rattle.model.specs.Build.{eqRow, addRow, addTree, addForest}
 use Rattle.model.specs.Witness.{rounds}
+use Rattle.model.proofs.Space.{put-fits}
 use Rattle.model.proofs.Tab.{tab-same}
 use Rattle.model.proofs.Rows.{trees-forest, map-inj, one-tree}
 use Rattle.model.proofs.Build.{ForestIn, forest-in}
@@ -25,27 +27,27 @@ use Rattle.document.specs.declared.index.Probed.{Probed}
 use Rattle.document.specs.declared.index.Probed.the-variants.{Found, Free, Crowded}
 use Rattle.document.specs.declared.builder.Placed.the-variants.{Added, Full}
 use Rattle.document.specs.Rows.{rowCells, used, rowIn, rowsBelow, encodeRow, encodeRows, Kept}
-use Rattle.document.specs.Put.{putCells}
-use Rattle.document.specs.Index.{startSlot, numbered, probe}
+use Rattle.document.specs.Index.{startSlot, probe}
+use Rattle.document.specs.Fields.{asRow}
 use Rattle.document.specs.Builder.{roomFor?, Placing, placeAt, findOrAdd}
 use Rattle.document.proofs.Encoding.{all-used, used-places, length-encode}
-use Rattle.document.proofs.Putting.{put-fits, rows-put}
+use Rattle.document.proofs.Putting.{rows-put}
 use Rattle.emptiness.specs.Marking.{MadeBy}
 use Rattle.emptiness.specs.Building.{memoPlace, ruleRow, RowOf, Tabled}
 use Rattle.emptiness.proofs.Adding.{none-then, root-then}
 use Rattle.emptiness.proofs.Tabling.{Any, trees-long, map-at, map-trees, map-in, rows-long, distinct-rows, Mid}
 
 -- what an added row does to the cells
-by-adding : (cells slots : List ℕ) (n limit : ℕ) (r : Row) (b : Bool) (t : ℕ) (i : ℕ) → (cond {A = Placing} b (record { answer = Added (numbered n); cells = putCells cells n (encodeRow r); slots = set slots t (n + 1) }) (record { answer = Full; cells = cells; slots = slots })) .answer ≡ Added (numbered i) → (cond {A = Placing} b (record { answer = Added (numbered n); cells = putCells cells n (encodeRow r); slots = set slots t (n + 1) }) (record { answer = Full; cells = cells; slots = slots })) .cells ≡ putCells cells n (encodeRow r)
+by-adding : (cells slots : List ℕ) (n limit : ℕ) (r : Row) (b : Bool) (t : ℕ) (i : ℕ) → (cond {A = Placing} b (record { answer = Added (asRow n); cells = putAt cells (n * rowCells) (encodeRow r); slots = set slots t (n + 1) }) (record { answer = Full; cells = cells; slots = slots })) .answer ≡ Added (asRow i) → (cond {A = Placing} b (record { answer = Added (asRow n); cells = putAt cells (n * rowCells) (encodeRow r); slots = set slots t (n + 1) }) (record { answer = Full; cells = cells; slots = slots })) .cells ≡ putAt cells (n * rowCells) (encodeRow r)
 by-adding cells slots n limit r true t i e = refl
 by-adding cells slots n limit r false t i e = let z : _≡_ {A = ℕ} 0 1 = cc in let y : ⊥ = omega arith in absurd y
 
-added-by : (cells slots : List ℕ) (n limit : ℕ) (r : Row) (q : Probed) (i : ℕ) → (placeAt cells slots n limit r q) .answer ≡ Added (numbered i) → (placeAt cells slots n limit r q) .cells ≡ putCells cells n (encodeRow r)
+added-by : (cells slots : List ℕ) (n limit : ℕ) (r : Row) (q : Probed) (i : ℕ) → (placeAt cells slots n limit r q) .answer ≡ Added (asRow i) → (placeAt cells slots n limit r q) .cells ≡ putAt cells (n * rowCells) (encodeRow r)
 added-by cells slots n limit r (Found j) i e = let z : _≡_ {A = ℕ} 0 1 = cc in let y : ⊥ = omega arith in absurd y
 added-by cells slots n limit r (Free t) i e = by-adding cells slots n limit r (roomFor? cells n limit) t i e
 added-by cells slots n limit r Crowded i e = let z : _≡_ {A = ℕ} 0 1 = cc in let y : ⊥ = omega arith in absurd y
 
-pub added-cells : (cells slots : List ℕ) (n limit : ℕ) (r : Row) (i : ℕ) → (findOrAdd cells slots n limit r) .answer ≡ Added (numbered i) → (findOrAdd cells slots n limit r) .cells ≡ putCells cells n (encodeRow r)
+pub added-cells : (cells slots : List ℕ) (n limit : ℕ) (r : Row) (i : ℕ) → (findOrAdd cells slots n limit r) .answer ≡ Added (asRow i) → (findOrAdd cells slots n limit r) .cells ≡ putAt cells (n * rowCells) (encodeRow r)
 unfolding findOrAdd
 added-cells cells slots n limit r i e = added-by cells slots n limit r (probe slots (λ j. eqRow r (rowIn cells j)) (startSlot r)) i e
 
@@ -59,9 +61,9 @@ has-room cells n limit a b c = rw (lt-ltb n limit a, lt-ltb n maxRows b, le-leb 
 
 module _ {A : Automaton} {N : ℕ} {base cells slots memo : List ℕ} {n : ℕ} (T : Tabled A N base cells slots memo n) where
   -- a row more behind the others
-  pub front-more : (r : Row) → n * rowCells + rowCells ≤ length cells → Kept r → putCells cells n (encodeRow r) ≡ encodeRows (rowsBelow (putCells cells n (encodeRow r)) (suc n)) ++ drop (suc n * rowCells) base
+  pub front-more : (r : Row) → n * rowCells + rowCells ≤ length cells → Kept r → putAt cells (n * rowCells) (encodeRow r) ≡ encodeRows (rowsBelow (putAt cells (n * rowCells) (encodeRow r)) (suc n)) ++ drop (suc n * rowCells) base
   front-more r h k =
-      put-fits cells (encodeRow r) n h
+      put-fits cells (n * rowCells) (encodeRow r) h
       ∙ ap (λ l. take (n * rowCells) l ++ encodeRow r ++ drop (n * rowCells + rowCells) l) (T .front)
       ∙ ap (λ l. l ++ encodeRow r ++ drop (n * rowCells + rowCells) (encodeRows (rowsBelow cells n) ++ drop (n * rowCells) base)) (take-at (encodeRows (rowsBelow cells n)) (drop (n * rowCells) base) (n * rowCells) long)
       ∙ ap (λ l. encodeRows (rowsBelow cells n) ++ encodeRow r ++ l) tail

@@ -16,7 +16,8 @@ use Rattle.model.specs.Automaton.{Rule, Automaton}
 use Rattle.model.specs.Sound.{Sound}
 use Rattle.model.specs.Order.{place}
 use Rattle.model.specs.Written.{ruleAt, noRule}
-use Rattle.model.specs.Witness.{orElse, when?, treesIn, topped, byRule, byFirst, rounds}
+use Rattle.model.specs.Lists.{orElse}
+use Rattle.model.specs.Witness.{when?, treesIn, topped, byRule, byFirst, rounds}
 use Rattle.model.proofs.Members.{T-true}
 use Rattle.model.proofs.Below.{all-at, all-of}
 use Rattle.model.proofs.Rows.{in-getD}

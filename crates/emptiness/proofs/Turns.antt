@@ -28,11 +28,12 @@ use Rattle.model.proofs.Witness.{none-marked}
 use Rattle.model.proofs.Rounds.{nothing-new, enough, in-states}
 use Rattle.model.proofs.FirstRound.{FirstRound, final-lowest, final-none, none-final, by-first-round, dead-at}
 use Rattle.model.proofs.Lowest.{levels-first}
+use Rattle.automaton.specs.declared.State.{State}
 use Rattle.automaton.specs.Stored.{decode}
 use Rattle.automaton.specs.Check.{checkOf}
 use Rattle.automaton.proofs.Sound.{sound-decode}
 use Rattle.emptiness.specs.Places.{named?}
-use Rattle.emptiness.specs.Marking.{marked?, childMarked?, ready?, Ready, Tried, this?, early?, woken?, Woken, LowestAdded, Made, Marked, Marks}
+use Rattle.emptiness.specs.Marking.{marked?, childMarked?, ready?, Ready, Tried, this?, early?, propagated?, Propagated, LowestAdded, Made, Marked, Marks}
 use Rattle.emptiness.proofs.Tries.{tried-fewer}
 use Rattle.emptiness.proofs.Links.{place-number, at-named, zeros, zeros-long}
 use Rattle.emptiness.proofs.Rounds.{next-marked}
@@ -48,7 +49,7 @@ some-fails (suc n) p e = go (allBelow n p) (p n) refl refl e (some-fails n p)
     go true false ea eb f ih = (n, omega arith, eb)
     go false b ea eb f ih = let (i, l, h) = ih ea in (i, omega arith, h)
 
--- a rule below n is one of the first n; one that names a state of a list is woken by it
+-- a rule below n is one of the first n; one that names a state of a list is one of those that it propagates to
 early-all : (n j : ℕ) → j < n → T (early? n j)
 unfolding early? this?
 early-all zero j l = let z : ⊥ = omega arith in absurd z
@@ -58,13 +59,13 @@ early-all (suc n) j l =
     (λ g. or-left (early? n j) (eqb j n) (early-all n j g))
     (eq-or-lt-of-le (le-of-suc-le-suc l))
 
-woken-at : (A : Automaton) (states : List ℕ) (n x j : ℕ) → x < n → T (named? A (getD states x 0) 0 j) → T (woken? A states n j)
-unfolding woken?
-woken-at A states zero x j l t = let z : ⊥ = omega arith in absurd z
-woken-at A states (suc n) x j l t =
+propagated-at : (A : Automaton) (states : List ℕ) (n x j : ℕ) → x < n → T (named? A (getD states x 0) 0 j) → T (propagated? A states n j)
+unfolding propagated?
+propagated-at A states zero x j l t = let z : ⊥ = omega arith in absurd z
+propagated-at A states (suc n) x j l t =
     ⊎-elim
-    (λ e. or-right (woken? A states n j) (named? A (getD states n 0) 0 j) (subst (λ z. T (named? A (getD states z 0) 0 j)) e t))
-    (λ g. or-left (woken? A states n j) (named? A (getD states n 0) 0 j) (woken-at A states n x j g t))
+    (λ e. or-right (propagated? A states n j) (named? A (getD states n 0) 0 j) (subst (λ z. T (named? A (getD states z 0) 0 j)) e t))
+    (λ g. or-left (propagated? A states n j) (named? A (getD states n 0) 0 j) (propagated-at A states n x j g t))
     (eq-or-lt-of-le (le-of-suc-le-suc l))
 
 -- a mark that is 0 says that there is no tree, and there is none only there
@@ -91,7 +92,7 @@ pub record Turn (A : Automaton) (n : ℕ) (marks added : List ℕ) (count : ℕ)
   pub waiting : (j : ℕ) → j ≤ n → firstFinal A (rounds A j) 0 ≡ none
   pub inside : (x : ℕ) → x < count → (getD added x 0 < length (A .states)) × (getD marks (getD added x 0) 0 ≡ 0 → ⊥)
   pub fresh : (q : ℕ) → q < length (A .states) → (getD marks q 0 ≡ 0 → ⊥) → getD (rounds A n) q none ≡ none → (x : ℕ) × (x < count) × (getD added x 0 ≡ q)
-  pub woken : (q j : ℕ) → Ready A marks q j → getD marks q 0 ≡ 0 → T (woken? A added count j)
+  pub propagated : (q j : ℕ) → Ready A marks q j → getD marks q 0 ≡ 0 → T (propagated? A added count j)
 
 module _ (A : Automaton) (sound : Sound A) where
   module _ (n : ℕ) (marks next added : List ℕ) (count : ℕ) (m : Marked A n marks) (t : Tried A marks (λ j. true) next added count) where
@@ -106,8 +107,8 @@ module _ (A : Automaton) (sound : Sound A) where
             subst (λ z. z < length (A .states)) (R .target) (sound .wellformed .targets (ruleAt A k) (in-getD noRule (A .rules) k (R .known)))
 
     -- a rule that the round made ready has a child that the round marked
-    wakes : (q j : ℕ) → Ready A next q j → getD next q 0 ≡ 0 → T (woken? A added count j)
-    wakes q j R e = go (ready? marks (ruleAt A j)) refl
+    propagates : (q j : ℕ) → Ready A next q j → getD next q 0 ≡ 0 → T (propagated? A added count j)
+    propagates q j R e = go (ready? marks (ruleAt A j)) refl
       where
         unmarked-before : Dec (getD marks q 0 ≡ 0) → getD marks q 0 ≡ 0
         unmarked-before (yes z) = z
@@ -118,13 +119,13 @@ module _ (A : Automaton) (sound : Sound A) where
             let a = sound .wellformed .as-many (ruleAt A j) (in-getD noRule (A .rules) j (R .known)) in
             omega (arith, sound .few-children ((ruleAt A j) .symbol))
 
-        go : (b : Bool) → ready? marks (ruleAt A j) ≡ b → T (woken? A added count j)
+        go : (b : Bool) → ready? marks (ruleAt A j) ≡ b → T (propagated? A added count j)
         go true r = absurd (t .first q j (record { known = R .known; target = R .target; ready = r }) tt (unmarked-before (ℕ-discrete (getD marks q 0) 0)) .0 e)
         go false r =
             let (k, l, f) = some-fails (length ((ruleAt A j) .children)) (childMarked? marks (ruleAt A j)) r in
             let c = place (ruleAt A j) k in
             let (x, lx, ex) = t .listed c (was-zero marks (ruleAt A j) k f) (is-some next (ruleAt A j) k (at (childMarked? next (ruleAt A j)) (length ((ruleAt A j) .children)) k (R .ready) l)) in
-            woken-at A added count x j lx (subst (λ z. T (named? A z 0 j)) (sym ex) (at-named A marks c 0 j k (omega (arith, few)) (omega arith) (place-number A j k (omega (arith, few)))))
+            propagated-at A added count x j lx (subst (λ z. T (named? A z 0 j)) (sym ex) (at-named A marks c 0 j k (omega (arith, few)) (omega arith) (place-number A j k (omega (arith, few)))))
 
     pub turned : ((j : ℕ) → j ≤ n → firstFinal A (rounds A j) 0 ≡ none) → Turn A n next added count
     turned w =
@@ -134,7 +135,7 @@ module _ (A : Automaton) (sound : Sound A) where
           waiting = w;
           inside = λ x l. (state-in x l, t .new x l .1);
           fresh = λ q l k o. t .listed q (mark-zero A n (getD (rounds A n) q none) (getD marks q 0) (m .each q l) o) k;
-          woken = wakes;
+          propagated = propagates;
         }
 
   -- before the first round
@@ -152,7 +153,10 @@ module _ (A : Automaton) (sound : Sound A) where
   turn-first marks next added count l h t =
       turned 0 marks next added count (none-yet marks l h) (tried-fewer A marks (early? (length (A .rules))) (λ j. true) next added count (λ q j R e d. early-all (length (A .rules)) j (R .known)) t) waiting-first
 
-  module _ (n : ℕ) (marks added : List ℕ) (count : ℕ) (t : Turn A n marks added count) (q : ℕ) (w : LowestAdded A added count q) where
+  module _ (n : ℕ) (marks added : List ℕ) (count : ℕ) (t : Turn A n marks added count) (best : State) (w : LowestAdded A added count (best .0)) where
+    abbrev q : ℕ
+    q = best .0
+
     -- a final state that is marked was added in the last round
     final-added : (p : ℕ) → T (final? A p) → (o : Option Tree) → getD (rounds A (suc n)) p none ≡ o → (o ≡ none → ⊥) → (x : ℕ) × (x < count) × (getD added x 0 ≡ p)
     final-added p f none e h = absurd (h refl)
@@ -175,11 +179,11 @@ module _ (A : Automaton) (sound : Sound A) where
     waited : q ≡ unused → (j : ℕ) → j ≤ suc n → firstFinal A (rounds A j) 0 ≡ none
     waited u j l = ⊎-elim (λ i. subst (λ z. firstFinal A (rounds A z) 0 ≡ none) (sym i) (no-final u)) (λ g. t .waiting j (le-of-suc-le-suc g)) (eq-or-lt-of-le l)
 
-    pub turn-more : (next added′ : List ℕ) (count′ : ℕ) → q ≡ unused → Woken A marks added count next added′ count′ → Turn A (n + 1) next added′ count′
-    turn-more next added′ count′ u W = rw add-one (turned (suc n) marks next added′ count′ (t .marked) (tried-fewer A marks (woken? A added count) (λ j. true) next added′ count′ (λ p j R e d. t .woken p j R e) (W .gives (t .marked .long) (λ x l. omega (arith, t .inside x l .0, sound .few-states)))) (waited u))
+    pub turn-more : (next added′ : List ℕ) (count′ : ℕ) → q ≡ unused → Propagated A marks added count next added′ count′ → Turn A (n + 1) next added′ count′
+    turn-more next added′ count′ u W = rw add-one (turned (suc n) marks next added′ count′ (t .marked) (tried-fewer A marks (propagated? A added count) (λ j. true) next added′ count′ (λ p j R e d. t .propagated p j R e) (W .gives (t .marked .long) (λ x l. omega (arith, t .inside x l .0, sound .few-states)))) (waited u))
 
     -- the round marks a final state first
-    pub marks-live : (m : ℕ) → n < m → m ≡ length (A .states) → (q ≡ unused → ⊥) → Marks A (record { state = q; round = n + 1; marks = marks })
+    pub marks-live : (m : ℕ) → n < m → m ≡ length (A .states) → (q ≡ unused → ⊥) → Marks A (record { state = best; round = n + 1; marks = marks })
     marks-live m l em h = go (getD (rounds A (suc n)) q none) refl
       where
         lq : q < length (A .states)
@@ -196,7 +200,7 @@ module _ (A : Automaton) (sound : Sound A) where
             let z : ⊥ = omega arith in
             absurd z
 
-        go : (o : Option Tree) → getD (rounds A (suc n)) q none ≡ o → Marks A (record { state = q; round = n + 1; marks = marks })
+        go : (o : Option Tree) → getD (rounds A (suc n)) q none ≡ o → Marks A (record { state = best; round = n + 1; marks = marks })
         go none e = absurd (some-mark (mark-zero A (suc n) (getD (rounds A (suc n)) q none) (getD marks q 0) (t .marked .each q lq) e))
         go (some v) e =
             let f = final-lowest A (rounds A (suc n)) v (record { state = q; final = T-true (final? A q) .1 (w .here h .0); marked = e; lowest = λ p lp fp. lowest p lp fp (getD (rounds A (suc n)) p none) refl }) in
@@ -214,7 +218,7 @@ module _ (A : Automaton) (sound : Sound A) where
             }
 
     -- the round adds nothing
-    pub marks-same : q ≡ unused → count ≡ 0 → Marks A (record { state = unused; round = n + 1; marks = marks })
+    pub marks-same : q ≡ unused → count ≡ 0 → Marks A (record { state = record { 0 = unused }; round = n + 1; marks = marks })
     marks-same u z =
         record {
           dead = λ _. dead-at A n (nothing-new A n (λ p l o. unmarked A (suc n) (getD (rounds A (suc n)) p none) (getD marks p 0) (t .marked .each p l) (go p l o (ℕ-discrete (getD marks p 0) 0)))) (t .waiting);
@@ -226,7 +230,7 @@ module _ (A : Automaton) (sound : Sound A) where
         go p l o (no y) = let (x, lx, ex) = t .fresh p l y o in let b : ⊥ = omega arith in absurd b
 
   -- as many rounds as there are states were enough
-  pub marks-end : (n m : ℕ) (marks added : List ℕ) (count : ℕ) → Turn A n marks added count → n ≤ m → m ≤ n → m ≡ length (A .states) → Marks A (record { state = unused; round = n; marks = marks })
+  pub marks-end : (n m : ℕ) (marks added : List ℕ) (count : ℕ) → Turn A n marks added count → n ≤ m → m ≤ n → m ≡ length (A .states) → Marks A (record { state = record { 0 = unused }; round = n; marks = marks })
   marks-end n m marks added count t l g e =
       let i : n ≡ length (A .states) = omega arith in
       record {

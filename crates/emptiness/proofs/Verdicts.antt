@@ -2,13 +2,14 @@
 use mathlib.Core.Path.{_≡_, refl, sym, ap, _∙_}
 use mathlib.Core.List.{List, [], _++_}
 use mathlib.Core.Bool.{Bool, true, false}
+use mathlib.Core.Option.{none, some}
 use Prim.Native.Nat.{ℕ, zero, suc, _*_, _/_, _<_, _≤_}
 use native.Mathlib.Omega.{arith}
 use borrow.Author.Needs.{needs}
 use borrow.Author.Tests.{le-leb, lt-leb, not-true, not-false}
 use lib.ListN.{length, getD, replicate, drop}
 use Rattle.model.specs.Limits.{maxStates, unused}
-use Rattle.model.specs.Refusal.{demand}
+use Rattle.model.specs.Refusal.{demand, gives}
 use Rattle.model.specs.Tree.{Tree}
 use Rattle.model.specs.Automaton.{Automaton}
 use Rattle.model.specs.Build.{addTree, rowsOf}
@@ -22,11 +23,10 @@ use Rattle.automaton.proofs.Sound.{sound-decode}
 use Rattle.document.specs.Rows.{rowCells, rowIn, rowsBelow, encodeRows}
 use Rattle.document.specs.Index.{slotCount}
 use Rattle.document.proofs.Building.{built-none}
-use Rattle.emptiness.specs.declared.Emptiness.the-variants.{Dead, Live}
 use Rattle.emptiness.specs.declared.marking.Marking.{Marking}
 use Rattle.emptiness.specs.Marking.{Chosen, Marks}
 use Rattle.emptiness.specs.Building.{Tabled, Done, Builds}
-use Rattle.emptiness.specs.Answer.{sampleCheckOf, answerOf, spaceOf}
+use Rattle.emptiness.specs.Answer.{sampleCheckOf, shapeOf, spaceOf}
 
 rep-at : (n x q : ℕ) → getD (replicate n x) q x ≡ x
 rep-at zero x q = refl
@@ -53,17 +53,17 @@ unfolding rowsOf
 first w = refl
 
 module _ (s : List ℕ) (m : Marking) (M : Marks (decode s) m) where
-  pub dead-answer : m .state ≡ unused → Dead ≡ answerOf 0 (witness (decode s))
-  dead-answer h = ap (answerOf 0) (sym (M .dead h))
+  pub dead-answer : m .state .0 ≡ unused → gives none ≡ gives (shapeOf (witness (decode s)))
+  dead-answer h = ap (λ o. gives (shapeOf o)) (sym (M .dead h))
 
-  pub dead-space : (cells : List ℕ) → m .state ≡ unused → cells ≡ spaceOf 0 (witness (decode s)) cells
+  pub dead-space : (cells : List ℕ) → m .state .0 ≡ unused → cells ≡ spaceOf 0 (witness (decode s)) cells
   dead-space cells h = ap (λ o. spaceOf 0 o cells) (sym (M .dead h))
 
-  module _ (states n : ℕ) (cells cells′ slots′ memo′ : List ℕ) (sound : checkOf s ≡ 0) (h : m .state ≡ unused → ⊥) (es : states ≡ length ((decode s) .states)) (room : states * rowCells ≤ length cells) (B : Builds (decode s) (m .marks) states (m .round) (m .state) cells (replicate slotCount 0) (replicate maxStates unused) 0 cells′ slots′ memo′ n) where
-    C : Chosen (decode s) (m .state) (m .round) (m .marks)
+  module _ (states n : ℕ) (cells cells′ slots′ memo′ : List ℕ) (sound : checkOf s ≡ 0) (h : m .state .0 ≡ unused → ⊥) (es : states ≡ length ((decode s) .states)) (room : states * rowCells ≤ length cells) (B : Builds (decode s) (m .marks) states (m .round) (m .state .0) cells (replicate slotCount 0) (replicate maxStates unused) 0 cells′ slots′ memo′ n) where
+    C : Chosen (decode s) (m .state .0) (m .round) (m .marks)
     C = M .live h
 
-    D : Done (decode s) (m .state) cells (replicate maxStates unused) 0 (m .round) cells (C .tree) cells′ slots′ memo′ n
+    D : Done (decode s) (m .state .0) cells (replicate maxStates unused) 0 (m .round) cells (C .tree) cells′ slots′ memo′ n
     D =
         B .gives (m .round) cells (C .tree)
         (record {
@@ -83,8 +83,8 @@ module _ (s : List ℕ) (m : Marking) (M : Marks (decode s) m) where
     count : n ≡ length (rowsOf (C .tree))
     count = sym (length-tab n (rowIn cells′)) ∙ ap length rows-are
 
-    pub live-answer : Live n (m .round) ≡ answerOf 0 (witness (decode s))
-    live-answer = cc (count, C .height, ap (answerOf 0) (C .witness-is))
+    pub live-answer : gives (some (n, m .round)) ≡ gives (shapeOf (witness (decode s)))
+    live-answer = cc (count, C .height, ap shapeOf (C .witness-is))
 
     pub live-space : cells′ ≡ spaceOf 0 (witness (decode s)) cells
     live-space =

@@ -45,7 +45,7 @@ counted n (Added i) = n + 1
 counted n Full = n
 
 -- the row of rule r was put into the table as state q's
-pub record Put (r : Rule) (limit q : ℕ) (cells slots memo : List ℕ) (n : ℕ) (cells′ slots′ memo′ : List ℕ) (n′ : ℕ) : Type 0 where
+pub record RowPut (r : Rule) (limit q : ℕ) (cells slots memo : List ℕ) (n : ℕ) (cells′ slots′ memo′ : List ℕ) (n′ : ℕ) : Type 0 where
   pub cells-are : cells′ ≡ (findOrAdd cells slots n limit (ruleRow memo r)) .cells
   pub slots-are : slots′ ≡ (findOrAdd cells slots n limit (ruleRow memo r)) .slots
   pub memo-is : memo′ ≡ remembered memo q ((findOrAdd cells slots n limit (ruleRow memo r)) .answer)

@@ -59,13 +59,13 @@ early? zero j = false
 early? (suc i) j = early? i j || this? i j
 
 -- a rule that names one of the first n states of a list
-unfoldable pub woken? : Automaton → List ℕ → ℕ → ℕ → Bool
-woken? A states zero j = false
-woken? A states (suc x) j = woken? A states x j || named? A (getD states x 0) 0 j
+unfoldable pub propagated? : Automaton → List ℕ → ℕ → ℕ → Bool
+propagated? A states zero j = false
+propagated? A states (suc x) j = propagated? A states x j || named? A (getD states x 0) 0 j
 
 -- the rules that name the first n of the states were tried, from the marks as they were
-pub record Woken (A : Automaton) (marks states : List ℕ) (n : ℕ) (next added : List ℕ) (m : ℕ) : Type 0 where
-  pub gives : length marks ≡ maxStates → ((x : ℕ) → x < n → getD states x 0 < maxStates) → Tried A marks (woken? A states n) next added m
+pub record Propagated (A : Automaton) (marks states : List ℕ) (n : ℕ) (next added : List ℕ) (m : ℕ) : Type 0 where
+  pub gives : length marks ≡ maxStates → ((x : ℕ) → x < n → getD states x 0 < maxStates) → Tried A marks (propagated? A states n) next added m
 
 -- q is the lowest final state of the first n of `added`, or 65535
 pub record LowestAdded (A : Automaton) (added : List ℕ) (n q : ℕ) : Type 0 where
@@ -101,5 +101,5 @@ pub record Chosen (A : Automaton) (q n : ℕ) (marks : List ℕ) : Type 0 where
 
 -- What marking finds: no state where there is no witness.
 pub record Marks (A : Automaton) (m : Marking) : Type 0 where
-  pub dead : m .state ≡ unused → witness A ≡ none
-  pub live : (m .state ≡ unused → ⊥) → Chosen A (m .state) (m .round) (m .marks)
+  pub dead : m .state .0 ≡ unused → witness A ≡ none
+  pub live : (m .state .0 ≡ unused → ⊥) → Chosen A (m .state .0) (m .round) (m .marks)

@@ -5,20 +5,23 @@ mod tags; // tags.rt: tags that two states share
 mod building; // building.rt: the witness's rows
 
 use automaton::Checked;
+use base::limits::UNUSED;
+use base::numbers::size;
 use building::build;
+use document::index::SLOTS;
 use document::rows::ROW_CELLS;
-use marking::UNUSED;
 use marking::mark;
-use marking::size;
+use places::STATES;
 use tags::all_apart;
 ghost use mathlib.Core.Path.{_≡_};
 ghost use Prim.Native.Nat.{_*_, _≤_};
 ghost use lib.ListN.{length};
-ghost use Rattle.model.specs.Witness.{witness};
+ghost use Rattle.model.specs.Refusal.{gives};
+ghost use Rattle.model.specs.Witness.{witness as witnessOf};
 ghost use Rattle.automaton.specs.Stored.{decode};
 ghost use Rattle.automaton.specs.Check.{checkOf};
 ghost use Rattle.document.specs.Rows.{rowCells};
-ghost use Rattle.emptiness.specs.Answer.{sampleCheckOf, witnessCheckOf, answerOf, spaceOf, emptinessOf, spaceAfter, refusalOf};
+ghost use Rattle.emptiness.specs.Answer.{sampleCheckOf, emptinessAnswer, shapeOf, spaceOf, emptinessOf, spaceAfter};
 
 // No tree is accepted; some tree is, with the rows and the levels of the witness; or refused with a number of document 01.
 pub enum Emptiness {
@@ -44,18 +47,18 @@ fn sample_check(set: &[u8], states: u16, space: usize) -> u16
 // Dead, or live with the rows written to the front of the space.
 fn find(set: &[u8], states: u16, rules: u16, rows: &mut [u16]) -> Emptiness
     requires { ⌜ (checkOf (now set) ≡ 0) × (states ≡ length ((decode (now set)) .states)) × (rules ≡ length ((decode (now set)) .rules)) × (states * rowCells ≤ length (now rows)) ⌝ }
-    ensures { λ r. ⌜ r ≡ answerOf 0 (witness (decode (now (set .entry)))) ⌝ }
-    ensures space { λ r. ⌜ now (rows .exit) ≡ spaceOf 0 (witness (decode (now (set .entry)))) (now (rows .entry)) ⌝ }
+    ensures { λ r. ⌜ emptinessAnswer r ≡ gives (shapeOf (witnessOf (decode (now (set .entry))))) ⌝ }
+    ensures space { λ r. ⌜ now (rows .exit) ≡ spaceOf 0 (witnessOf (decode (now (set .entry)))) (now (rows .entry)) ⌝ }
 {
     let m = mark(set, states, rules);
     let q = m.state;
-    if q == UNUSED {
+    if q.0 == UNUSED {
         return Emptiness::Dead;
     }
     let marks = m.marks;
     let round = m.round;
-    let mut slots = [0u16; 2048];
-    let mut memo = [UNUSED; 256];
+    let mut slots = [0u16; SLOTS];
+    let mut memo = [UNUSED; STATES];
     let n = build(
         set,
         &marks,
@@ -72,11 +75,11 @@ fn find(set: &[u8], states: u16, rules: u16, rows: &mut [u16]) -> Emptiness
 
 // Whether a set lets in no document, or the lowest that it lets in, as rows at the front of the space.
 pub fn witness(set: &[u8], rows: &mut [u16]) -> Emptiness
-    ensures { λ r. ⌜ (refusalOf r ≡ witnessCheckOf (now (set .entry)) (length (now (rows .entry)))) × (r ≡ emptinessOf (now (set .entry)) (length (now (rows .entry)))) ⌝ }
+    ensures { λ r. ⌜ emptinessAnswer r ≡ emptinessOf (now (set .entry)) (length (now (rows .entry))) ⌝ }
     ensures space { λ r. ⌜ now (rows .exit) ≡ spaceAfter (now (set .entry)) (now (rows .entry)) ⌝ }
 {
     match automaton::check(set) {
-        Checked::Sound => {
+        Checked::Passed => {
             let h = automaton::header(set);
             let states = h.states;
             let n = sample_check(set, states, rows.len());

@@ -1,10 +1,8 @@
 // The judging program: reads a stored set and a text directly behind it, and prints whether the set lets the document in.
+use console::INPUT;
 use console::OUTPUT;
 use libc::STDIN_FILENO;
 use libc::STDOUT_FILENO;
-
-// One byte more than the most that is taken, so that a longer input is seen.
-const INPUT: usize = 32769;
 
 fn main() {
     let mut input = [0u8; INPUT];

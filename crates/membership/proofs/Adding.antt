@@ -8,10 +8,10 @@ use lib.ListN.{length, getD, length-append, List·getD-append}
 use Rattle.model.specs.Lists.{any}
 use Rattle.model.specs.Annotation.{eqAnnotation}
 use Rattle.model.proofs.Tab.{tab-at, length-tab}
+use Rattle.automaton.proofs.Parts.{tab-same}
 use Rattle.membership.specs.Cells.{annotationIn, annotationsIn}
 use Rattle.membership.specs.Entries.{Entry, annotationsOf, entryIn, entriesIn, addEntry, addEntries}
 use Rattle.membership.specs.Search.{noAnnotation}
-use Rattle.membership.proofs.Places.{tab-same}
 
 abbrev pub noEntry : Entry
 noEntry = record { annotation = noAnnotation; rule = 0; children = [] }

@@ -7,7 +7,7 @@ use native.Mathlib.Nat.{le-trans}
 use native.Mathlib.Decide.{decLt}
 use native.Mathlib.Numerals.{add-one}
 use borrow.Author.Tests.{eq-eqb, ne-eqb}
-use lib.ListN.{length, getD, length-map}
+use lib.ListN.{length, getD, length-map, List·getD-map}
 use Rattle.model.specs.Limits.{maxChildren, unused}
 use Rattle.model.specs.Lists.{concatMap, only}
 use Rattle.model.specs.Order.{place}
@@ -19,10 +19,11 @@ use Rattle.model.specs.Annotation.{Memory, Annotation, emptyMemory, ownMemory}
 use Rattle.model.proofs.Tab.{tab-at}
 use Rattle.model.proofs.Rows.{in-getD}
 use Rattle.automaton.specs.Window.{FirstFrom}
+use Rattle.automaton.specs.declared.State.{State}
 use Rattle.membership.specs.Cells.{memoryOf, annotationsIn}
 use Rattle.membership.specs.Index.{Indexed}
 use Rattle.membership.specs.Entries.{Entry, annotationsOf, entriesIn, addEntries, Grown}
-use Rattle.membership.specs.Search.{span, found, Ready}
+use Rattle.membership.specs.Search.{span, askedState, found, Ready}
 use Rattle.membership.specs.Listing.{lastStep, made, noChildren, ruleEntries, byRule, entriesBelow}
 use Rattle.membership.specs.Plan.{WantFor, Starts, Before}
 use Rattle.membership.specs.declared.search.Want.{Want}
@@ -118,11 +119,11 @@ module _ (A : Automaton) (rows : List Row) (sound : Sound A) (table : SoundTable
       states-are : length ((ruleAt A r) .children) ≡ width
       states-are = sound .wellformed .as-many (ruleAt A r) (in-getD noRule (A .rules) r lr) ∙ ap (arityOf A) same-symbol ∙ sym ew
 
-      state-at : (p : ℕ) → p < width → getD (want .states) p 0 ≡ getD ((ruleAt A r) .children) p 0
+      state-at : (p : ℕ) → p < width → askedState want p ≡ getD ((ruleAt A r) .children) p 0
       state-at p l =
           let f = few-places in
           let e = states-are in
-          ap (λ (z : List ℕ). getD z p 0) (wf .states) ∙ tab-at 0 maxChildren (place (ruleAt A r)) p (omega arith) ∙ default ((ruleAt A r) .children) p (omega arith)
+          sym (List·getD-map (λ (q : State). q .0) (want .states) p (record { 0 = 0 })) ∙ ap (λ (z : List ℕ). getD z p 0) (wf .states) ∙ tab-at 0 maxChildren (place (ruleAt A r)) p (omega arith) ∙ default ((ruleAt A r) .children) p (omega arith)
         where
           default : (l : List ℕ) (p : ℕ) → p < length l → getD l p unused ≡ getD l p 0
           default [] p h = let z : ⊥ = omega arith in absurd z

@@ -11,7 +11,7 @@ use Rattle.model.specs.Lists.{concatMap, only}
 use Rattle.model.specs.Automaton.{Automaton}
 use Rattle.model.specs.Annotation.{Memory, Annotation, annotation, agree?, joined, ownMemory}
 use Rattle.membership.specs.Entries.{Entry}
-use Rattle.membership.specs.Search.{span, noAnnotation, fits?, finished, chosen, found}
+use Rattle.membership.specs.Search.{span, noAnnotation, choosable?, askedState, finished, chosen, found}
 use Rattle.membership.specs.Listing.{lastStep, taken, made}
 use Rattle.membership.specs.declared.search.Want.{Want}
 use Rattle.membership.proofs.Spans.{concatMap-same, span-window}
@@ -31,7 +31,7 @@ pub record Asked (A : Automaton) (known : List Annotation) (want : Want) (own : 
   pub own-is : own ≡ ownMemory A q i
   pub rows-are : length cs ≡ want .arity
   pub states-are : length qs ≡ want .arity
-  pub states : (p : ℕ) → p < want .arity → getD (want .states) p 0 ≡ getD qs p 0
+  pub states : (p : ℕ) → p < want .arity → askedState want p ≡ getD qs p 0
   pub windows : (p : ℕ) → p < want .arity → Window known (getD cs p 0) (getD (want .low) p 0) (getD (want .high) p 0)
 
 module _ (A : Automaton) (known : List Annotation) (want : Want) (own : Memory) (i q r : ℕ) (cs qs : List ℕ) (asked : Asked A known want own i q r cs qs) where
@@ -70,10 +70,10 @@ module _ (A : Automaton) (known : List Annotation) (want : Want) (own : Memory) 
       next x d = made known (lastStep A i q r) (suc p) x d (drop (suc p) cs) (drop (suc p) qs)
 
       outside : (j : ℕ) → ((getD known j noAnnotation) .row ≡ getD cs p 0 → ⊥) → taken known p (getD cs p 0) (getD qs p 0) next m children j ≡ []
-      outside j h = ap (λ b. only (b && fits? (getD qs p 0) m (getD known j noAnnotation)) (next (joined m ((getD known j noAnnotation) .memory)) (set children p j))) (ne-eqb ((getD known j noAnnotation) .row) (getD cs p 0) h)
+      outside j h = ap (λ b. only (b && choosable? (getD qs p 0) m (getD known j noAnnotation)) (next (joined m ((getD known j noAnnotation) .memory)) (set children p j))) (ne-eqb ((getD known j noAnnotation) .row) (getD cs p 0) h)
 
       inside : p < want .arity → ((x : Memory) (d : List ℕ) → found known want own left x d ≡ next x d) → (j : ℕ) → (getD known j noAnnotation) .row ≡ getD cs p 0 → chosen known want p (λ x c. found known want own left x c) m children j ≡ taken known p (getD cs p 0) (getD qs p 0) next m children j
       inside lp same j h =
-          ap (λ s. only (fits? s m (getD known j noAnnotation)) (found known want own left (joined m ((getD known j noAnnotation) .memory)) (set children p j))) (asked .states p lp)
-          ∙ ap (only (fits? (getD qs p 0) m (getD known j noAnnotation))) (same (joined m ((getD known j noAnnotation) .memory)) (set children p j))
-          ∙ sym (ap (λ b. only (b && fits? (getD qs p 0) m (getD known j noAnnotation)) (next (joined m ((getD known j noAnnotation) .memory)) (set children p j))) (eq-eqb ((getD known j noAnnotation) .row) (getD cs p 0) h))
+          ap (λ s. only (choosable? s m (getD known j noAnnotation)) (found known want own left (joined m ((getD known j noAnnotation) .memory)) (set children p j))) (asked .states p lp)
+          ∙ ap (only (choosable? (getD qs p 0) m (getD known j noAnnotation))) (same (joined m ((getD known j noAnnotation) .memory)) (set children p j))
+          ∙ sym (ap (λ b. only (b && choosable? (getD qs p 0) m (getD known j noAnnotation)) (next (joined m ((getD known j noAnnotation) .memory)) (set children p j))) (eq-eqb ((getD known j noAnnotation) .row) (getD cs p 0) h))

@@ -17,13 +17,13 @@ use Rattle.model.specs.Written.{Step}
 use Rattle.model.proofs.Members.{T-true, T-and}
 use Rattle.model.proofs.Below.{below-any}
 use Rattle.model.proofs.Tab.{tab-at, tab-past}
+use Rattle.automaton.proofs.Parts.{tab-same}
 use Rattle.runs.specs.Steps.{stepCells, encodeStep, encodeSteps}
 use Rattle.membership.specs.Cells.{cellOf, annotationIn, annotationsIn, ruleIn, childIn}
 use Rattle.membership.specs.Entries.{Entry, entryIn}
 use Rattle.membership.specs.Sources.{annotationAt, Sourced, SourcedIn}
 use Rattle.membership.specs.Trace.{reached?, rankOf, KeptBut, Reached, Traced, stepPlace, stepsWritten, acceptingIn, FirstOf}
 use Rattle.membership.specs.Handed.{StepsWritten, RunWritten}
-use Rattle.membership.proofs.Places.{tab-same}
 use Rattle.membership.proofs.Reading.{any-annotation}
 use Rattle.membership.proofs.Spans.{concatMap-append}
 use Rattle.membership.proofs.Adding.{annotation-at}

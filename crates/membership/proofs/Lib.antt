@@ -13,7 +13,7 @@ pub mod Found
 pub mod Sources
 pub mod Starts
 pub mod Own
-pub mod Firsts
+pub mod FirstRules
 pub mod ByRow
 pub mod Ranks
 pub mod Traced

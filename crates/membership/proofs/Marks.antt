@@ -10,17 +10,14 @@ use borrow.Author.Needs.{needs}
 use borrow.Author.Tests.{eq-eqb, ne-eqb, lt-ltb, le-ltb}
 use lib.Dec.{T, eqb}
 use lib.ListN.{length, getD, set, length-set}
-use lib.Seq.{getD-set-same, getD-set-other, ext-getD}
+use lib.Seq.{getD-set-same, getD-set-other}
 use Rattle.model.specs.Limits.{maxChildren, unused}
-use Rattle.model.specs.Lists.{tab}
 use Rattle.model.specs.Automaton.{Automaton, final?}
 use Rattle.model.proofs.Members.{T-true}
-use Rattle.model.proofs.Tab.{tab-at, length-tab}
 use Rattle.document.specs.Rows.{rowCells, decodeRows}
 use Rattle.document.proofs.Places.{rows-length}
 use Rattle.membership.specs.Cells.{cellOf, childIn}
 use Rattle.membership.specs.Trace.{reached?, KeptBut, ReachedMore, Forgotten, ChildBelow, ChildOf, ChildrenReached, Traced, numberAt, acceptingIn, FirstOf}
-use Rattle.membership.proofs.Own.{Filled, filled-none, filled-more}
 
 of-true : (b : Bool) → b ≡ true → T b
 of-true b e = T-true b .1 e
@@ -273,10 +270,6 @@ number-some work j p x y e l ey =
 pub number-none : (work : List ℕ) (j p x : ℕ) → x ≡ childIn work j p → j ≤ x → unused ≡ numberAt work j p
 number-none work j p x e l = sym (ap (λ b. cond b (cellOf work (childIn work j p) 27) unused) (le-ltb (childIn work j p) j (subst (λ z. j ≤ z) e l)))
 
-pub filled-tab : (f : ℕ → ℕ) (n : ℕ) (out : List ℕ) (k : ℕ) → Filled n f n out k → n ≤ k → out ≡ tab n f
-filled-tab f n out k h l =
-    ext-getD 0 out (tab n f) (h .wide ∙ sym (length-tab n f)) (λ i li. let w = h .wide in h .done i (omega arith) ∙ sym (tab-at 0 n f i (omega arith)))
-
 pub ruleset numbers = (number-some, number-none, needs)
 
 -- what is read of an annotation
@@ -300,8 +293,6 @@ pub other-read : (A : Automaton) (work : List ℕ) (j last x : ℕ) → x ≡ ce
 other-read A work j last x ex h = sym (ap (λ b. b && final? A (cellOf work j 1)) (ne-eqb (cellOf work j 0) last (λ e. h (ex ∙ e))))
 
 pub ruleset reads = (cell-read, child-read, reached-read, accepting-read, other-read, reach-more, needs)
-
-pub ruleset placed = (filled-none, filled-more, filled-tab, needs)
 
 -- the last row
 module _ (cells : List ℕ) (n : ℕ) (e : n ≡ length cells / rowCells) where

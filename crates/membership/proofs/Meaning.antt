@@ -12,19 +12,22 @@ use lib.Dec.{leb, lit<}
 use lib.ListN.{length, take, drop, replicate}
 use lib.Seq.{take-at, drop-at}
 use Rattle.model.specs.Limits.{maxSteps}
-use Rattle.model.specs.Refusal.{demand, andAfter}
+use Rattle.model.specs.Refusal.{demand, andAfter, Answer, gives, unless}
 use Rattle.model.specs.Sound.{Sound}
 use Rattle.model.specs.Table.{treeOf, SoundTable}
 use Rattle.model.specs.Run.{Accepts}
 use Rattle.model.specs.Annotation.{Annotation, Derivable, annotations, accepts?}
+use Rattle.model.specs.Papers.{Recognizes, rigidOf, papers?}
 use Rattle.model.proofs.Tab.{length-tab}
 use Rattle.model.proofs.Count.{NoRepeats}
 use Rattle.model.proofs.Listed.{annotation-count}
 use Rattle.model.proofs.Decides.{decides}
+use Rattle.model.proofs.Papers.{papers-document, papers-exactly}
 use Rattle.automaton.specs.Stored.{decode}
 use Rattle.automaton.specs.Check.{checkOf}
-use Rattle.automaton.specs.Answer.{checkedOf}
+use Rattle.automaton.specs.Answer.{checkAnswer}
 use Rattle.automaton.specs.declared.Checked.{Checked}
+use Rattle.automaton.proofs.Verdict.{checkedOf, answer-is, passed-zero}
 use Rattle.document.specs.Rows.{decodeRows}
 use Rattle.document.specs.Check.{formCheckOf, distinctCheckOf, usedCheckOf, levelsCheckOf, tableCheckOf, documentCheckOf}
 use Rattle.document.proofs.Refusals.{both-passed}
@@ -37,7 +40,7 @@ use Rattle.membership.specs.Cells.{annotationCells, roomOf, annotationsI
 use Rattle.membership.specs.Sources.{SourcedIn}
 use Rattle.membership.specs.Annotated.{Annotated}
 use Rattle.membership.specs.Handed.{RunWritten}
-use Rattle.membership.specs.Judge.{judgeCheckOf, judgedOf, workAfter, Judging}
+use Rattle.membership.specs.Judge.{judgeCheckOf, workAfter, Judging}
 use Rattle.membership.specs.declared.Judged.{Judged}
 use Rattle.membership.specs.declared.Judged.the-variants.{Yes, No, Refused}
 use Rattle.membership.proofs.Adding.{length-annotations}
@@ -63,6 +66,9 @@ no-yes s e = let z : _≡_ {A = ℕ} 0 1 = cc in omega arith
 yes-no : (s : ℕ) → _≡_ {A = Judged} (Yes s) No → ⊥
 yes-no s e = let z : _≡_ {A = ℕ} 0 1 = cc in omega arith
 
+gives-apart : _≡_ {A = Answer Bool} (gives true) (gives false) → ⊥
+gives-apart e = let z : _≡_ {A = ℕ} 0 1 = cc in omega arith
+
 true-false : {B : Type 0} → true ≡ false → B
 true-false e = let z : _≡_ {A = ℕ} 0 1 = cc in let w : ⊥ = omega arith in absurd w
 
@@ -72,13 +78,16 @@ both-zero a b ea eb = ap (λ k. andAfter k b) ea ∙ eb
 
 -- a refusal leaves the run space as it was
 refused : (set cells work run : List ℕ) (n : ℕ) → judgeCheckOf set cells (length work) (length run) ≡ suc n → (work′ : List ℕ) → work′ ≡ workAfter (suc n) work → Judging set cells work run (Refused (suc n)) work′ run
+unfolding unless
 refused set cells work run n e work′ c =
     record {
-      answer = sym (ap (λ k. judgedOf k (accepts? (decode set) (decodeRows cells)) 0) e);
+      answer = sym (ap (λ k. unless k (accepts? (decode set) (decodeRows cells))) e);
       cleared = c ∙ sym (ap (λ k. workAfter k work) e);
       handed = refl;
       accepted = λ s q. absurd (refused-yes (suc n) s q);
       rejected = λ q. absurd (refused-no (suc n) q);
+      recognized = λ _ s q. absurd (refused-yes (suc n) s q);
+      unrecognized = λ _ q. absurd (refused-no (suc n) q);
     }
 
 module _ (set cells work run : List ℕ) (passed : documentCheckOf set cells ≡ 0) where
@@ -94,6 +103,10 @@ module _ (set cells work run : List ℕ) (passed : documentCheckOf set cells ≡
   -- the decision means acceptance
   pub decided : (accepts? (decode set) (decodeRows cells) ≡ true) ↔ Accepts (decode set) (treeOf (decodeRows cells))
   decided = decides (decode set) (decodeRows cells) (table-passed .some-row) (table-passed .lower) (table-passed .distinct)
+
+  -- and acceptance, of a set with one state to a tag and one tag to a state, is that of the papers
+  recognizing : papers? (decode set) ≡ true → Accepts (decode set) (treeOf (decodeRows cells)) ↔ Recognizes (rigidOf (decode set)) (treeOf (decodeRows cells))
+  recognizing p = papers-document (decode set) (sound .0 .wellformed) (papers-exactly (decode set) .0 p) (decodeRows cells) table-passed
 
   number : judgeCheckOf set cells (length work) (length run) ≡ demand (leb (roomOf (length work)) (length run / stepCells)) 32 (demand (leb (length (annotations (decode set) (decodeRows cells))) (roomOf (length work))) 31 0)
   unfolding judgeCheckOf andAfter
@@ -139,24 +152,28 @@ module _ (set cells work run : List ℕ) (passed : documentCheckOf set cells ≡
         zeros = c ∙ ap (λ k. replicate k 0) (long₂ ∙ long) ∙ sym (ap (λ k. workAfter k work) none)
 
         pub says-no : s ≡ 0 → Judging set cells work run No work′ run′
+        unfolding unless
         says-no e =
             let (no-run, same) = w .rejected e in
             record {
-              answer = sym ((λ x. judgedOf (none x) (no-run x) 0));
+              answer = sym (λ x. unless (none x) (no-run x));
               cleared = zeros;
               handed = same;
               accepted = λ s q. absurd (no-yes s q);
               rejected = λ _ a. true-false (sym (decided .1 a) ∙ no-run);
+              recognized = λ _ s q. absurd (no-yes s q);
+              unrecognized = λ p _ m. true-false (sym (decided .1 (recognizing p .1 m)) ∙ no-run);
             }
 
         with-run : (s ≡ 0 → ⊥) → Judging set cells work run (Yes s) work′ run′
+        unfolding unless
         with-run some =
             let (has-run, front) = w .accepted (omega (arith, some)) in
             let few = w .few in
             let length-front : length (encodeSteps (front .run)) ≡ s * stepCells = let e = length-encode (front .run) in let q = front .count in omega arith in
             let taken : take (s * stepCells) run′ ≡ encodeSteps (front .run) = ap (take (s * stepCells)) (front .cells) ∙ take-at (encodeSteps (front .run)) (drop (s * stepCells) run) (s * stepCells) length-front in
             record {
-              answer = sym ((λ x. judgedOf (none x) (has-run x) s));
+              answer = sym (λ x. unless (none x) (has-run x));
               cleared = zeros;
               handed = record {
                 some = omega (arith, some);
@@ -166,6 +183,8 @@ module _ (set cells work run : List ℕ) (passed : documentCheckOf set cells ≡
               };
               accepted = λ _ _. decided .0 has-run;
               rejected = λ e. absurd (yes-no s e);
+              recognized = λ p _ _. recognizing p .0 (decided .0 has-run);
+              unrecognized = λ _ e. absurd (yes-no s e);
             }
 
         pub says-yes : (v : ℕ) → v ≡ s → (s ≡ 0 → ⊥) → Judging set cells work run (Yes v) work′ run′
@@ -202,9 +221,10 @@ document-small set cells =
     (after (distinctCheckOf (decodeRows cells)) _ (small _ 15 0 (lit< tt) (lit< tt))
     (after (usedCheckOf (decodeRows cells)) _ (small _ 16 0 (lit< tt) (lit< tt)) (small _ 17 0 (lit< tt) (lit< tt)))))
 
--- what turns the set or the table away turns the judging away
-pub turned-away : (set cells work run : List ℕ) (c : Checked) (n : ℕ) → c ≡ checkedOf (documentCheckOf set cells) → c ≡ Checked.Refused n → Judging set cells work run (Refused n) work run
-turned-away set cells work run c n e q = go (documentCheckOf set cells) refl (document-small set cells) (sym e ∙ q)
+-- what refuses the set or the table refuses the judging
+pub refused-first : (set cells work run : List ℕ) (c : Checked) (n : ℕ) → checkAnswer c ≡ unless (documentCheckOf set cells) tt → c ≡ Checked.Refused n → Judging set cells work run (Refused n) work run
+refused-first set cells work run c n e q =
+    go (documentCheckOf set cells) refl (document-small set cells) (sym (answer-is c (documentCheckOf set cells) e) ∙ q)
   where
     go : (d : ℕ) → documentCheckOf set cells ≡ d → d < 18 → checkedOf d ≡ Checked.Refused n → Judging set cells work run (Refused n) work run
     go zero ed l f = let z : _≡_ {A = ℕ} 0 1 = cc in let w : ⊥ = omega arith in absurd w
@@ -213,14 +233,7 @@ turned-away set cells work run c n e q = go (documentCheckOf set cells) refl (do
         subst (λ k. Judging set cells work run (Refused k) work run) same
         (refused set cells work run d (first-number set cells (length work) (length run) d ed) work (sym (untouched-work d work l)))
 
-pub passed-first : (set cells : List ℕ) (c : Checked) → c ≡ checkedOf (documentCheckOf set cells) → c ≡ Checked.Sound → documentCheckOf set cells ≡ 0
-passed-first set cells c e q = go (documentCheckOf set cells) refl (sym e ∙ q)
-  where
-    go : (d : ℕ) → documentCheckOf set cells ≡ d → checkedOf d ≡ Checked.Sound → documentCheckOf set cells ≡ 0
-    go zero ed f = ed
-    go (suc d) ed f = let z : _≡_ {A = ℕ} 0 1 = cc in let w : ⊥ = omega arith in absurd w
-
-pub ruleset judges = (turned-away, passed-first, needs)
+pub ruleset judges = (refused-first, passed-zero, needs)
 
 over : (n room : ℕ) → demand (leb n room) 31 0 ≡ 31 → room < n
 over n room e = go (leb n room) refl e
@@ -245,14 +258,17 @@ document-passed : (set cells : List ℕ) (work run : ℕ) → judgeCheckOf set c
 unfolding judgeCheckOf
 document-passed set cells work run e = both-passed (documentCheckOf set cells) _ e .0
 
--- THE MEANING of the answer: where no number turns the inputs away, yes exactly where an accepting run exists, no exactly where none does.
-pub judged-means : (set cells : List ℕ) (work run s : ℕ) → judgeCheckOf set cells work run ≡ 0 → ((judgedOf (judgeCheckOf set cells work run) (accepts? (decode set) (decodeRows cells)) s ≡ Yes s) ↔ Accepts (decode set) (treeOf (decodeRows cells))) × ((judgedOf (judgeCheckOf set cells work run) (accepts? (decode set) (decodeRows cells)) s ≡ No) ↔ (Accepts (decode set) (treeOf (decodeRows cells)) → ⊥))
-judged-means set cells work run s e =
+-- THE MEANING of the answer: where no number refuses the inputs, yes exactly where an accepting run exists, no exactly where none does.
+pub judged-means : (set cells : List ℕ) (work run : ℕ) → judgeCheckOf set cells work run ≡ 0
+    → ((unless (judgeCheckOf set cells work run) (accepts? (decode set) (decodeRows cells)) ≡ gives true) ↔ Accepts (decode set) (treeOf (decodeRows cells)))
+    × ((unless (judgeCheckOf set cells work run) (accepts? (decode set) (decodeRows cells)) ≡ gives false) ↔ (Accepts (decode set) (treeOf (decodeRows cells)) → ⊥))
+unfolding unless
+judged-means set cells work run e =
     rw e (go (accepts? (decode set) (decodeRows cells)) (decides (decode set) (decodeRows cells) (table .some-row) (table .lower) (table .distinct)))
   where
     table : SoundTable (decode set) (decodeRows cells)
     table = sound-document set cells (document-passed set cells work run e) .1
 
-    go : (b : Bool) → (b ≡ true) ↔ Accepts (decode set) (treeOf (decodeRows cells)) → ((judgedOf 0 b s ≡ Yes s) ↔ Accepts (decode set) (treeOf (decodeRows cells))) × ((judgedOf 0 b s ≡ No) ↔ (Accepts (decode set) (treeOf (decodeRows cells)) → ⊥))
-    go true h = ((λ _. h .0 refl, λ _. refl), (λ q. absurd (yes-no s q), λ f. absurd (f (h .0 refl))))
-    go false h = ((λ q. absurd (no-yes s q), λ a. true-false (sym (h .1 a))), (λ _ a. true-false (sym (h .1 a)), λ _. refl))
+    go : (b : Bool) → (b ≡ true) ↔ Accepts (decode set) (treeOf (decodeRows cells)) → ((gives b ≡ gives true) ↔ Accepts (decode set) (treeOf (decodeRows cells))) × ((gives b ≡ gives false) ↔ (Accepts (decode set) (treeOf (decodeRows cells)) → ⊥))
+    go true h = ((λ _. h .0 refl, λ _. refl), (λ q. absurd (gives-apart q), λ f. absurd (f (h .0 refl))))
+    go false h = ((λ q. absurd (gives-apart (sym q)), λ a. true-false (sym (h .1 a))), (λ _ a. true-false (sym (h .1 a)), λ _. refl))

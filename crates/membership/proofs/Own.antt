@@ -15,10 +15,10 @@ use lib.Seq.{getD-set-same, getD-set-other}
 use Rattle.model.specs.Limits.{maxSteps}
 use Rattle.model.specs.Lists.{tab}
 use Rattle.model.specs.Automaton.{bit?}
+use Rattle.automaton.proofs.Parts.{tab-same}
 use Rattle.document.specs.Check.{placeIn}
 use Rattle.membership.specs.Cells.{annotationCells, roomOf, memoryOf}
 use Rattle.membership.specs.Plan.{Bounds}
-use Rattle.membership.proofs.Places.{tab-same}
 
 -- a list filled from the front, place by place: what each place holds is a function of its number
 pub record Filled (n : ℕ) (f : ℕ → ℕ) (width : ℕ) (out : List ℕ) (k : ℕ) : Type 0 where

@@ -11,6 +11,7 @@ use lib.ListN.{length, getD, set, length-set}
 use lib.Seq.{getD-set-same, getD-set-other}
 use Rattle.model.specs.Lists.{eqList, tab, allBelow}
 use Rattle.model.specs.Annotation.{placesAgree, joinedPlace, agree?, joined}
+use Rattle.automaton.proofs.Parts.{tab-same}
 use Rattle.membership.specs.Cells.{memoryOf, JoinedIn}
 
 and-assoc : (a b c : Bool) → (a && (b && c)) ≡ ((a && b) && c)
@@ -26,10 +27,6 @@ all-front : (n : ℕ) (p : ℕ → Bool) → allBelow (suc n) p ≡ (p 0 && allB
 unfolding allBelow
 all-front zero p = and-true (p 0)
 all-front (suc n) p = ap (λ b. b && p (suc n)) (all-front n p) ∙ sym (and-assoc (p 0) (allBelow n (λ k. p (suc k))) (p (suc n)))
-
-pub tab-same : {A : Type 0} (n : ℕ) (f g : ℕ → A) → ((k : ℕ) → k < n → f k ≡ g k) → tab n f ≡ tab n g
-tab-same zero f g h = refl
-tab-same (suc n) f g h = cc (h 0 (omega arith), tab-same n (λ k. f (suc k)) (λ k. g (suc k)) (λ k l. h (suc k) (omega arith)))
 
 agree-tab : (n : ℕ) (f g : ℕ → ℕ) → agree? (tab n f) (tab n g) ≡ allBelow n (λ k. placesAgree (f k) (g k))
 unfolding allBelow

@@ -11,9 +11,9 @@ use lib.ListN.{getD, take, drop}
 use lib.Seq.{getD-take, getD-drop}
 use Rattle.model.specs.Lists.{any, eqList, tab, anyBelow}
 use Rattle.model.specs.Annotation.{Memory, Annotation, annotation, agree?, joined, eqAnnotation}
+use Rattle.automaton.proofs.Parts.{tab-same}
 use Rattle.membership.specs.Cells.{memoryOf, JoinedIn, cellOf, memoryIn, annotationIn, annotationsIn}
-use Rattle.membership.specs.Search.{fits?, JoinedWith}
-use Rattle.membership.proofs.Places.{tab-same}
+use Rattle.membership.specs.Search.{choosable?, JoinedWith}
 
 module _ (work : List ℕ) (tags j : ℕ) where
   -- the part of the space that holds the memory
@@ -29,7 +29,7 @@ module _ (work : List ℕ) (tags j : ℕ) where
         let e : j * 32 + 2 + k ≡ j * 32 + (2 + k) = omega arith in
         getD-take (j * 32 + 18 - (j * 32 + 2)) (drop (j * 32 + 2) work) k 0 (omega arith) ∙ getD-drop (j * 32 + 2) work k 0 ∙ ap (λ i. getD work i 0) e)
 
-    pub choice-agrees : (q : ℕ) (m : List ℕ) (r : Bool) → getD work (j * 32 + 1) 0 ≡ q → r ≡ agree? (memoryOf tags m) (memoryOf tags part) → r ≡ fits? q (memoryOf tags m) (annotationIn tags work j)
+    pub choice-agrees : (q : ℕ) (m : List ℕ) (r : Bool) → getD work (j * 32 + 1) 0 ≡ q → r ≡ agree? (memoryOf tags m) (memoryOf tags part) → r ≡ choosable? q (memoryOf tags m) (annotationIn tags work j)
     unfolding cellOf
     choice-agrees q m r es e = e ∙ ap (agree? (memoryOf tags m)) memory-part ∙ sym (ap (λ b. b && agree? (memoryOf tags m) (memoryIn tags work j)) (eq-eqb _ _ es))
 
@@ -41,7 +41,7 @@ module _ (work : List ℕ) (tags j : ℕ) where
         ∙ sym (ap (λ b. b && eqList (memoryOf tags m) (memoryIn tags work j)) (eq-eqb q (getD work (j * 32 + 1) 0) es))
         ∙ sym (ap (λ b. b && (eqb q (getD work (j * 32 + 1) 0) && eqList (memoryOf tags m) (memoryIn tags work j))) (eq-eqb i (getD work (j * 32 + 0) 0) (er ∙ sym (ap (λ k. getD work k 0) z))))
 
-  pub choice-other : (q : ℕ) (m : Memory) → (getD work (j * 32 + 1) 0 ≡ q → ⊥) → false ≡ fits? q m (annotationIn tags work j)
+  pub choice-other : (q : ℕ) (m : Memory) → (getD work (j * 32 + 1) 0 ≡ q → ⊥) → false ≡ choosable? q m (annotationIn tags work j)
   unfolding cellOf
   choice-other q m h = sym (ap (λ b. b && agree? m (memoryIn tags work j)) (ne-eqb _ _ h))
 

@@ -16,6 +16,7 @@ use Rattle.model.specs.Annotation.{emptyMemory, ownMemory}
 use Rattle.automaton.specs.Stored.{decode}
 use Rattle.automaton.specs.Check.{checkOf}
 use Rattle.automaton.specs.Window.{FirstFrom}
+use Rattle.automaton.proofs.Parts.{tab-same}
 use Rattle.automaton.proofs.Sound.{sound-decode}
 use Rattle.document.specs.Rows.{used, placesIn, rowIn, decodeRows}
 use Rattle.document.specs.Check.{placeIn}
@@ -27,7 +28,6 @@ use Rattle.membership.specs.Listing.{noChildren, byRule, entriesBelow}
 use Rattle.membership.specs.Plan.{Bounds, WantFor, Starts, Before}
 use Rattle.membership.specs.declared.search.Want.{Want}
 use Rattle.membership.specs.declared.table.Plan.{Plan}
-use Rattle.membership.proofs.Places.{tab-same}
 use Rattle.membership.proofs.Turning.{Turning, turn-in, turn-full, turn-end}
 use Rattle.membership.proofs.ByRow.{rules-start, in-symbol, in-rules, rule-ready, rule-grown}
 

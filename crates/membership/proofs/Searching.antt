@@ -10,7 +10,7 @@ use Rattle.model.specs.Lists.{concatMap, only}
 use Rattle.model.specs.Annotation.{Memory, Annotation, joined}
 use Rattle.membership.specs.Cells.{memoryOf, memoryIn, annotationIn, annotationsIn}
 use Rattle.membership.specs.Entries.{Entry, entriesIn, addEntries, Grown}
-use Rattle.membership.specs.Search.{span, noAnnotation, fits?, finished, chosen, found, Ready}
+use Rattle.membership.specs.Search.{span, noAnnotation, choosable?, askedState, finished, chosen, found, Ready}
 use Rattle.membership.specs.declared.search.Want.{Want}
 use Rattle.membership.proofs.Adding.{Ext, ext-entries, annotation-at, same-entry, same-annotations}
 use Rattle.membership.proofs.Turning.{Turning, turn-start, turn-front, turn-skip, turn-in, turn-full, turn-end}
@@ -97,12 +97,12 @@ module _ (work₀ own : List ℕ) (want : Want) (left n : ℕ) (memory children 
           annotation-at (want .tags) work₀ (want .base) j b
           ∙ sym (ap (λ (e : Entry). e .annotation) (same-entry (want .tags) work₀ work n m list list-front work-front j (omega arith) (omega arith)))
 
-      step-is : (ok : Bool) → ok ≡ fits? (getD (want .states) place 0) (memoryOf (want .tags) memory) (annotationIn (want .tags) work j) → step j ≡ only ok (next (joined (memoryOf (want .tags) memory) (memoryIn (want .tags) work j)) (set children place j))
+      step-is : (ok : Bool) → ok ≡ choosable? (askedState want place) (memoryOf (want .tags) memory) (annotationIn (want .tags) work j) → step j ≡ only ok (next (joined (memoryOf (want .tags) memory) (memoryIn (want .tags) work j)) (set children place j))
       step-is ok e =
-          ap (λ (a : Annotation). only (fits? (getD (want .states) place 0) (memoryOf (want .tags) memory) a) (next (joined (memoryOf (want .tags) memory) (a .memory)) (set children place j))) known-is
+          ap (λ (a : Annotation). only (choosable? (askedState want place) (memoryOf (want .tags) memory) a) (next (joined (memoryOf (want .tags) memory) (a .memory)) (set children place j))) known-is
           ∙ ap (λ b. only b (next (joined (memoryOf (want .tags) memory) (memoryIn (want .tags) work j)) (set children place j))) (sym e)
 
-      module _ (ok : Bool) (eo : ok ≡ fits? (getD (want .states) place 0) (memoryOf (want .tags) memory) (annotationIn (want .tags) work j)) where
+      module _ (ok : Bool) (eo : ok ≡ choosable? (askedState want place) (memoryOf (want .tags) memory) (annotationIn (want .tags) work j)) where
         pub skip : ok ≡ false → Searching work m (j + 1)
         skip f =
             record {

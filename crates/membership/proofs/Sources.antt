@@ -18,7 +18,7 @@ use Rattle.model.specs.Annotation.{Memory, Annotation, emptyMemory, agree?, joi
 use Rattle.model.proofs.Members.{T-and, in-concatMap, in-map, in-only}
 use Rattle.model.proofs.Memory.{Within, within-left, within-right}
 use Rattle.membership.specs.Entries.{Entry, annotationsOf, addEntry, addEntries}
-use Rattle.membership.specs.Search.{span, fits?}
+use Rattle.membership.specs.Search.{span, choosable?}
 use Rattle.membership.specs.Listing.{lastStep, taken, made, noChildren, ruleEntries, byRule, rowEntries}
 use Rattle.membership.specs.Sources.{annotationAt}
 use Rattle.membership.proofs.Adding.{noEntry, ext-at, ext-entries}
@@ -99,8 +99,8 @@ module _ (A : Automaton) (known : List Annotation) (i q r : ℕ) where
       let (j, ij, it) = in-concatMap (taken known p c s (λ x d. made known (lastStep A i q r) (suc p) x d cs qs) m children) (span 0 (length known)) h in
       let (a, lj) = in-span 0 (length known) j ij in
       let b = annotationAt known j in
-      let (t, im) = in-only (eqb (b .row) c && fits? s m b) _ it in
-      let (t₁, t′) = T-and (eqb (b .row) c) (fits? s m b) t in
+      let (t, im) = in-only (eqb (b .row) c && choosable? s m b) _ it in
+      let (t₁, t′) = T-and (eqb (b .row) c) (choosable? s m b) t in
       let (t₂, t₃) = T-and (eqb (b .state) s) (agree? m (b .memory)) t′ in
       from-more p m children c s cs qs j e (omega arith) (omega arith) (eqb→eq _ _ t₁) (eqb→eq _ _ t₂) t₃
       (from-made (suc p) (joined m (b .memory)) (set children p j) cs qs (let l = length-set children p j in omega arith) e im)

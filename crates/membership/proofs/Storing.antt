@@ -9,18 +9,19 @@ use native.Mathlib.Nat.{eq-or-lt-of-le, le-of-suc-le-suc}
 use native.Mathlib.Decide.{ℕ-discrete}
 use native.Mathlib.Numerals.{add-one}
 use borrow.Author.Needs.{needs}
-use lib.ListN.{length, getD, set, length-append}
-use lib.Seq.{getD-set-same, getD-set-other, ext-getD}
+use lib.ListN.{length, getD, set, length-set, length-append}
+use lib.Seq.{getD-set-same, getD-set-other}
 use Rattle.model.specs.Limits.{maxChildren}
 use Rattle.model.specs.Lists.{any, only, tab}
-use Rattle.model.specs.Annotation.{Memory, Annotation, annotation, agree?, joined, eqAnnotation}
-use Rattle.model.proofs.Tab.{tab-at, length-tab}
+use Rattle.model.specs.Space.{putAt}
+use Rattle.model.specs.Annotation.{Annotation, annotation, agree?, joined, eqAnnotation}
+use Rattle.automaton.proofs.Parts.{tab-same, tab-is}
 use Rattle.membership.specs.Cells.{memoryOf, JoinedIn, cellOf, memoryIn, annotationIn, annotationsIn, ruleIn, childIn}
 use Rattle.membership.specs.Index.{slotOf, firstIn, nextIn, linkOf, OnChain, newest, older, Indexed, Linked}
-use Rattle.membership.specs.Entries.{Entry, annotationsOf, entryIn, entriesIn, addEntry, addEntries, Grown, Copied, Stored}
+use Rattle.membership.specs.Entries.{Entry, annotationsOf, entryIn, entriesIn, addEntry, addEntries, Grown, Stored}
 use Rattle.membership.specs.Search.{finished}
 use Rattle.membership.specs.declared.search.Want.{Want}
-use Rattle.membership.proofs.Places.{tab-same}
+use Rattle.membership.proofs.Copying.{Copied, copied}
 use Rattle.membership.proofs.Adding.{length-entries, add-nothing, add-single}
 use Rattle.membership.proofs.Chain.{link-is, chain-bound}
 
@@ -40,10 +41,6 @@ entry-cells tags work work′ j few h =
     (h 19 (omega arith))
     (tab-same maxChildren (λ p. cellOf work′ j (20 + p)) (λ p. cellOf work j (20 + p)) (λ p l. h (20 + p) (omega arith)))
 
-tab-all : (l : List ℕ) (n : ℕ) → length l ≡ n → tab n (λ k. getD l k 0) ≡ l
-tab-all l n e =
-    ext-getD 0 (tab n (λ k. getD l k 0)) l (length-tab n (λ k. getD l k 0) ∙ sym e) (λ i h. let z = length-tab n (λ k. getD l k 0) in tab-at 0 n (λ k. getD l k 0) i (omega arith))
-
 pub tab-snoc : {A : Type 0} (n : ℕ) (f : ℕ → A) → tab (suc n) f ≡ tab n f ++ f n ∷ []
 tab-snoc zero f = refl
 tab-snoc {A} (suc n) f = ap (λ (l : List A). f 0 ∷ l) (tab-snoc n (λ k. f (suc k)))
@@ -51,28 +48,34 @@ tab-snoc {A} (suc n) f = ap (λ (l : List A). f 0 ∷ l) (tab-snoc n (λ k. f (s
 -- the writes of an entry, one after the other
 module _ (tags : ℕ) (w₀ w₃ w₆ : List ℕ) (n i q rule : ℕ) (memory children : List ℕ) (few : tags ≤ 16) (fits : n * 32 + 32 ≤ length w₀) (long₃ : length w₃ ≡ length w₀)
     (wide : length memory ≡ 16) (four : length children ≡ 4)
-    (copied : Copied (set (set w₀ (n * 32) i) (n * 32 + 1) q) (n * 32 + 2) memory (length memory) w₃)
-    (copied′ : Copied (set (set w₃ (n * 32 + 18) 0) (n * 32 + 19) rule) (n * 32 + 20) children (length children) w₆) where
+    (put₃ : w₃ ≡ putAt (set (set w₀ (n * 32) i) (n * 32 + 1) q) (n * 32 + 2) memory)
+    (put₆ : w₆ ≡ putAt (set (set w₃ (n * 32 + 18) 0) (n * 32 + 19) rule) (n * 32 + 20) children) where
+  memory-in : Copied (set (set w₀ (n * 32) i) (n * 32 + 1) q) (n * 32 + 2) memory w₃
+  memory-in = copied _ (n * 32 + 2) memory w₃ (simp length-set (omega arith)) put₃
+
+  children-in : Copied (set (set w₃ (n * 32 + 18) 0) (n * 32 + 19) rule) (n * 32 + 20) children w₆
+  children-in = copied _ (n * 32 + 20) children w₆ (simp length-set (omega arith)) put₆
+
   outside : (x : ℕ) → (x < n * 32) ⊎ (n * 32 + 24 ≤ x) → getD w₆ x 0 ≡ getD w₀ x 0
   outside x (inl l) =
-      copied′ .below x (omega arith)
+      children-in .below x (omega arith)
       ∙ getD-set-other (set w₃ (n * 32 + 18) 0) (n * 32 + 19) x rule 0 (λ e. omega arith)
       ∙ getD-set-other w₃ (n * 32 + 18) x 0 0 (λ e. omega arith)
-      ∙ copied .below x (omega arith)
+      ∙ memory-in .below x (omega arith)
       ∙ getD-set-other (set w₀ (n * 32) i) (n * 32 + 1) x q 0 (λ e. omega arith)
       ∙ getD-set-other w₀ (n * 32) x i 0 (λ e. omega arith)
   outside x (inr l) =
-      copied′ .above x (omega arith)
+      children-in .above x (omega arith)
       ∙ getD-set-other (set w₃ (n * 32 + 18) 0) (n * 32 + 19) x rule 0 (λ e. omega arith)
       ∙ getD-set-other w₃ (n * 32 + 18) x 0 0 (λ e. omega arith)
-      ∙ copied .above x (omega arith)
+      ∙ memory-in .above x (omega arith)
       ∙ getD-set-other (set w₀ (n * 32) i) (n * 32 + 1) x q 0 (λ e. omega arith)
       ∙ getD-set-other w₀ (n * 32) x i 0 (λ e. omega arith)
 
   -- what stands before the mark is what was written first
   before : (x : ℕ) → x < n * 32 + 18 → getD w₆ x 0 ≡ getD w₃ x 0
   before x l =
-      copied′ .below x (omega arith)
+      children-in .below x (omega arith)
       ∙ getD-set-other (set w₃ (n * 32 + 18) 0) (n * 32 + 19) x rule 0 (λ e. omega arith)
       ∙ getD-set-other w₃ (n * 32 + 18) x 0 0 (λ e. omega arith)
 
@@ -82,19 +85,19 @@ module _ (tags : ℕ) (w₀ w₃ w₆ : List ℕ) (n i q rule : ℕ) (memory chi
       record {
         entry = entry-same _ _ _ _ _ _ _ _ _ _
             (before (n * 32 + 0) (omega arith)
-            ∙ copied .below (n * 32 + 0) (omega arith)
+            ∙ memory-in .below (n * 32 + 0) (omega arith)
             ∙ getD-set-other (set w₀ (n * 32) i) (n * 32 + 1) (n * 32 + 0) q 0 (λ e. omega arith)
             ∙ (let e : n * 32 + 0 ≡ n * 32 = omega arith in ap (λ x. getD (set w₀ (n * 32) i) x 0) e)
             ∙ getD-set-same w₀ (n * 32) i 0 (omega arith))
             (before (n * 32 + 1) (omega arith)
-            ∙ copied .below (n * 32 + 1) (omega arith)
-            ∙ getD-set-same (set w₀ (n * 32) i) (n * 32 + 1) q 0 (let e = lib.ListN.length-set w₀ (n * 32) i in omega arith))
+            ∙ memory-in .below (n * 32 + 1) (omega arith)
+            ∙ getD-set-same (set w₀ (n * 32) i) (n * 32 + 1) q 0 (let e = length-set w₀ (n * 32) i in omega arith))
             (tab-same tags (λ k. getD w₆ (n * 32 + (2 + k)) 0) (λ k. getD memory k 0)
-            (λ k l. let e : n * 32 + (2 + k) ≡ n * 32 + 2 + k = omega arith in before (n * 32 + (2 + k)) (omega arith) ∙ ap (λ x. getD w₃ x 0) e ∙ copied .inside k (omega arith)))
-            (copied′ .below (n * 32 + 19) (omega arith) ∙ getD-set-same (set w₃ (n * 32 + 18) 0) (n * 32 + 19) rule 0 (let e = lib.ListN.length-set w₃ (n * 32 + 18) 0 in omega arith))
+            (λ k l. let e : n * 32 + (2 + k) ≡ n * 32 + 2 + k = omega arith in before (n * 32 + (2 + k)) (omega arith) ∙ ap (λ x. getD w₃ x 0) e ∙ memory-in .inside k (omega arith)))
+            (children-in .below (n * 32 + 19) (omega arith) ∙ getD-set-same (set w₃ (n * 32 + 18) 0) (n * 32 + 19) rule 0 (let e = length-set w₃ (n * 32 + 18) 0 in omega arith))
             (tab-same maxChildren (λ p. getD w₆ (n * 32 + (20 + p)) 0) (λ p. getD children p 0)
-            (λ p l. let e : n * 32 + (20 + p) ≡ n * 32 + 20 + p = omega arith in ap (λ x. getD w₆ x 0) e ∙ copied′ .inside p (omega arith))
-            ∙ tab-all children maxChildren four);
+            (λ p l. let e : n * 32 + (20 + p) ≡ n * 32 + 20 + p = omega arith in ap (λ x. getD w₆ x 0) e ∙ children-in .inside p (omega arith))
+            ∙ tab-is 0 children maxChildren (λ p. getD children p 0) (sym four) (λ p l. refl));
         others = λ j k l other. outside (j * 32 + k) (apart j k l (lt-or-gt j n other));
         spare = λ k l l′. outside (n * 32 + k) (inr (omega arith));
       }

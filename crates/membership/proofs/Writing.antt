@@ -7,27 +7,27 @@ use native.Mathlib.Omega.{arith}
 use native.Mathlib.Numerals.{add-one}
 use native.Mathlib.Decide.{ℕ-discrete, decLt}
 use borrow.Author.Needs.{needs}
-use borrow.Author.Tests.{le-ltb, le-leb}
+use borrow.Author.Tests.{le-ltb}
 use lib.Dec.{T, eqb, ltb}
-use lib.ListN.{length, set, take, drop, length-set, length-append, length-drop}
+use lib.ListN.{length, set, drop, length-set, length-append, length-drop}
 use lib.Seq.{getD-set-same, getD-set-other, take-at, drop-append-add, drop-drop}
 use Rattle.model.specs.Limits.{maxChildren, unused}
 use Rattle.model.specs.Lists.{only, tab}
-use Rattle.automaton.specs.Encode.{putAt}
+use Rattle.model.specs.Space.{putAt}
+use Rattle.model.proofs.Space.{put-fits}
+use Rattle.automaton.proofs.Parts.{tab-same}
 use Rattle.membership.specs.Cells.{cellOf, ruleIn, childIn}
-use Rattle.membership.specs.Trace.{reached?, rankOf, KeptBut, Reached, stepPlace, stepsWritten, numberAt}
+use Rattle.membership.specs.Trace.{reached?, rankOf, KeptBut, Reached, stepPlace, stepsWritten, numberAt, stepOf, withNumber}
 use Rattle.membership.specs.Handed.{StepsWritten}
-use Rattle.membership.proofs.Places.{tab-same}
 use Rattle.membership.proofs.Ranks.{rank-most}
 
 -- cells put behind what stands at the front
-put-behind : (front run cells : List ℕ) (at : ℕ) → length front ≡ at → at + length cells ≤ length run → putAt (front ++ drop at run) at cells ≡ (front ++ cells) ++ drop (at + length cells) run
-unfolding putAt
-put-behind front run cells at e l =
+put-next : (front run cells : List ℕ) (at : ℕ) → length front ≡ at → at + length cells ≤ length run → putAt (front ++ drop at run) at cells ≡ (front ++ cells) ++ drop (at + length cells) run
+put-next front run cells at e l =
     let out : List ℕ = front ++ drop at run in
     let n = length-append front (drop at run) in
     let d = length-drop at run in
-    ap (λ b. cond b (take at out ++ cells ++ drop (at + length cells) out) out) (le-leb (at + length cells) (length out) (omega arith))
+    put-fits out at cells (omega arith)
     ∙ ap (λ z. z ++ cells ++ drop (at + length cells) out) (take-at front (drop at run) at e)
     ∙ ap (λ z. front ++ cells ++ z) (ap (λ k. drop (k + length cells) out) (sym e) ∙ drop-append-add front (drop at run) (length cells) ∙ drop-drop (length cells) at run)
 
@@ -139,18 +139,18 @@ module _ (work₀ run₀ : List ℕ) (root : ℕ) where
               let e = le-ltb (childIn work₀ j p) j (omega (arith, m)) in
               ap (λ b. cond b (cellOf work (childIn work₀ j p) 27) unused) e ∙ sym (ap (λ b. cond b (rankOf (reached? work₀) (childIn work₀ j p)) unused) e)
 
-      cells-are : ruleIn work j ∷ cellOf work j 0 ∷ tab maxChildren (numberAt work j) ≡ stepCellsOf work₀ j
+      cells-are : stepOf work j ≡ stepCellsOf work₀ j
       cells-are =
           λ x. rule-same x ∷ h .kept j 0 (omega arith) (λ e. omega arith) x ∷ tab-same maxChildren (numberAt work j) (stepPlace work₀ (reached? work₀) j) place-is x
 
-      pub writing-more : (work′ run′ : List ℕ) → work′ ≡ set work (j * 32 + 27) s → run′ ≡ putAt run (s * 6) (ruleIn work j ∷ cellOf work j 0 ∷ tab maxChildren (numberAt work j)) → Writing work₀ run₀ root work′ run′ (s + 1) (j + 1)
+      pub writing-more : (work′ run′ : List ℕ) → work′ ≡ withNumber work j s → run′ ≡ putAt run (s * 6) (stepOf work j) → Writing work₀ run₀ root work′ run′ (s + 1) (j + 1)
       writing-more work′ run′ ew eu =
           let len = written-length work₀ j in
           let c = h .count in
           let few = few-written in
           let w = h .space in
           let cells : run′ ≡ (stepsWritten work₀ (reached? work₀) j ++ stepCellsOf work₀ j) ++ drop (s * 6 + 6) run₀ =
-          eu ∙ ap (putAt run (s * 6)) cells-are ∙ ap (λ z. putAt z (s * 6) (stepCellsOf work₀ j)) (h .cells) ∙ put-behind (stepsWritten work₀ (reached? work₀) j) run₀ (stepCellsOf work₀ j) (s * 6) (omega arith) (omega arith) in
+          eu ∙ ap (putAt run (s * 6)) cells-are ∙ ap (λ z. putAt z (s * 6) (stepCellsOf work₀ j)) (h .cells) ∙ put-next (stepsWritten work₀ (reached? work₀) j) run₀ (stepCellsOf work₀ j) (s * 6) (omega arith) (omega arith) in
           let next : s * 6 + 6 ≡ (s + 1) * 6 = omega arith in
           let whole : run′ ≡ stepsWritten work₀ (reached? work₀) (j + 1) ++ drop ((s + 1) * 6) run₀ =
           cells ∙ (λ x. sym (written-yes work₀ j this) x ++ drop (next x) run₀) in
@@ -191,7 +191,7 @@ module _ (work₀ run₀ : List ℕ) (root : ℕ) where
 pub ruleset writes = (writing-start, step-narrow, writing-skip, writing-more, writing-all, needs)
 
 -- one step's cells, as they are read
-pub step-put : (work run run′ : List ℕ) (j s src rule row : ℕ) (places : List ℕ) → src ≡ j → rule ≡ cellOf work src 19 → row ≡ cellOf work j 0 → places ≡ tab maxChildren (numberAt work j) → run′ ≡ putAt run (s * 6) (rule ∷ row ∷ places) → run′ ≡ putAt run (s * 6) (ruleIn work j ∷ cellOf work j 0 ∷ tab maxChildren (numberAt work j))
+pub step-put : (work run run′ : List ℕ) (j s src rule row : ℕ) (places : List ℕ) → src ≡ j → rule ≡ cellOf work src 19 → row ≡ cellOf work j 0 → places ≡ tab maxChildren (numberAt work j) → run′ ≡ putAt run (s * 6) (rule ∷ row ∷ places) → run′ ≡ putAt run (s * 6) (stepOf work j)
 unfolding ruleIn
 step-put work run run′ j s src rule row places es er ew ep e =
     e ∙ (λ x. putAt run (s * 6) ((er ∙ ap (λ z. cellOf work z 19) es) x ∷ ew x ∷ ep x))

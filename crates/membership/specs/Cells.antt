@@ -1,4 +1,4 @@
--- Annotations in the work space, 32 cells each: 0 row, 1 state, 2 to 17 memory, 18 a mark (0 today), 19 rule, 20 to 23 child annotations, the rest free (document 01, section "Runs"). Assumes nothing.
+-- Annotations in the work space, 32 cells each: 0 row, 1 state, 2 to 17 memory, 18 a mark (0 today), 19 rule, 20 to 23 child annotations, 24 and 25 the index's, 26 and 27 the run's, 28 to 31 free (document 01, section "Runs"). Assumes nothing.
 use mathlib.Core.Path.{_≡_}
 use mathlib.Core.List.{List}
 use Prim.Native.Nat.{ℕ, _+_, _*_, _/_, _≤_}

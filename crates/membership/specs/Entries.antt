@@ -2,8 +2,8 @@
 use mathlib.Core.Path.{_≡_}
 use mathlib.Core.List.{List, [], _∷_, _++_, map}
 use mathlib.Core.Bool.{cond}
-use Prim.Native.Nat.{ℕ, _+_, _<_, _≤_}
-use lib.ListN.{length, getD}
+use Prim.Native.Nat.{ℕ, _<_, _≤_}
+use lib.ListN.{length}
 use Rattle.model.specs.Limits.{maxChildren}
 use Rattle.model.specs.Lists.{any, tab}
 use Rattle.model.specs.Annotation.{Annotation, eqAnnotation}
@@ -40,12 +40,6 @@ pub record Grown (n room tags : ℕ) (list : List Entry) (work : List ℕ) (r : 
   pub held : r ≤ room → entriesIn tags work r ≡ list
   pub full : room < r → room < length list
   pub indexed : r ≤ room → Indexed tags room work r
-
--- the first n cells of a list stand at a place, and what lies outside is as it was
-pub record Copied (before : List ℕ) (at : ℕ) (cells : List ℕ) (n : ℕ) (after : List ℕ) : Type 0 where
-  pub inside : (k : ℕ) → k < n → getD after (at + k) 0 ≡ getD cells k 0
-  pub below : (i : ℕ) → i < at → getD after i 0 ≡ getD before i 0
-  pub above : (i : ℕ) → at + n ≤ i → getD after i 0 ≡ getD before i 0
 
 -- entry n is written, and every other cell is as it was
 pub record Stored (tags : ℕ) (before : List ℕ) (n : ℕ) (e : Entry) (after : List ℕ) : Type 0 where

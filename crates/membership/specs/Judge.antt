@@ -2,13 +2,14 @@
 use mathlib.Core.Path.{_≡_}
 use mathlib.Core.List.{List}
 use mathlib.Core.Bool.{Bool, true, false, _||_, cond}
-use Prim.Native.Nat.{ℕ, zero, suc, _*_, _/_, _<_, _≤_}
+use Prim.Native.Nat.{ℕ, _*_, _/_, _<_, _≤_}
 use lib.Dec.{eqb, leb}
 use lib.ListN.{length, take, drop, replicate}
-use Rattle.model.specs.Refusal.{demand, andAfter}
+use Rattle.model.specs.Refusal.{demand, andAfter, Answer, gives, refuses, unless}
 use Rattle.model.specs.Table.{treeOf}
 use Rattle.model.specs.Run.{Accepts}
 use Rattle.model.specs.Annotation.{annotations, accepts?}
+use Rattle.model.specs.Papers.{Recognizes, rigidOf, papers?}
 use Rattle.automaton.specs.Stored.{decode}
 use Rattle.document.specs.Rows.{decodeRows}
 use Rattle.document.specs.Check.{documentCheckOf}
@@ -18,32 +19,20 @@ use Rattle.membership.specs.Cells.{roomOf}
 use Rattle.membership.specs.declared.Judged.{Judged}
 use Rattle.membership.specs.declared.Judged.the-variants.{Yes, No, Refused}
 
--- The number that turns the inputs away, 0 for none, with so many cells in the work and the run space.
+-- The number that refuses the inputs, 0 for none, with so many cells in the work and the run space.
 unfoldable pub judgeCheckOf : List ℕ → List ℕ → ℕ → ℕ → ℕ
 judgeCheckOf set cells work run =
     andAfter (documentCheckOf set cells)
     (demand (leb (roomOf work) (run / stepCells)) 32
     (demand (leb (length (annotations (decode set) (decodeRows cells))) (roomOf work)) 31 0))
 
--- the answer by its number, the decision, and the number of steps of a yes
-abbrev pub judgedOf : ℕ → Bool → ℕ → Judged
-judgedOf zero true s = Yes s
-judgedOf zero false s = No
-judgedOf (suc n) b s = Refused (suc n)
+-- what the judge answers: whether the set lets the document in, or refused with a number
+abbrev pub judgeAnswer : Judged → Answer Bool
+judgeAnswer (Yes s) = gives true
+judgeAnswer No = gives false
+judgeAnswer (Refused n) = refuses n
 
--- the refusal number of an answer, 0 for none
-abbrev pub refusalOf : Judged → ℕ
-refusalOf (Yes s) = 0
-refusalOf No = 0
-refusalOf (Refused n) = n
-
--- the number of steps that an answer hands back
-abbrev pub stepsOf : Judged → ℕ
-stepsOf (Yes s) = s
-stepsOf No = 0
-stepsOf (Refused n) = 0
-
--- a judging passes 32 where no number or 31 turns it away: then all of the work space is zeros, else it is untouched
+-- a judging passes 32 where no number or 31 refuses it: then all of the work space is zeros, else it is untouched
 abbrev pub workAfter : ℕ → List ℕ → List ℕ
 workAfter n work = cond (eqb n 0 || eqb n 31) (replicate (length work) 0) work
 
@@ -62,8 +51,12 @@ RunAfter set cells before after (Refused n) = after ≡ before
 
 -- What a judging with the answer r leaves, from the spaces work and run to work′ and run′.
 pub record Judging (set cells work run : List ℕ) (r : Judged) (work′ run′ : List ℕ) : Type 0 where
-  pub answer : r ≡ judgedOf (judgeCheckOf set cells (length work) (length run)) (accepts? (decode set) (decodeRows cells)) (stepsOf r)
+  pub answer : judgeAnswer r ≡ unless (judgeCheckOf set cells (length work) (length run)) (accepts? (decode set) (decodeRows cells))
   pub cleared : work′ ≡ workAfter (judgeCheckOf set cells (length work) (length run)) work
   pub handed : RunAfter set cells run run′ r
   pub accepted : (s : ℕ) → r ≡ Yes s → Accepts (decode set) (treeOf (decodeRows cells))
   pub rejected : r ≡ No → Accepts (decode set) (treeOf (decodeRows cells)) → ⊥
+  -- of a set with one state to a tag and one tag to a state, a yes is acceptance by the rigid tree automaton of source document 004
+  pub recognized : papers? (decode set) ≡ true → (s : ℕ) → r ≡ Yes s → Recognizes (rigidOf (decode set)) (treeOf (decodeRows cells))
+  -- and a no its opposite
+  pub unrecognized : papers? (decode set) ≡ true → r ≡ No → Recognizes (rigidOf (decode set)) (treeOf (decodeRows cells)) → ⊥

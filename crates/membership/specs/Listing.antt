@@ -3,7 +3,7 @@ use mathlib.Core.List.{List, [], _∷_, map}
 use mathlib.Core.Bool.{_&&_}
 use Prim.Native.Nat.{ℕ, zero, suc}
 use lib.Dec.{eqb}
-use lib.ListN.{length, getD, set}
+use lib.ListN.{length, getD}
 use Rattle.model.specs.Limits.{maxChildren, unused}
 use Rattle.model.specs.Lists.{concatMap, only, tab}
 use Rattle.model.specs.Automaton.{Automaton}
@@ -11,7 +11,7 @@ use Rattle.model.specs.Table.{Row, rowAt}
 use Rattle.model.specs.Written.{ruleAt}
 use Rattle.model.specs.Annotation.{Memory, Annotation, annotation, emptyMemory, joined, finish}
 use Rattle.membership.specs.Entries.{Entry, annotationsOf, addEntries}
-use Rattle.membership.specs.Search.{span, noAnnotation, fits?}
+use Rattle.membership.specs.Search.{span, noAnnotation, choosable?, withChild}
 
 -- the last step, by rule r to state q on row i
 abbrev pub lastStep : Automaton → ℕ → ℕ → ℕ → Memory → List ℕ → List Entry
@@ -20,8 +20,8 @@ lastStep A i q r m children = map (λ y. record { annotation = annotation i q y;
 -- annotation j chosen at place p for a child on row c in state q, where it may be, and what the places after it make of that
 abbrev pub taken : List Annotation → ℕ → ℕ → ℕ → (Memory → List ℕ → List Entry) → Memory → List ℕ → ℕ → List Entry
 taken known p c q next m children j =
-    only (eqb ((getD known j noAnnotation) .row) c && fits? q m (getD known j noAnnotation))
-    (next (joined m ((getD known j noAnnotation) .memory)) (set children p j))
+    only (eqb ((getD known j noAnnotation) .row) c && choosable? q m (getD known j noAnnotation))
+    (next (joined m ((getD known j noAnnotation) .memory)) (withChild children p j))
 
 -- what the places from p on make, for children on the rows cs in the states qs
 unfoldable pub made : List Annotation → (Memory → List ℕ → List Entry) → ℕ → Memory → List ℕ → List ℕ → List ℕ → List Entry

@@ -1,6 +1,6 @@
 -- What the functions over rows and rules say of each other: a plan for a row, what a rule asks by it, and what is known before a row. Assumes nothing.
 use mathlib.Core.Path.{_≡_}
-use mathlib.Core.List.{List}
+use mathlib.Core.List.{List, map}
 use Prim.Native.Nat.{ℕ, _+_, _*_, _<_, _≤_}
 use lib.ListN.{length, getD}
 use Rattle.model.specs.Limits.{maxSymbols, maxChildren, maxSteps}
@@ -33,15 +33,15 @@ pub record WantFor (A : Automaton) (plan : Plan) (r : ℕ) (want : Want) : Type 
   pub room : want .room ≡ plan .room
   pub low : want .low ≡ plan .low
   pub high : want .high ≡ plan .high
-  pub states : want .states ≡ tab maxChildren (place (ruleAt A r))
+  pub states : map (λ q. q .0) (want .states) ≡ tab maxChildren (place (ruleAt A r))
 
 -- the number of annotations before each row up to row i
 abbrev pub Starts : Automaton → List Row → List ℕ → ℕ → Type 0
 Starts A rows starts i = (c : ℕ) → c ≤ i → getD starts c 0 ≡ length (entriesBelow A rows c)
 
 -- the first rule of each symbol and of the one past the last
-abbrev pub Firsts : Automaton → List ℕ → Type 0
-Firsts A firsts = (f : ℕ) → f ≤ maxSymbols → FirstFrom A f (getD firsts f 0)
+abbrev pub FirstRules : Automaton → List ℕ → Type 0
+FirstRules A firsts = (f : ℕ) → f ≤ maxSymbols → FirstFrom A f (getD firsts f 0)
 
 -- the work space before row i: its n annotations are those of the rows below
 pub record Before (A : Automaton) (rows : List Row) (i room tags : ℕ) (work : List ℕ) (n : ℕ) : Type 0 where

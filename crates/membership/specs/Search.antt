@@ -22,8 +22,8 @@ abbrev pub noAnnotation : Annotation
 noAnnotation = annotation 0 0 []
 
 -- an annotation may be chosen where state q is asked and the memory m is joined so far
-abbrev pub fits? : ℕ → Memory → Annotation → Bool
-fits? q m a = eqb (a .state) q && agree? m (a .memory)
+abbrev pub choosable? : ℕ → Memory → Annotation → Bool
+choosable? q m a = eqb (a .state) q && agree? m (a .memory)
 
 -- a memory in cells is the one joined so far with that of annotation j, whatever the number of tags
 abbrev pub JoinedWith : List ℕ → ℕ → List ℕ → List ℕ → Type 0
@@ -35,11 +35,19 @@ finished want own m children =
     only (agree? m own)
     (record { annotation = annotation (want .row .0) (want .target .0) (joined m own); rule = want .rule; children = children } ∷ [])
 
+-- the state that is asked at place p
+abbrev pub askedState : Want → ℕ → ℕ
+askedState want p = (getD (want .states) p (record { 0 = 0 })) .0
+
+-- the child annotations with number j at place p
+abbrev pub withChild : List ℕ → ℕ → ℕ → List ℕ
+withChild children p j = set children p j
+
 -- annotation j chosen at place p, where it may be, and what the places after it make of that
 abbrev pub chosen : List Annotation → Want → ℕ → (Memory → List ℕ → List Entry) → Memory → List ℕ → ℕ → List Entry
 chosen known want p next m children j =
-    only (fits? (getD (want .states) p 0) m (getD known j noAnnotation))
-    (next (joined m ((getD known j noAnnotation) .memory)) (set children p j))
+    only (choosable? (askedState want p) m (getD known j noAnnotation))
+    (next (joined m ((getD known j noAnnotation) .memory)) (withChild children p j))
 
 -- what the last `left` places make, each in its window of the known annotations
 unfoldable pub found : List Annotation → Want → Memory → ℕ → Memory → List ℕ → List Entry

@@ -3,8 +3,9 @@ use mathlib.Core.Path.{_≡_}
 use mathlib.Core.Logic.{_⊎_}
 use mathlib.Core.List.{List, [], _∷_, _++_}
 use mathlib.Core.Bool.{Bool, true, false, _&&_, cond}
-use Prim.Native.Nat.{ℕ, zero, suc, _+_, _<_, _≤_}
+use Prim.Native.Nat.{ℕ, zero, suc, _+_, _*_, _<_, _≤_}
 use lib.Dec.{T, eqb, ltb}
+use lib.ListN.{set}
 use Rattle.model.specs.Limits.{maxChildren, unused}
 use Rattle.model.specs.Lists.{only, tab}
 use Rattle.model.specs.Automaton.{Automaton, final?}
@@ -73,6 +74,13 @@ stepsWritten work f (suc j) = stepsWritten work f j ++ only (f j) (ruleIn work j
 -- what the places of annotation j hold while its step is written: the number in the child's cell
 abbrev pub numberAt : List ℕ → ℕ → ℕ → ℕ
 numberAt work j p = cond (ltb (childIn work j p) j) (cellOf work (childIn work j p) 27) unused
+
+-- the cells of annotation j's step then, and the work space once it has the number s
+abbrev pub stepOf : List ℕ → ℕ → List ℕ
+stepOf work j = ruleIn work j ∷ cellOf work j 0 ∷ tab maxChildren (numberAt work j)
+
+abbrev pub withNumber : List ℕ → ℕ → ℕ → List ℕ
+withNumber work j s = set work (j * annotationCells + 27) s
 
 -- an annotation of the given row in a final state
 abbrev pub acceptingIn : Automaton → ℕ → List ℕ → ℕ → Bool

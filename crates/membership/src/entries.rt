@@ -4,12 +4,14 @@ ghost use Prim.Native.Nat.{_+_, _*_, _≤_, _<_};
 ghost use lib.ListN.{length};
 ghost use Rattle.model.specs.Annotation.{annotation, eqAnnotation};
 ghost use Rattle.membership.specs.Cells.{memoryOf, annotationIn};
-ghost use Rattle.membership.specs.Entries.{Copied, Stored};
-ghost use Rattle.membership.specs.Search.{fits?, JoinedWith};
+ghost use Rattle.membership.specs.Entries.{Stored};
+ghost use Rattle.membership.specs.Search.{choosable?, JoinedWith};
 use crate::memory::agree;
 use crate::memory::join;
 use crate::memory::same;
 use automaton::State;
+use base::limits::PLACES;
+use base::space::put_cells;
 use document::rows::Row;
 
 pub const ANNOTATION_CELLS: usize = 32;
@@ -39,12 +41,6 @@ pub(crate) const REACHED: usize = 26;
 
 pub(crate) const NUMBER: usize = 27;
 
-pub(crate) fn size(x: u16) -> usize
-    ensures { λ r. ⌜ (r ≡ x) × (r < 65536) ⌝ }
-{
-    x as usize
-}
-
 pub(crate) fn narrow(x: usize) -> u16
     requires { ⌜ x < 65536 ⌝ }
     ensures { λ r. ⌜ r ≡ x ⌝ }
@@ -53,9 +49,9 @@ pub(crate) fn narrow(x: usize) -> u16
 }
 
 // Annotation j may be chosen for a child in a state, the memory being joined so far.
-pub(crate) fn fits(work: &[u16], j: usize, state: State, memory: &[u16], tags: usize) -> bool
+pub(crate) fn choosable(work: &[u16], j: usize, state: State, memory: &[u16], tags: usize) -> bool
     requires { ⌜ (tags ≤ 16) × (length (now memory) ≡ 16) × (j * 32 + 32 ≤ length (now work)) ⌝ }
-    ensures { λ r. ⌜ r ≡ fits? (state .0) (memoryOf tags (now (memory .entry))) (annotationIn tags (now (work .entry)) j) ⌝ }
+    ensures { λ r. ⌜ r ≡ choosable? (state .0) (memoryOf tags (now (memory .entry))) (annotationIn tags (now (work .entry)) j) ⌝ }
 {
     let at = j * ANNOTATION_CELLS;
     if work[at + STATE] != state.0 {
@@ -101,18 +97,6 @@ pub(crate) fn is_same(
     same(memory, &work[start..end], tags)
 }
 
-// The cells put at a place.
-fn copy(work: &mut [u16], at: usize, cells: &[u16])
-    requires { ⌜ at + length (now cells) ≤ length (now work) ⌝ }
-    ensures { λ _. ⌜ Copied (now (work .entry)) at (now (cells .entry)) (length (now (cells .entry))) (now (work .exit)) ⌝ }
-{
-    let mut k = 0;
-    while k < cells.len() {
-        work[at + k] = cells[k];
-        k += 1;
-    }
-}
-
 // Entry n is written.
 pub(crate) fn put(
     work: &mut [u16],
@@ -121,7 +105,7 @@ pub(crate) fn put(
     state: State,
     memory: &[u16],
     rule: u16,
-    children: [u16; 4],
+    children: [u16; PLACES],
     tags: usize,
 )
     requires { ⌜ (tags ≤ 16) × (length (now memory) ≡ 16) × (n * 32 + 32 ≤ length (now work)) ⌝ }
@@ -130,8 +114,8 @@ pub(crate) fn put(
     let at = n * ANNOTATION_CELLS;
     work[at] = row.0;
     work[at + STATE] = state.0;
-    copy(work, at + MEMORY, memory);
+    put_cells(work, at + MEMORY, memory);
     work[at + MARK] = 0;
     work[at + RULE] = rule;
-    copy(work, at + CHILD, &children);
+    put_cells(work, at + CHILD, &children);
 }

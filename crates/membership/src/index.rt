@@ -10,8 +10,8 @@ use crate::entries::ANNOTATION_CELLS;
 use crate::entries::FIRST;
 use crate::entries::NEXT;
 use crate::entries::is_same;
-use crate::entries::size;
 use automaton::State;
+use base::numbers::size;
 use document::rows::Row;
 
 // A number more goes into a hash.

@@ -11,6 +11,7 @@ ghost use mathlib.Core.Path.{_≡_};
 ghost use lib.ListN.{length, replicate};
 ghost use Rattle.document.specs.Check.{documentCheckOf};
 ghost use Rattle.membership.specs.Judge.{Judging};
+pub use crate::entries::ANNOTATION_CELLS;
 use crate::entries::narrow;
 use crate::table::annotate;
 use crate::table::room_of;
@@ -57,12 +58,12 @@ fn decide(set: &[u8], rows: &[u16], work: &mut [u16], run: &mut [u16]) -> Judged
     Judged::Yes(narrow(s))
 }
 
-// Whether the set lets the document in. A yes hands back a run that the run check passes; the work space is zeros afterwards, unless a number before 31 refuses.
+// Whether the set lets the document in. A yes hands back a run that the run check passes. Once 32 is passed the work space is zeros afterwards, else it is untouched.
 pub fn judge(set: &[u8], rows: &[u16], work: &mut [u16], run: &mut [u16]) -> Judged
     ensures { λ r. ⌜ Judging (now (set .entry)) (now (rows .entry)) (now (work .entry)) (now (run .entry)) r (now (work .exit)) (now (run .exit)) ⌝ }
 {
     match document::check(set, rows) {
-        Checked::Sound => decide(set, rows, work, run),
+        Checked::Passed => decide(set, rows, work, run),
         Checked::Refused(n) => Judged::Refused(n),
     }
 }

@@ -7,7 +7,8 @@ ghost use Rattle.model.specs.Lists.{eqList};
 ghost use Rattle.model.specs.Annotation.{placesAgree, joinedPlace, agree?};
 ghost use Rattle.membership.specs.Cells.{memoryOf, JoinedIn};
 
-const PLACES: usize = 16;
+// A memory has 16 places, the first of them the tags'.
+const MEMORY_PLACES: usize = 16;
 
 fn places_agree(x: u16, y: u16) -> bool
     ensures { λ r. ⌜ r ≡ placesAgree x y ⌝ }
@@ -72,9 +73,9 @@ pub(crate) fn join(a: &[u16], b: &[u16]) -> [u16; 16]
     requires { ⌜ (length (now a) ≡ 16) × (length (now b) ≡ 16) ⌝ }
     ensures { λ r. ⌜ JoinedIn (now (a .entry)) (now (b .entry)) r ⌝ }
 {
-    let mut out = [0u16; PLACES];
+    let mut out = [0u16; MEMORY_PLACES];
     let mut k = 0;
-    while k < PLACES {
+    while k < MEMORY_PLACES {
         out[k] = joined_place(a[k], b[k]);
         k += 1;
     }

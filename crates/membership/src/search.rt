@@ -1,12 +1,12 @@
 // The search: for one rule on one row, every choice of one annotation for each child, in the window of the child's row.
 ghost use mathlib.Core.Path.{_≡_};
 ghost use Prim.Native.Nat.{_+_, _≤_, _<_};
-ghost use lib.ListN.{length, set};
+ghost use lib.ListN.{length};
 ghost use Rattle.model.specs.Annotation.{annotation};
 ghost use Rattle.membership.specs.Cells.{memoryOf, annotationsIn};
 ghost use Rattle.membership.specs.Entries.{entriesIn, addEntry, addEntries, Grown};
-ghost use Rattle.membership.specs.Search.{finished, found, Ready};
-use crate::entries::fits;
+ghost use Rattle.membership.specs.Search.{withChild, finished, found, Ready};
+use crate::entries::choosable;
 use crate::entries::joined_with;
 use crate::entries::put;
 use crate::index::is_known;
@@ -15,6 +15,7 @@ use crate::index::slot_of;
 use crate::memory::agree;
 use crate::memory::join;
 use automaton::State;
+use base::limits::PLACES;
 use document::rows::Row;
 
 // What a rule asks on a row: for each child its state and the window of its row among the first `base` annotations.
@@ -26,13 +27,13 @@ pub struct Want {
     pub arity: usize,
     pub base: usize,
     pub room: usize,
-    pub low: [usize; 4],
-    pub high: [usize; 4],
-    pub states: [u16; 4],
+    pub low: [usize; PLACES],
+    pub high: [usize; PLACES],
+    pub states: [State; PLACES],
 }
 
 // The annotation is appended, if it is new and there is room.
-fn add(work: &mut [u16], want: Want, n: usize, memory: &[u16], children: [u16; 4]) -> usize
+fn add(work: &mut [u16], want: Want, n: usize, memory: &[u16], children: [u16; PLACES]) -> usize
     requires { ⌜ Ready want (now work) n × (length (now memory) ≡ 16) ⌝ }
     ensures { λ r. ⌜ Grown n (want .room) (want .tags) (addEntry (entriesIn (want .tags) (now (work .entry)) n) (record { annotation = annotation (want .row .0) (want .target .0) (memoryOf (want .tags) (now (memory .entry))); rule = want .rule; children = children })) (now (work .exit)) r ⌝ }
 {
@@ -76,7 +77,7 @@ fn finish(
     want: Want,
     n: usize,
     memory: &[u16],
-    children: [u16; 4],
+    children: [u16; PLACES],
 ) -> usize
     requires { ⌜ Ready want (now work) n × (length (now own) ≡ 16) × (length (now memory) ≡ 16) ⌝ }
     ensures { λ r. ⌜ Grown n (want .room) (want .tags) (addEntries (entriesIn (want .tags) (now (work .entry)) n) (finished want (memoryOf (want .tags) (now (own .entry))) (memoryOf (want .tags) (now (memory .entry))) children)) (now (work .exit)) r ⌝ }
@@ -89,9 +90,9 @@ fn finish(
 }
 
 // The child annotations with number j at place p.
-fn with_child(children: [u16; 4], p: usize, j: usize) -> [u16; 4]
+fn with_child(children: [u16; PLACES], p: usize, j: usize) -> [u16; PLACES]
     requires { ⌜ (p < 4) × (j < 65536) ⌝ }
-    ensures { λ r. ⌜ r ≡ set children p j ⌝ }
+    ensures { λ r. ⌜ r ≡ withChild children p j ⌝ }
 {
     let mut out = children;
     out[p] = j as u16;
@@ -106,7 +107,7 @@ pub(crate) fn search(
     left: usize,
     n: usize,
     memory: &[u16],
-    children: [u16; 4],
+    children: [u16; PLACES],
 ) -> usize
     requires { ⌜ Ready want (now work) n × (length (now own) ≡ 16) × (length (now memory) ≡ 16) × (left ≤ want .arity) ⌝ }
     ensures { λ r. ⌜ Grown n (want .room) (want .tags) (addEntries (entriesIn (want .tags) (now (work .entry)) n) (found (annotationsIn (want .tags) (now (work .entry)) (want .base)) want (memoryOf (want .tags) (now (own .entry))) left (memoryOf (want .tags) (now (memory .entry))) children)) (now (work .exit)) r ⌝ }
@@ -119,13 +120,13 @@ pub(crate) fn search(
     let highs = want.high;
     let states = want.states;
     let end = highs[p];
-    let state = State(states[p]);
+    let state = states[p];
     let mut m = n;
     let mut j = lows[p];
     while j < end {
         let x = j;
         j += 1;
-        if fits(work, x, state, memory, want.tags) {
+        if choosable(work, x, state, memory, want.tags) {
             let joined = joined_with(work, x, memory);
             let with = with_child(children, p, x);
             m = search(work, own, want, left - 1, m, &joined, with);

@@ -13,11 +13,10 @@ ghost use Rattle.document.specs.Rows.{decodeRows};
 ghost use Rattle.membership.specs.Cells.{roomOf, memoryOf};
 ghost use Rattle.membership.specs.Entries.{Grown};
 ghost use Rattle.membership.specs.Listing.{entriesBelow};
-ghost use Rattle.membership.specs.Plan.{Bounds, WantFor, Starts, Firsts, Before};
+ghost use Rattle.membership.specs.Plan.{Bounds, WantFor, Starts, FirstRules, Before};
 ghost use Rattle.membership.specs.Annotated.{Annotated};
 use crate::entries::ANNOTATION_CELLS;
 use crate::entries::narrow;
-use crate::entries::size;
 use crate::search::Want;
 use crate::search::search;
 use automaton::arity;
@@ -25,17 +24,24 @@ use automaton::header;
 use automaton::rule;
 use automaton::rules_from;
 use automaton::tags_of;
-use document::rows::MAX_ROWS;
+use base::limits::MAX_ROWS;
+use base::limits::MAX_STEPS;
+use base::limits::MAX_SYMBOLS;
+use base::limits::PLACES;
+use base::limits::UNUSED;
+use base::numbers::size;
 use document::rows::Row;
-use document::rows::UNUSED;
 use document::rows::count;
 use document::rows::place;
 use document::rows::symbol;
 
-const MAX_ROOM: usize = 4096;
+// The room is at most as many annotations as a run has steps.
+const MAX_ROOM: usize = MAX_STEPS as usize;
 
-// The first rule of each of 64 symbols, and the end.
-const FIRSTS: usize = 65;
+const ROWS: usize = MAX_ROWS as usize;
+
+// The first rule of each symbol, and the end.
+const FIRSTS: usize = MAX_SYMBOLS as usize + 1;
 
 // What all rules of a row have in common: the windows of its children's rows among the first `base` annotations.
 pub struct Plan {
@@ -44,8 +50,8 @@ pub struct Plan {
     pub arity: usize,
     pub base: usize,
     pub room: usize,
-    pub low: [usize; 4],
-    pub high: [usize; 4],
+    pub low: [usize; PLACES],
+    pub high: [usize; PLACES],
 }
 
 fn cell_at(cells: &[u16], k: usize) -> u16
@@ -64,11 +70,11 @@ fn start_at(starts: &[u16], c: usize) -> usize
 }
 
 // The number of annotations before each child's row, or before the row after it.
-fn bounds(rows: &[u16], starts: &[u16], i: Row, arity: usize, shift: usize) -> [usize; 4]
+fn bounds(rows: &[u16], starts: &[u16], i: Row, arity: usize, shift: usize) -> [usize; PLACES]
     requires { ⌜ (arity ≤ 4) × (shift ≤ 1) ⌝ }
     ensures { λ r. ⌜ Bounds (now (rows .entry)) (now (starts .entry)) (i .0) arity shift r ⌝ }
 {
-    let mut out = [0usize; 4];
+    let mut out = [0usize; PLACES];
     let mut p = 0;
     while p < arity {
         let c = place(rows, i, p as u16);
@@ -126,9 +132,9 @@ fn own_memory(mask: u16, row: Row, tags: usize) -> [u16; 16]
 }
 
 // The first rule of each symbol and of the one past the last, found once for all rows.
-fn first_rules(set: &[u8]) -> [u16; 65]
+fn first_rules(set: &[u8]) -> [u16; FIRSTS]
     requires { ⌜ checkOf (now set) ≡ 0 ⌝ }
-    ensures { λ r. ⌜ Firsts (decode (now (set .entry))) r ⌝ }
+    ensures { λ r. ⌜ FirstRules (decode (now (set .entry))) r ⌝ }
 {
     let mut out = [0u16; FIRSTS];
     let mut f = 0;
@@ -153,7 +159,7 @@ fn by_row(
 ) -> usize
     requires { ⌜ (checkOf (now set) ≡ 0) × SoundTable (decode (now set)) (decodeRows (now rows)) ⌝ }
     requires { ⌜ Before (decode (now set)) (decodeRows (now rows)) (i .0) room tags (now work) n ⌝ }
-    requires { ⌜ Starts (decode (now set)) (decodeRows (now rows)) (now starts) (i .0) × Firsts (decode (now set)) (now firsts) ⌝ }
+    requires { ⌜ Starts (decode (now set)) (decodeRows (now rows)) (now starts) (i .0) × FirstRules (decode (now set)) (now firsts) ⌝ }
     ensures { λ r. ⌜ Grown n room tags (entriesBelow (decode (now (set .entry))) (decodeRows (now (rows .entry))) (suc (i .0))) (now (work .exit)) r ⌝ }
 {
     let f = symbol(rows, i);
@@ -170,7 +176,7 @@ fn by_row(
         high: high,
     };
     let empty = [0u16; 16];
-    let free = [UNUSED; 4];
+    let free = [UNUSED; PLACES];
     let at = size(f);
     let end = cell_at(firsts, at + 1);
     let mut m = n;
@@ -205,7 +211,7 @@ pub(crate) fn annotate(set: &[u8], rows: &[u16], work: &mut [u16]) -> usize
     let tags = size(head.tags);
     let end = count(rows);
     let firsts = first_rules(set);
-    let mut starts = [0u16; MAX_ROWS];
+    let mut starts = [0u16; ROWS];
     let mut n = 0;
     let mut i = 0;
     while i < end {

@@ -2,10 +2,11 @@
 ghost use mathlib.Core.Path.{_≡_};
 ghost use Prim.Native.Nat.{_+_, _*_, _-_, _≤_, _<_};
 ghost use lib.ListN.{length};
-ghost use Rattle.model.specs.Limits.{maxChildren};
+ghost use Rattle.model.specs.Limits.{maxChildren, maxRows};
 ghost use Rattle.model.specs.Lists.{tab};
 ghost use Rattle.automaton.specs.Stored.{decode};
 ghost use Rattle.document.specs.Rows.{decodeRows};
+ghost use Rattle.runs.specs.Fields.{stepNumbers};
 ghost use Rattle.membership.specs.Cells.{cellOf, childIn};
 ghost use Rattle.membership.specs.Trace.{reached?, numberAt, acceptingIn, ReachedMore, Forgotten, ChildrenReached, Traced, FirstOf};
 use crate::entries::ANNOTATION_CELLS;
@@ -15,12 +16,13 @@ use crate::entries::REACHED;
 use crate::entries::ROW;
 use crate::entries::STATE;
 use crate::entries::narrow;
-use crate::entries::size;
 use automaton::State;
 use automaton::is_final;
-use document::rows::PLACES;
+use base::limits::PLACES;
+use base::limits::UNUSED;
+use base::numbers::size;
 use document::rows::Row;
-use document::rows::UNUSED;
+use document::rows::Step;
 use document::rows::count;
 
 // Cell k of annotation j.
@@ -66,7 +68,7 @@ fn is_accepting(set: &[u8], work: &[u16], j: usize, last: Row) -> bool
 
 // The last row.
 pub(crate) fn last_row(rows: &[u16]) -> Row
-    requires { ⌜ (0 < length (decodeRows (now rows))) × (length (decodeRows (now rows)) ≤ 1024) ⌝ }
+    requires { ⌜ (0 < length (decodeRows (now rows))) × (length (decodeRows (now rows)) ≤ maxRows) ⌝ }
     ensures { λ r. ⌜ r .0 ≡ length (decodeRows (now (rows .entry))) - 1 ⌝ }
 {
     Row(narrow(count(rows) - 1))
@@ -138,20 +140,24 @@ pub(crate) fn trace(work: &mut [u16], root: usize)
     }
 }
 
-fn number_at(work: &[u16], j: usize, p: usize) -> u16
+// The step of the child annotation in place p of annotation j, or UNUSED.
+fn number_at(work: &[u16], j: usize, p: usize) -> Step
     requires { ⌜ (p < 4) × (j * 32 + 32 ≤ length (now work)) ⌝ }
-    ensures { λ r. ⌜ r ≡ numberAt (now (work .entry)) j p ⌝ }
+    ensures { λ r. ⌜ r .0 ≡ numberAt (now (work .entry)) j p ⌝ }
 {
     let x = child(work, j, p);
-    if x < j { cell(work, x, NUMBER) } else { UNUSED }
+    if x < j {
+        return Step(cell(work, x, NUMBER));
+    }
+    Step(UNUSED)
 }
 
-// The step places of annotation j: its child annotations' step numbers.
-pub(crate) fn places_of(work: &[u16], j: usize) -> [u16; 4]
+// The step places of annotation j: its child annotations' steps.
+pub(crate) fn places_of(work: &[u16], j: usize) -> [Step; PLACES]
     requires { ⌜ j * 32 + 32 ≤ length (now work) ⌝ }
-    ensures { λ r. ⌜ r ≡ tab maxChildren (numberAt (now (work .entry)) j) ⌝ }
+    ensures { λ r. ⌜ stepNumbers r ≡ tab maxChildren (numberAt (now (work .entry)) j) ⌝ }
 {
-    let mut out = [UNUSED; 4];
+    let mut out = [Step(UNUSED); PLACES];
     let mut p = 0;
     while p < PLACES {
         out[p] = number_at(work, j, p);

@@ -10,7 +10,8 @@ use lib.ListN.{length, getD}
 use Rattle.model.specs.Tree.{Tree, Forest, node, fnil, fcons, trees, andThen, levels, highest}
 use Rattle.model.specs.Automaton.{Rule, Automaton, Wellformed}
 use Rattle.model.specs.Run.{IsRun, Accepts}
-use Rattle.model.specs.Witness.{orElse, when?, Marks, treesIn, topped, byRule, byFirst, nextRound, rounds, firstFinal, witness}
+use Rattle.model.specs.Lists.{orElse}
+use Rattle.model.specs.Witness.{when?, Marks, treesIn, topped, byRule, byFirst, nextRound, rounds, firstFinal, witness}
 use Rattle.model.proofs.Levels.{larger-bounds}
 use Rattle.model.proofs.Rounds.{round-at}
 use Rattle.model.proofs.FirstRound.{none-final, no-witness}

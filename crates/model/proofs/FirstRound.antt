@@ -12,7 +12,8 @@ use lib.Dec.{T}
 use lib.ListN.{length, getD}
 use Rattle.model.specs.Tree.{Tree}
 use Rattle.model.specs.Automaton.{Automaton, final?}
-use Rattle.model.specs.Witness.{orElse, when?, Marks, rounds, firstFinal, witnessIn, witness}
+use Rattle.model.specs.Lists.{orElse}
+use Rattle.model.specs.Witness.{when?, Marks, rounds, firstFinal, witnessIn, witness}
 use Rattle.model.proofs.Witness.{or-none, when-some}
 use Rattle.model.proofs.Rounds.{rest, enough}
 

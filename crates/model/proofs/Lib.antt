@@ -1,6 +1,7 @@
 pub mod Members
 pub mod Memory
 pub mod Tab
+pub mod Space
 pub mod Below
 pub mod Levels
 pub mod WrittenTest
@@ -20,6 +21,7 @@ pub mod Order
 pub mod Union
 pub mod SoundUnion
 pub mod SoundProduct
+pub mod Scalars
 pub mod Papers
 pub mod Witness
 pub mod Rounds

@@ -10,7 +10,8 @@ use lib.ListN.{length, getD}
 use lib.Seq.{ext-getD}
 use Rattle.model.specs.Tree.{Tree, andThen}
 use Rattle.model.specs.Automaton.{Rule, Automaton}
-use Rattle.model.specs.Witness.{orElse, Marks, treesIn, byRule, byFirst, nextRound, rounds}
+use Rattle.model.specs.Lists.{orElse}
+use Rattle.model.specs.Witness.{Marks, treesIn, byRule, byFirst, nextRound, rounds}
 use Rattle.model.proofs.Tab.{tab-at, length-tab}
 use Rattle.model.proofs.Witness.{then-some, or-cases, tab-some, By, by-first, Onto, InRange, Homely, none-marked, in-range, kept, next-homely}
 

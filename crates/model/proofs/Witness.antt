@@ -10,8 +10,8 @@ use lib.Dec.{T, eqb, eqb→eq}
 use lib.ListN.{length, getD}
 use Rattle.model.specs.Tree.{Tree, node, forest, andThen}
 use Rattle.model.specs.Automaton.{Rule, Automaton}
-use Rattle.model.specs.Lists.{tab}
-use Rattle.model.specs.Witness.{orElse, when?, treesIn, topped, byRule, byFirst, nextRound, noMarks}
+use Rattle.model.specs.Lists.{tab, orElse}
+use Rattle.model.specs.Witness.{when?, treesIn, topped, byRule, byFirst, nextRound, noMarks}
 use Rattle.model.proofs.Tab.{tab-at}
 use Rattle.model.proofs.Rows.{trees-forest}
 use Rattle.model.proofs.Runs.{Runs, finer, node-runs, leaf}

@@ -1,66 +1,196 @@
--- A run that passes the tests is a written run. Assumes nothing.
-use mathlib.Core.Path.{_≡_, refl, sym, subst}
-use mathlib.Core.Logic.{_⊎_, inl, inr}
-use mathlib.Core.List.{List, List·Memᴰ as In}
-use mathlib.Core.Bool.{Bool, true, false, _&&_, _||_, not}
-use Prim.Native.Nat.{ℕ, zero, suc, _-_, _<_}
+-- The tests of a written run are its conditions: what passes them is a written run, and every written run passes. Assumes nothing.
+use mathlib.Core.Path.{_≡_, refl, sym, ap, _∙_, subst}
+use mathlib.Core.List.{List, [], _∷_, List·Memᴰ as In}
+use mathlib.Core.Bool.{Bool, true, false, _&&_, _||_, not, cond}
+use Prim.Native.Nat.{ℕ, zero, suc, _-_, _<_, _≤_}
 use native.Mathlib.Omega.{arith}
-use lib.Dec.{T, T-not, eqb, ltb, eqb→eq, ltb→lt}
-use lib.ListN.{length, getD}
-use Rattle.model.specs.Lists.{allBelow, any}
-use Rattle.model.specs.Automaton.{Automaton, final?, carries?}
-use Rattle.model.specs.Table.{Row}
-use Rattle.model.specs.Written.{Step, stepAt, ruleOf, rowOf, StepFits, WrittenRun}
-use Rattle.model.specs.WrittenTest.{known?, childFits?, fits?, sameRow?, oneRow?, ends?, uses?, used?, written?}
-use Rattle.model.proofs.Members.{T-and, and-T, in-any}
-use Rattle.model.proofs.Below.{all-at, any-below}
+use borrow.Author.Tests.{lt-ltb, le-ltb, ltb-true, ltb-false}
+use lib.Dec.{T, eqb, ltb, eqb→eq, eqb-refl, ltb→lt, lt→ltb}
+use lib.ListN.{length, getD, List·getD-eq-default}
+use Rattle.model.specs.Limits.{maxChildren, unused}
+use Rattle.model.specs.Lists.{any, tab, allBelow, uses?}
+use Rattle.model.specs.Automaton.{Automaton, arityOf, final?, carries?}
+use Rattle.model.specs.Order.{place}
+use Rattle.model.specs.Sound.{Sound}
+use Rattle.model.specs.Table.{Row, SoundTable}
+use Rattle.model.specs.Written.{Step, stepAt, noRule, ruleOf, rowOf, StepFits, WrittenRun}
+use Rattle.model.specs.WrittenTest.{known?, childFits?, placeFits?, stepFits?, sameRow?, oneRow?, ends?, used?}
+use Rattle.model.proofs.Members.{T-and, and-T, in-any, any-in}
+use Rattle.model.proofs.Tab.{tab-at, length-tab}
+use Rattle.model.proofs.Below.{all-at, all-of, any-below, below-any}
+use Rattle.model.proofs.Rows.{in-getD}
 
 implied : (a b c : Bool) → T (not (a && b) || c) → T a → T b → T c
 implied true true c h ta tb = h
 implied true false c h ta tb = absurd tb
 implied false b c h ta tb = absurd ta
 
-module _ (A : Automaton) (rows : List Row) (run : List Step) where
-  step-fits : (i : ℕ) → T (known? A rows run i) → T (fits? A rows run i) → StepFits A rows run i
-  step-fits i k f =
-      let (k₁, k₂) = T-and (ltb ((stepAt run i) .rule) (length (A .rules))) _ k in
-      let n = length ((rowOf rows run i) .children) in
-      let (f₁, f′) = T-and (eqb ((ruleOf A run i) .symbol) ((rowOf rows run i) .symbol)) _ f in
-      let (f₂, f″) = T-and (eqb (length ((ruleOf A run i) .children)) n) _ f′ in
-      let (f₃, f₄) = T-and (eqb (length ((stepAt run i) .steps)) n) _ f″ in
-      let child : (j : ℕ) → j < n → T (childFits? A rows run i j) = all-at n (childFits? A rows run i) f₄ in
-      record {
-        known-rule = ltb→lt _ _ k₁;
-        known-row = ltb→lt _ _ k₂;
-        same-symbol = eqb→eq _ _ f₁;
-        as-many = eqb→eq _ _ f₂;
-        one-each = eqb→eq _ _ f₃;
-        lower = λ j l. ltb→lt _ _ (T-and (ltb (getD ((stepAt run i) .steps) j 0) i) _ (child j l) .0);
-        child-row = λ j l. eqb→eq _ _ (T-and (eqb ((stepAt run (getD ((stepAt run i) .steps) j 0)) .row) _) _ (T-and (ltb (getD ((stepAt run i) .steps) j 0) i) _ (child j l) .1) .0);
-        child-state = λ j l. eqb→eq _ _ (T-and (eqb ((stepAt run (getD ((stepAt run i) .steps) j 0)) .row) _) _ (T-and (ltb (getD ((stepAt run i) .steps) j 0) i) _ (child j l) .1) .1);
-      }
+implies : (a b c : Bool) → (T a → T b → T c) → T (not (a && b) || c)
+implies true true c h = h tt tt
+implies true false c h = tt
+implies false b c h = tt
 
-  -- what passes the tests is a written run
-  pub tested-run : T (written? A rows run) → WrittenRun A rows run
-  tested-run h =
-      let n = length run in
-      let (h₁, r₁) = T-and (ltb 0 n) _ h in
-      let (h₂, r₂) = T-and (allBelow n (known? A rows run)) _ r₁ in
-      let (h₃, r₃) = T-and (allBelow n (fits? A rows run)) _ r₂ in
-      let (h₄, r₄) = T-and (oneRow? A run) _ r₃ in
-      let (h₅, h₆) = T-and (ends? A rows run) _ r₄ in
-      let (e₁, e₂) = T-and (eqb ((stepAt run (n - 1)) .row) (length rows - 1)) (final? A ((ruleOf A run (n - 1)) .target)) h₅ in
-      record {
-        some-step = ltb→lt _ _ h₁;
-        each = λ i l. step-fits i (all-at n (known? A rows run) h₂ i l) (all-at n (fits? A rows run) h₃ i l);
-        one-row = λ k lk i j li lj ti tj.
-            eqb→eq _ _ (implied (carries? A ((ruleOf A run i) .target) k) (carries? A ((ruleOf A run j) .target) k) _
-            (all-at n (sameRow? A run k i) (all-at n (λ i. allBelow n (sameRow? A run k i)) (all-at (A .tags) (λ k. allBelow n (λ i. allBelow n (sameRow? A run k i))) h₄ k lk) i li) j lj) ti tj);
-        last-row = eqb→eq _ _ e₁;
-        last-final = e₂;
-        used = λ i l.
-            let (j, lj, u) = any-below n (uses? run i) (all-at (n - 1) (used? run) h₆ i (omega arith)) in
-            let (u₁, u₂) = T-and (ltb i j) _ u in
-            let (x, ix, ex) = in-any (eqb i) ((stepAt run j) .steps) u₂ in
-            (j, ltb→lt _ _ u₁, lj, subst (λ (z : ℕ). In z ((stepAt run j) .steps)) (sym (eqb→eq i x ex)) ix);
-      }
+equal : (a b : ℕ) → a ≡ b → T (eqb a b)
+equal a b e = subst (λ (c : ℕ). T (eqb a c)) e (eqb-refl a)
+
+-- within a list the default does not matter
+any-default : (xs : List ℕ) (k d e : ℕ) → k < length xs → getD xs k d ≡ getD xs k e
+any-default [] k d e l = absurd (omega arith)
+any-default (x ∷ xs) zero d e l = refl
+any-default (x ∷ xs) (suc k) d e l = any-default xs k d e (omega arith)
+
+module _ (A : Automaton) (rows : List Row) (run : List Step) where
+  -- the rows of the children of step i
+  abbrev pub kids : ℕ → List ℕ
+  kids i = (rowOf rows run i) .children
+
+  module _ (i k x : ℕ) where
+    pub place-with : k < length (kids i) → placeFits? A rows run i k x ≡ childFits? A rows run i k x
+    unfolding placeFits?
+    place-with l = rw (lt-ltb k (length (kids i)) l)
+
+    pub place-without : length (kids i) ≤ k → placeFits? A rows run i k x ≡ eqb x unused
+    unfolding placeFits?
+    place-without l = rw (le-ltb k (length (kids i)) l)
+
+  -- ---- what passes is a written run
+
+  module _ (i : ℕ) (known : T (known? A rows run i)) where
+    known-rule : (stepAt run i) .rule < length (A .rules)
+    known-rule = ltb→lt _ _ (T-and (ltb ((stepAt run i) .rule) (length (A .rules))) _ known .0)
+
+    pub known-row : (stepAt run i) .row < length rows
+    known-row = ltb→lt _ _ (T-and (ltb ((stepAt run i) .rule) (length (A .rules))) _ known .1)
+
+  module _ (sound : Sound A) (table : SoundTable A rows) (places : ℕ → ℕ → ℕ) where
+    module _ (i : ℕ) (known : T (known? A rows run i)) (fit : T (stepFits? A rows run places i)) where
+      pub few-kids : length (kids i) ≤ maxChildren
+      few-kids = rw (table .each ((stepAt run i) .row) (known-row i known) .as-many) (sound .few-children ((rowOf rows run i) .symbol))
+
+      both : T (eqb ((ruleOf A run i) .symbol) ((rowOf rows run i) .symbol)) × T (allBelow maxChildren (λ k. placeFits? A rows run i k (places i k)))
+      unfolding stepFits?
+      both = T-and (eqb ((ruleOf A run i) .symbol) ((rowOf rows run i) .symbol)) _ fit
+
+      same-symbol : (ruleOf A run i) .symbol ≡ (rowOf rows run i) .symbol
+      same-symbol = eqb→eq _ _ (both .0)
+
+      as-many : length ((ruleOf A run i) .children) ≡ length (kids i)
+      as-many =
+          sound .wellformed .as-many (ruleOf A run i) (in-getD noRule (A .rules) ((stepAt run i) .rule) (known-rule i known))
+          ∙ ap (arityOf A) same-symbol
+          ∙ sym (table .each ((stepAt run i) .row) (known-row i known) .as-many)
+
+      place-fits : (k : ℕ) → k < maxChildren → T (placeFits? A rows run i k (places i k))
+      place-fits k m = all-at maxChildren (λ k. placeFits? A rows run i k (places i k)) (both .1) k m
+
+      -- child step k is lower, and on the row and in the state that are asked
+      child-fits : (k : ℕ) → k < length (kids i) → (places i k < i) × ((stepAt run (places i k)) .row ≡ getD (kids i) k unused) × ((ruleOf A run (places i k)) .target ≡ place (ruleOf A run i) k)
+      unfolding childFits?
+      child-fits k m =
+          let few = few-kids in
+          let (low, on) = T-and (ltb (places i k) i) _ (subst T (place-with i k (places i k) m) (place-fits k (omega arith))) in
+          let (row, state) = T-and (eqb ((stepAt run (places i k)) .row) (getD (kids i) k unused)) _ on in
+          (ltb→lt _ _ low, eqb→eq _ _ row, eqb→eq _ _ state)
+
+      pub place-low : (k : ℕ) → k < length (kids i) → places i k < i
+      place-low k m = child-fits k m .0
+
+      pub place-rest : (k : ℕ) → length (kids i) ≤ k → k < maxChildren → places i k ≡ unused
+      place-rest k m o = eqb→eq _ _ (subst T (place-without i k (places i k) m) (place-fits k o))
+
+      -- where the child steps are what stands in the places in use
+      module _ (steps : (stepAt run i) .steps ≡ tab (length (kids i)) (places i)) where
+        step-is : (k : ℕ) → k < length (kids i) → getD ((stepAt run i) .steps) k 0 ≡ places i k
+        step-is k m = ap (λ (xs : List ℕ). getD xs k 0) steps ∙ tab-at 0 (length (kids i)) (places i) k m
+
+        step-fits : StepFits A rows run i
+        step-fits =
+            record {
+              known-rule = known-rule i known;
+              known-row = known-row i known;
+              same-symbol = same-symbol;
+              as-many = as-many;
+              one-each = ap length steps ∙ length-tab (length (kids i)) (places i);
+              lower = λ k m. let e = step-is k m in let low = place-low k m in omega arith;
+              child-row = λ k m. ap (λ (x : ℕ). (stepAt run x) .row) (step-is k m) ∙ child-fits k m .1 ∙ any-default (kids i) k unused 0 m;
+              child-state = λ k m.
+                  ap (λ (x : ℕ). (ruleOf A run x) .target) (step-is k m)
+                  ∙ child-fits k m .2
+                  ∙ any-default ((ruleOf A run i) .children) k unused 0 (let e = as-many in omega arith);
+            }
+
+    pub tested-run : 0 < length run → T (allBelow (length run) (known? A rows run)) → T (allBelow (length run) (stepFits? A rows run places)) → ((i : ℕ) → i < length run → (stepAt run i) .steps ≡ tab (length (kids i)) (places i)) → T (oneRow? A run) → T (ends? A rows run) → T (allBelow (length run - 1) (used? run)) → WrittenRun A rows run
+    unfolding uses?
+    tested-run some known fit steps one ends used =
+        let n = length run in
+        let (e₁, e₂) = T-and (eqb ((stepAt run (n - 1)) .row) (length rows - 1)) (final? A ((ruleOf A run (n - 1)) .target)) ends in
+        record {
+          some-step = some;
+          each = λ i l. step-fits i (all-at n (known? A rows run) known i l) (all-at n (stepFits? A rows run places) fit i l) (steps i l);
+          one-row = λ k lk i j li lj ti tj.
+              eqb→eq _ _ (implied (carries? A ((ruleOf A run i) .target) k) (carries? A ((ruleOf A run j) .target) k) _
+              (all-at n (sameRow? A run k i) (all-at n (λ i. allBelow n (sameRow? A run k i)) (all-at (A .tags) (λ k. allBelow n (λ i. allBelow n (sameRow? A run k i))) one k lk) i li) j lj) ti tj);
+          last-row = eqb→eq _ _ e₁;
+          last-final = e₂;
+          used = λ i l.
+              let (j, lj, u) = any-below n (λ j. uses? j ((stepAt run j) .steps) i) (all-at (n - 1) (used? run) used i (omega arith)) in
+              let (u₁, u₂) = T-and (ltb i j) _ u in
+              let (x, ix, ex) = in-any (eqb i) ((stepAt run j) .steps) u₂ in
+              (j, ltb→lt _ _ u₁, lj, subst (λ (z : ℕ). In z ((stepAt run j) .steps)) (sym (eqb→eq i x ex)) ix);
+        }
+
+  -- ---- a written run passes
+
+  module _ (w : WrittenRun A rows run) where
+    pub known-passes : T (allBelow (length run) (known? A rows run))
+    known-passes =
+        all-of (length run) (known? A rows run)
+        (λ i l. and-T (ltb ((stepAt run i) .rule) (length (A .rules))) (ltb ((stepAt run i) .row) (length rows)) (lt→ltb _ _ (w .each i l .known-rule)) (lt→ltb _ _ (w .each i l .known-row)))
+
+    -- where the places of each step hold its child steps, then 65535
+    module _ (places : ℕ → ℕ → ℕ) (settled : (i : ℕ) → i < length run → (k : ℕ) → k < maxChildren → places i k ≡ getD ((stepAt run i) .steps) k unused) where
+      module _ (i : ℕ) (l : i < length run) where
+        child-passes : (k : ℕ) → k < length (kids i) → places i k ≡ getD ((stepAt run i) .steps) k 0 → T (childFits? A rows run i k (places i k))
+        unfolding childFits?
+        child-passes k m e =
+            let s = w .each i l in
+            and-T (ltb (places i k) i) _ (lt→ltb (places i k) i (let low = s .lower k m in omega arith))
+            (and-T (eqb ((stepAt run (places i k)) .row) (getD (kids i) k unused)) _
+            (equal _ _ (ap (λ (x : ℕ). (stepAt run x) .row) e ∙ s .child-row k m ∙ any-default (kids i) k 0 unused m))
+            (equal _ _ (ap (λ (x : ℕ). (ruleOf A run x) .target) e ∙ s .child-state k m ∙ any-default ((ruleOf A run i) .children) k 0 unused (let n = s .as-many in omega arith))))
+
+        place-passes : (k : ℕ) → k < maxChildren → T (placeFits? A rows run i k (places i k))
+        unfolding placeFits?
+        place-passes k m = go (ltb k (length (kids i))) refl
+          where
+            go : (b : Bool) → ltb k (length (kids i)) ≡ b → T (cond b (childFits? A rows run i k (places i k)) (eqb (places i k) unused))
+            go true e =
+                let o : k < length (kids i) = ltb-true k (length (kids i)) e in
+                child-passes k o (settled i l k m ∙ any-default ((stepAt run i) .steps) k unused 0 (let n = w .each i l .one-each in omega arith))
+            go false e =
+                let o : length (kids i) ≤ k = ltb-false k (length (kids i)) e in
+                equal (places i k) unused (settled i l k m ∙ List·getD-eq-default ((stepAt run i) .steps) unused (let n = w .each i l .one-each in omega arith))
+
+      pub fits-passes : T (allBelow (length run) (stepFits? A rows run places))
+      unfolding stepFits?
+      fits-passes =
+          all-of (length run) (stepFits? A rows run places)
+          (λ i l. and-T (eqb ((ruleOf A run i) .symbol) ((rowOf rows run i) .symbol)) _ (equal _ _ (w .each i l .same-symbol)) (all-of maxChildren (λ k. placeFits? A rows run i k (places i k)) (place-passes i l)))
+
+    pub one-row-passes : T (oneRow? A run)
+    one-row-passes =
+        all-of (A .tags) (λ k. allBelow (length run) (λ i. allBelow (length run) (λ j. sameRow? A run k i j)))
+        (λ k m. all-of (length run) (λ i. allBelow (length run) (λ j. sameRow? A run k i j))
+        (λ i li. all-of (length run) (sameRow? A run k i)
+        (λ j lj. implies (carries? A ((ruleOf A run i) .target) k) (carries? A ((ruleOf A run j) .target) k) _ (λ ci cj. equal _ _ (w .one-row k m i j li lj ci cj)))))
+
+    pub ends-passes : T (ends? A rows run)
+    ends-passes = and-T (eqb ((stepAt run (length run - 1)) .row) (length rows - 1)) _ (equal _ _ (w .last-row)) (w .last-final)
+
+    pub used-passes : T (allBelow (length run - 1) (used? run))
+    unfolding uses?
+    used-passes =
+        all-of (length run - 1) (used? run)
+        (λ i l.
+        let (j, low, m, k) = w .used i (omega arith) in
+        below-any (length run) (λ j. uses? j ((stepAt run j) .steps) i) j m (and-T (ltb i j) (any (eqb i) ((stepAt run j) .steps)) (lt→ltb i j low) (any-in (eqb i) k (eqb-refl i))))

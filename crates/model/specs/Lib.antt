@@ -1,5 +1,6 @@
 pub mod Limits
 pub mod Lists
+pub mod Space
 pub mod Refusal
 pub mod Tree
 pub mod Automaton

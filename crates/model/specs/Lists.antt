@@ -1,8 +1,9 @@
 -- Lists and tests that compute. Assumes nothing.
 use mathlib.Core.List.{List, [], _∷_, _++_}
 use mathlib.Core.Bool.{Bool, true, false, _&&_, _||_, cond}
+use mathlib.Core.Option.{Option, none, some}
 use Prim.Native.Nat.{ℕ, zero, suc}
-use lib.Dec.{eqb, leb}
+use lib.Dec.{eqb, leb, ltb}
 
 abbrev pub concatMap : {A B : Type 0} → (A → List B) → List A → List B
 concatMap f [] = []
@@ -41,3 +42,12 @@ anyBelow (suc n) p = anyBelow n p || p n
 -- the larger of two numbers
 abbrev pub larger : ℕ → ℕ → ℕ
 larger a b = cond (leb a b) b a
+
+-- the first of two, unless it is none
+abbrev pub orElse : {A : Type 0} → Option A → Option A → Option A
+orElse (some a) o = some a
+orElse none o = o
+
+-- j is later than i and uses it, cs being what j uses: the children of a row, the child steps of a step
+unfoldable pub uses? : ℕ → List ℕ → ℕ → Bool
+uses? j cs i = ltb i j && any (eqb i) cs

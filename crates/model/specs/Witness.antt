@@ -6,13 +6,9 @@ use mathlib.Core.Bool.{Bool, true, false, _&&_, not}
 use Prim.Native.Nat.{ℕ, zero, suc, _<_}
 use lib.Dec.{T, eqb}
 use lib.ListN.{length, getD}
-use Rattle.model.specs.Lists.{tab, allBelow}
+use Rattle.model.specs.Lists.{tab, allBelow, orElse}
 use Rattle.model.specs.Tree.{Tree, node, forest, andThen}
 use Rattle.model.specs.Automaton.{Rule, Automaton, final?, carries?}
-
-abbrev pub orElse : {A : Type 0} → Option A → Option A → Option A
-orElse (some a) o = some a
-orElse none o = o
 
 abbrev pub when? : {A : Type 0} → Bool → Option A → Option A
 when? true o = o

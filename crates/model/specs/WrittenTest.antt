@@ -1,11 +1,13 @@
 -- The conditions of a written run as tests that compute, one for each of the numbers 22 to 26 (document 01, section "Turned away, by place"). Assumes nothing.
 use mathlib.Core.List.{List}
-use mathlib.Core.Bool.{Bool, true, false, _&&_, _||_, not}
-use Prim.Native.Nat.{ℕ, zero, suc, _+_, _-_}
+use mathlib.Core.Bool.{Bool, _&&_, _||_, not, cond}
+use Prim.Native.Nat.{ℕ, _-_}
 use lib.Dec.{eqb, ltb}
 use lib.ListN.{length, getD}
-use Rattle.model.specs.Lists.{allBelow, anyBelow, any}
+use Rattle.model.specs.Limits.{maxChildren, unused}
+use Rattle.model.specs.Lists.{allBelow, anyBelow, uses?}
 use Rattle.model.specs.Automaton.{Automaton, final?, carries?}
+use Rattle.model.specs.Order.{place}
 use Rattle.model.specs.Table.{Row}
 use Rattle.model.specs.Written.{Step, stepAt, ruleOf, rowOf}
 
@@ -13,18 +15,19 @@ use Rattle.model.specs.Written.{Step, stepAt, ruleOf, rowOf}
 abbrev pub known? : Automaton → List Row → List Step → ℕ → Bool
 known? A rows run i = ltb ((stepAt run i) .rule) (length (A .rules)) && ltb ((stepAt run i) .row) (length rows)
 
--- child step j of step i is lower, and on the row and in the state that are asked
-abbrev pub childFits? : Automaton → List Row → List Step → ℕ → ℕ → Bool
-childFits? A rows run i j =
-    let c = getD ((stepAt run i) .steps) j 0 in
-    ltb c i && (eqb ((stepAt run c) .row) (getD ((rowOf rows run i) .children) j 0) && eqb ((ruleOf A run c) .target) (getD ((ruleOf A run i) .children) j 0))
+-- place k of step i holds x: a lower step, on child k of the row, in the state that is child k of the rule
+unfoldable pub childFits? : Automaton → List Row → List Step → ℕ → ℕ → ℕ → Bool
+childFits? A rows run i k x =
+    ltb x i && (eqb ((stepAt run x) .row) (getD ((rowOf rows run i) .children) k unused) && eqb ((ruleOf A run x) .target) (place (ruleOf A run i) k))
 
--- 23: the rule has the row's symbol, and there is one fitting step for each child
-abbrev pub fits? : Automaton → List Row → List Step → ℕ → Bool
-fits? A rows run i =
-    let n = length ((rowOf rows run i) .children) in
-    eqb ((ruleOf A run i) .symbol) ((rowOf rows run i) .symbol)
-    && (eqb (length ((ruleOf A run i) .children)) n && (eqb (length ((stepAt run i) .steps)) n && allBelow n (childFits? A rows run i)))
+-- it holds such a step where the row has a child k, else 65535
+unfoldable pub placeFits? : Automaton → List Row → List Step → ℕ → ℕ → ℕ → Bool
+placeFits? A rows run i k x = cond (ltb k (length ((rowOf rows run i) .children))) (childFits? A rows run i k x) (eqb x unused)
+
+-- 23: the rule has the row's symbol, and each place is as asked, also behind the child steps; `places i k` is what place k of step i holds
+unfoldable pub stepFits? : Automaton → List Row → List Step → (ℕ → ℕ → ℕ) → ℕ → Bool
+stepFits? A rows run places i =
+    eqb ((ruleOf A run i) .symbol) ((rowOf rows run i) .symbol) && allBelow maxChildren (λ k. placeFits? A rows run i k (places i k))
 
 -- 24: where the states of two steps carry a tag, both steps are on one row
 abbrev pub sameRow? : Automaton → List Step → ℕ → ℕ → ℕ → Bool
@@ -41,15 +44,5 @@ ends? A rows run =
     eqb ((stepAt run last) .row) (length rows - 1) && final? A ((ruleOf A run last) .target)
 
 -- 26: a step, not the last, is used by a later one
-abbrev pub uses? : List Step → ℕ → ℕ → Bool
-uses? run i j = ltb i j && any (eqb i) ((stepAt run j) .steps)
-
 abbrev pub used? : List Step → ℕ → Bool
-used? run i = anyBelow (length run) (uses? run i)
-
--- all of them
-abbrev pub written? : Automaton → List Row → List Step → Bool
-written? A rows run =
-    ltb 0 (length run)
-    && (allBelow (length run) (known? A rows run)
-    && (allBelow (length run) (fits? A rows run) && (oneRow? A run && (ends? A rows run && allBelow (length run - 1) (used? run)))))
+used? run i = anyBelow (length run) (λ j. uses? j ((stepAt run j) .steps) i)

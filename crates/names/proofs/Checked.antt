@@ -7,7 +7,7 @@ use native.Mathlib.Omega.{arith}
 use borrow.Author.Needs.{needs}
 use lib.ListN.{length}
 use Rattle.model.specs.Limits.{maxSymbols}
-use Rattle.model.specs.Refusal.{demand}
+use Rattle.model.specs.Refusal.{demand, unless}
 use Rattle.names.specs.Names.{shownName}
 use Rattle.names.specs.Table.{nameIn, cellBytes, tableOf}
 use Rattle.names.specs.Check.{listFits?, distinct?, shownApart?, namesCheckOf, namesAnswer}
@@ -44,22 +44,39 @@ module _ (symbols : ℕ) (site builtIn : List ℕ) where
 
 pub ruleset answers = (table-distinct, first-bad, second-bad, all-well, alike, needs)
 
+-- the one answer with that number, and the law both ways
+abbrev pub namesOf : ℕ → NamesChecked
+namesOf zero = Distinct
+namesOf (suc n) = Refused (suc n)
+
+pub of-answer : (n : ℕ) → namesAnswer (namesOf n) ≡ unless n tt
+unfolding unless
+of-answer zero = refl
+of-answer (suc n) = refl
+
+pub answer-is : (r : NamesChecked) (n : ℕ) → namesAnswer r ≡ unless n tt → r ≡ namesOf n
+unfolding unless
+answer-is Distinct zero e = refl
+answer-is Distinct (suc n) e = cc
+answer-is (Refused m) zero e = cc
+answer-is (Refused m) (suc n) e = cc
+
 -- the answer with the number n, where the definition gives m
-pub answered : (n m : ℕ) → n ≡ m → (n ≡ m) × (namesAnswer n ≡ namesAnswer m)
-answered n m e = (e, ap namesAnswer e)
+pub answered : (n m : ℕ) → n ≡ m → namesAnswer (namesOf n) ≡ unless m tt
+answered n m e = of-answer n ∙ ap (λ k. unless k tt) e
 
 -- what a caller learns of an answer: lists that pass have the number 0, and a refusal has its own, which is not 0
-module _ (r : NamesChecked) (n : ℕ) (e : r ≡ namesAnswer n) where
+module _ (r : NamesChecked) (n : ℕ) (e : namesAnswer r ≡ unless n tt) where
   pub distinct-zero : r ≡ Distinct → n ≡ 0
-  distinct-zero = go n e
+  distinct-zero = go n (answer-is r n e)
     where
-      go : (m : ℕ) → r ≡ namesAnswer m → r ≡ Distinct → m ≡ 0
+      go : (m : ℕ) → r ≡ namesOf m → r ≡ Distinct → m ≡ 0
       go zero f h = refl
       go (suc m) f h = cc
 
   pub refused-number : (m : ℕ) → r ≡ Refused m → (n ≡ m) × (0 < m)
-  refused-number m = go n e
+  refused-number m = go n (answer-is r n e)
     where
-      go : (k : ℕ) → r ≡ namesAnswer k → r ≡ Refused m → (k ≡ m) × (0 < m)
+      go : (k : ℕ) → r ≡ namesOf k → r ≡ Refused m → (k ≡ m) × (0 < m)
       go zero f h = let z : _≡_ {A = ℕ} 0 1 = cc in absurd (omega arith)
       go (suc k) f h = let z : suc k ≡ m = cc in (z, omega arith)

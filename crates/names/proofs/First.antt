@@ -8,8 +8,8 @@ use native.Mathlib.Nat.{eq-or-lt-of-le, le-of-suc-le-suc, not-suc-le-zero, le-an
 use native.Mathlib.Numerals.{add-one}
 use native.Mathlib.Omega.{arith}
 use borrow.Author.Needs.{needs}
-use Rattle.model.specs.Lists.{allBelow}
-use Rattle.names.specs.Names.{orNext, firstBelow}
+use Rattle.model.specs.Lists.{allBelow, orElse}
+use Rattle.names.specs.Names.{firstBelow}
 
 -- at the loop's head: none below i passes
 pub record Unfound (p : ℕ → Bool) (n i : ℕ) : Type 0 where
@@ -52,7 +52,7 @@ unfolding firstBelow allBelow
 none-all p zero = refl
 none-all p (suc n) = go (firstBelow n p) (p n) ∙ ap (λ b. b && not (p n)) (none-all p n)
   where
-    go : (o : Option ℕ) (t : Bool) → none? (orNext o (cond t (some n) none)) ≡ (none? o && not t)
+    go : (o : Option ℕ) (t : Bool) → none? (orElse o (cond t (some n) none)) ≡ (none? o && not t)
     go none true = refl
     go none false = refl
     go (some k) true = refl
@@ -79,7 +79,7 @@ found-passes p zero i h = let z : _≡_ {A = ℕ} 0 1 = cc in absurd (omega arit
 found-passes p (suc n) i h = go (firstBelow n p) (p n) refl refl (λ e. found-passes p n i e) h
   where
     go : (o : Option ℕ) (t : Bool) → firstBelow n p ≡ o → p n ≡ t → (firstBelow n p ≡ some i → (i < n) × (p i ≡ true))
-        → orNext o (cond t (some n) none) ≡ some i → (i < suc n) × (p i ≡ true)
+        → orElse o (cond t (some n) none) ≡ some i → (i < suc n) × (p i ≡ true)
     go none true eo et ih e = let q : n ≡ i = cc in (omega arith, subst (λ k. p k ≡ true) q et)
     go none false eo et ih e = let z : _≡_ {A = ℕ} 0 1 = cc in absurd (omega arith)
     go (some k) t eo et ih e = let r = ih (eo ∙ e) in (omega (arith, r .0), r .1)
@@ -89,7 +89,7 @@ pub first-same : (p q : ℕ → Bool) (n : ℕ) → ((i : ℕ) → i < n → p i
 unfolding firstBelow
 first-same p q zero h = refl
 first-same p q (suc n) h =
-    ap (λ o. orNext o (cond (p n) (some n) none)) (first-same p q n (λ i l. h i (omega arith)))
-    ∙ ap (λ t. orNext (firstBelow n q) (cond t (some n) none)) (h n (omega arith))
+    ap (λ o. orElse o (cond (p n) (some n) none)) (first-same p q n (λ i l. h i (omega arith)))
+    ∙ ap (λ t. orElse (firstBelow n q) (cond t (some n) none)) (h n (omega arith))
 
 pub ruleset finding = (unfound-none, unfound-more, found-at, found-none, needs)

@@ -1,4 +1,5 @@
 pub mod Tests
+pub mod Letters
 pub mod Strings
 pub mod Scan
 pub mod Naming

@@ -9,10 +9,10 @@ use borrow.Author.Needs.{needs}
 use borrow.Author.Tests.{eq-eqb, ne-eqb}
 use lib.Dec.{eqb}
 use lib.ListN.{length, getD, take, drop, length-drop, drop-of-length-le}
-use lib.Seq.{take-suc, getD-drop, append-snoc, drop-drop, drop-nil, length-take-le}
+use lib.Seq.{take-suc, getD-drop, append-snoc, drop-drop, drop-nil, take-all}
 use Rattle.names.specs.Lines.{lines, lengthen, lineAt, lineCount, newline}
 use Rattle.names.specs.Places.{Ended, Starts}
-use Rattle.names.specs.Names.{orElse, nameOf}
+use Rattle.names.specs.Names.{unlessEmpty, nameOf}
 use Rattle.names.proofs.Strings.{cut}
 
 first-longer : (x : ℕ) (ls : List (List ℕ)) → getD (lengthen x ls) 0 [] ≡ x ∷ getD ls 0 []
@@ -54,11 +54,11 @@ some-line x xs = go (eqb x newline)
     go true = omega arith
     go false = longer (lines xs)
 
-pub some-first : (l o : List ℕ) → 0 < length l → l ≡ orElse l o
+pub some-first : (l o : List ℕ) → 0 < length l → l ≡ unlessEmpty l o
 some-first [] o h = absurd (omega arith)
 some-first (x ∷ xs) o h = refl
 
-pub none-first : (l o : List ℕ) → length l ≡ 0 → o ≡ orElse l o
+pub none-first : (l o : List ℕ) → length l ≡ 0 → o ≡ unlessEmpty l o
 none-first [] o h = refl
 none-first (x ∷ xs) o h = absurd (omega arith)
 
@@ -125,11 +125,15 @@ module _ (s : List ℕ) (i a : ℕ) (v : Starts s i a) where
     lines-from = ap (λ n. lines (drop n s)) is ∙ ap lines (drop-inside s (e + 1)) ∙ w .behind ∙ ap (drop 1) (v .lines-from) ∙ drop-drop 1 i (lines s);
   }
 
+  -- the first line of what is left is line i
+  pub line-from : lineAt (drop a s) 0 ≡ lineAt s i
+  unfolding lineAt
+  line-from = ap (λ ls. getD ls 0 []) (v .lines-from) ∙ getD-drop i (lines s) 0 [] ∙ ap (λ n. getD (lines s) n []) (add-zero i)
+
   -- the line that ends at e is line i
   pub line-is : (e : ℕ) → Ended s a e → take (e - a) (drop a s) ≡ lineAt s i
   unfolding lineAt
-  line-is e w =
-      w .line ∙ ap (λ ls. getD ls 0 []) (v .lines-from) ∙ getD-drop i (lines s) 0 [] ∙ ap (λ n. getD (lines s) n []) (add-zero i)
+  line-is e w = w .line ∙ line-from
 
   left-over : length (lines (drop a s)) ≡ length (lines s) - i
   left-over = ap length (v .lines-from) ∙ length-drop i (lines s)
@@ -154,20 +158,23 @@ module _ (s : List ℕ) (i a : ℕ) (v : Starts s i a) where
       let n : length (lines s) ≤ k = omega (arith, none-left h) in
       record { inside = v .inside; lines-from = ap lines (drop-of-length-le s h) ∙ sym (drop-of-length-le (lines s) n) }
 
+-- what is left of two lists where line i starts has for symbol 0 the name of symbol i
+to-end : (s : List ℕ) (a : ℕ) → take (length s - a) (drop a s) ≡ drop a s
+to-end s a = take-all (length s - a) (drop a s) (rw length-drop (omega arith))
+
+pub name-from : (site builtIn : List ℕ) (i a b : ℕ) → Starts site i a → Starts builtIn i b
+    → nameOf (take (length site - a) (drop a site)) (take (length builtIn - b) (drop b builtIn)) 0 ≡ nameOf site builtIn i
+unfolding nameOf
+name-from site builtIn i a b v w = cc (to-end site a, to-end builtIn b, line-from site i a v, line-from builtIn i b w)
+
 -- a line with bytes is taken from the first list, one without from the second
-module _ (site builtIn : List ℕ) (i a e : ℕ) (v : Starts site i a) (w : Ended site a e) where
-  long : length (lineAt site i) ≡ e - a
-  long =
-      let k : e - a ≤ length (drop a site) = rw length-drop (omega (arith, w .inside)) in
-      sym (ap length (line-is site i a v e w)) ∙ length-take-le (e - a) (drop a site) k
-
-  pub name-first : a < e → take (e - a) (drop a site) ≡ nameOf site builtIn i
+module _ (site builtIn own : List ℕ) (i : ℕ) (is : own ≡ lineAt site i) where
+  pub name-first : 0 < length own → own ≡ nameOf site builtIn i
   unfolding nameOf
-  name-first h = line-is site i a v e w ∙ some-first (lineAt site i) (lineAt builtIn i) (let z = long in omega arith)
+  name-first h = some-first own (lineAt builtIn i) h ∙ ap (λ l. unlessEmpty l (lineAt builtIn i)) is
 
-  pub name-second : (b f : ℕ) → e ≤ a → Starts builtIn i b → Ended builtIn b f → take (f - b) (drop b builtIn) ≡ nameOf site builtIn i
+  pub name-second : (r : List ℕ) → length own ≤ 0 → r ≡ lineAt builtIn i → r ≡ nameOf site builtIn i
   unfolding nameOf
-  name-second b f h v′ w′ =
-      line-is builtIn i b v′ f w′ ∙ none-first (lineAt site i) (lineAt builtIn i) (let z = long in omega arith)
+  name-second r h e = e ∙ none-first own (lineAt builtIn i) (omega arith) ∙ ap (λ l. unlessEmpty l (lineAt builtIn i)) is
 
-pub ruleset scanning = (scan-none, scan-more, scan-stop, scan-end, starts-first, starts-next, starts-late, name-first, name-second, needs)
+pub ruleset scanning = (scan-none, scan-more, scan-stop, scan-end, starts-first, starts-next, starts-late, line-is, name-first, name-second, needs)

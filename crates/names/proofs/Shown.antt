@@ -17,7 +17,7 @@ use Rattle.model.specs.Refusal.{demand}
 use Rattle.model.proofs.Below.{at}
 use Rattle.model.proofs.Members.{T-true, eqList→eq, eqList-refl}
 use Rattle.names.specs.Lines.{lines, lineAt, lineCount}
-use Rattle.names.specs.Names.{letter?, digit?, nameByte?, maxName, name?, orElse, nameOf, digits, numbered, shownName, findIn, findName}
+use Rattle.names.specs.Names.{letter?, digit?, nameByte?, maxName, name?, unlessEmpty, nameOf, digits, defaultName, shownName, findIn, findName}
 use Rattle.names.specs.Table.{nameIn, cellBytes, tableOf}
 use Rattle.names.specs.Check.{lineFits?, listFits?, new?, distinct?, namesCheckOf}
 use Rattle.names.proofs.Tests.{and-true, split, all-same}
@@ -32,26 +32,26 @@ line-fits s i h =
     (λ l. ap lineFits? (List·getD-eq-default (lines s) [] l)) (split i (lineCount s))
 
 -- the first of two is a name where it is not empty, else the second is
-or-line : (l o : List ℕ) → lineFits? l ≡ true → lineFits? o ≡ true → lineFits? (orElse l o) ≡ true
+or-line : (l o : List ℕ) → lineFits? l ≡ true → lineFits? o ≡ true → lineFits? (unlessEmpty l o) ≡ true
 or-line [] o h g = g
 or-line (x ∷ xs) o h g = h
 
-or-name : (l o : List ℕ) → lineFits? l ≡ true → name? o ≡ true → name? (orElse l o) ≡ true
+or-name : (l o : List ℕ) → lineFits? l ≡ true → name? o ≡ true → name? (unlessEmpty l o) ≡ true
 unfolding lineFits?
 or-name [] o h g = g
 or-name (x ∷ xs) o h g = rw (eqb·suc-zero (length xs)) at h
 
 -- `s` and a number below 64 is a name: one test over all of them
-numbered-names : allBelow maxSymbols (λ i. name? (numbered i)) ≡ true
-unfolding allBelow name? numbered digits nameByte? letter? digit?
-numbered-names = refl
+default-names : allBelow maxSymbols (λ i. name? (defaultName i)) ≡ true
+unfolding allBelow name? defaultName digits nameByte? letter? digit?
+default-names = refl
 
 module _ (site builtIn : List ℕ) (fit : listFits? site ≡ true) (fit′ : listFits? builtIn ≡ true) where
   pub shown-fits : (i : ℕ) → i < maxSymbols → name? (shownName site builtIn i) ≡ true
   unfolding shownName nameOf
   shown-fits i l =
-      or-name (nameOf site builtIn i) (numbered i) (or-line (lineAt site i) (lineAt builtIn i) (line-fits site i fit) (line-fits builtIn i fit′))
-      (at (λ k. name? (numbered k)) maxSymbols i numbered-names l)
+      or-name (nameOf site builtIn i) (defaultName i) (or-line (lineAt site i) (lineAt builtIn i) (line-fits site i fit) (line-fits builtIn i fit′))
+      (at (λ k. name? (defaultName k)) maxSymbols i default-names l)
 
 name-short : (l : List ℕ) → name? l ≡ true → length l ≤ maxName
 unfolding name?

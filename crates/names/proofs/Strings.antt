@@ -1,18 +1,16 @@
--- Comparing two lists of bytes from the front, and copying one into a space: what the loops know at their heads. Assumes nothing.
-use mathlib.Core.Path.{_≡_, refl, sym, ap, _∙_}
+-- Comparing two lists of bytes from the front: what the loop knows at its head. Assumes nothing.
+use mathlib.Core.Path.{_≡_, refl, ap}
 use mathlib.Core.Bool.{Bool, true, false, _&&_}
-use mathlib.Core.List.{List, [], _∷_, _++_}
+use mathlib.Core.List.{List, [], _∷_}
 use Prim.Native.Nat.{ℕ, suc, _+_, _<_, _≤_}
-use native.Mathlib.Nat.{le-antisymm}
 use native.Mathlib.Numerals.{add-one}
 use native.Mathlib.Omega.{arith}
 use lib.Dec.{eqb}
-use lib.ListN.{length, getD, take, drop, set, length-set, drop-of-length-le}
-use lib.Seq.{drop-cons, paste, paste-zero, paste-suc, take-length}
+use lib.ListN.{length, getD, drop, drop-of-length-le}
+use lib.Seq.{drop-cons}
 use borrow.Author.Needs.{needs}
-use borrow.Author.Tests.{eq-eqb, ne-eqb, le-leb, lt-leb}
+use borrow.Author.Tests.{eq-eqb, ne-eqb}
 use Rattle.model.specs.Lists.{eqList}
-use Rattle.names.specs.Table.{putAt}
 
 pub cut : (s : List ℕ) (i : ℕ) → i < length s → drop i s ≡ getD s i 0 ∷ drop (i + 1) s
 cut s i h = rw (add-one, drop-cons s i 0)
@@ -54,37 +52,4 @@ module _ (a b : List ℕ) where
         let k : length b ≤ i = omega (arith, v .long) in
         rw (drop-of-length-le a h, drop-of-length-le b k) at (v .left)
 
--- i bytes are copied
-pub record Copied (d : List ℕ) (at : ℕ) (s : List ℕ) (i : ℕ) (now : List ℕ) : Type 0 where
-  pub fits : at + length s ≤ length d
-  pub inside : i ≤ length s
-  pub long : length now ≡ length d
-  pub is : now ≡ paste d at s i
-
-module _ (d : List ℕ) (at : ℕ) (s : List ℕ) where
-  pub copied-none : at + length s ≤ length d → Copied d at s 0 d
-  copied-none h = record { fits = h; inside = omega arith; long = refl; is = paste-zero d at s }
-
-  pub copied-more : (i : ℕ) (now : List ℕ) → Copied d at s i now → i < length s → Copied d at s (i + 1) (set now (at + i) (getD s i 0))
-  copied-more i now v h =
-      let k : at + i < length d = omega (arith, v .fits) in
-      record {
-        fits = v .fits;
-        inside = omega arith;
-        long = length-set now (at + i) (getD s i 0) ∙ v .long;
-        is = ap (λ l. set l (at + i) (getD s i 0)) (v .is) ∙ paste-suc d at s i 0 k h ∙ ap (paste d at s) (sym (add-one i));
-      }
-
-  pub copied-all : (i : ℕ) (now : List ℕ) → Copied d at s i now → length s ≤ i → now ≡ putAt d at s
-  unfolding putAt
-  copied-all i now v h =
-      v .is ∙ ap (paste d at s) (le-antisymm (v .inside) h) ∙ ap (λ l. take at d ++ l ++ drop (at + length s) d) (take-length s)
-      ∙ simp (le-leb _ _ (v .fits))
-
-  pub not-copied : length d < at + length s → d ≡ putAt d at s
-  unfolding putAt
-  not-copied h = simp (lt-leb _ _ h)
-
 pub ruleset comparing = (lengths-differ, agree-none, agree-more, agree-not, agree-all, needs)
-
-pub ruleset copying = (copied-none, copied-more, copied-all, not-copied, needs)

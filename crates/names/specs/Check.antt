@@ -2,12 +2,12 @@
 use mathlib.Core.List.{List}
 use mathlib.Core.Bool.{Bool, _&&_, _||_, not}
 use mathlib.Core.Option.{Option, none, some}
-use Prim.Native.Nat.{ℕ, zero, suc, min}
+use Prim.Native.Nat.{ℕ, min}
 use lib.Dec.{eqb, leb}
 use lib.ListN.{length}
 use Rattle.model.specs.Limits.{maxSymbols}
 use Rattle.model.specs.Lists.{allBelow, eqList}
-use Rattle.model.specs.Refusal.{demand}
+use Rattle.model.specs.Refusal.{demand, Answer, gives, refuses}
 use Rattle.names.specs.Lines.{lineAt, lineCount}
 use Rattle.names.specs.Names.{name?, shownName}
 use Rattle.names.specs.declared.NamesChecked.{NamesChecked}
@@ -35,22 +35,17 @@ distinct? n names = allBelow n (new? names)
 abbrev pub shownApart? : ℕ → List ℕ → List ℕ → Bool
 shownApart? symbols site builtIn = distinct? (min symbols maxSymbols) (shownName site builtIn)
 
--- the first number that turns the lists away, else 0
+-- the first number that refuses the lists, else 0
 unfoldable pub namesCheckOf : ℕ → List ℕ → List ℕ → ℕ
 namesCheckOf symbols site builtIn =
     demand (listFits? site && listFits? builtIn) 61 (demand (shownApart? symbols site builtIn) 62 0)
 
--- the refusal number of an answer, 0 for none
-abbrev pub namesNumber : NamesChecked → ℕ
-namesNumber Distinct = 0
-namesNumber (Refused n) = n
+-- the check's answer: nothing is refused, or a refusal by its number
+abbrev pub namesAnswer : NamesChecked → Answer (Unit {0})
+namesAnswer Distinct = gives tt
+namesAnswer (Refused n) = refuses n
 
--- the one answer with that number
-abbrev pub namesAnswer : ℕ → NamesChecked
-namesAnswer zero = Distinct
-namesAnswer (suc n) = Refused (suc n)
-
--- the symbol that an answer stands for
+-- the symbol that was found, if one was
 abbrev pub foundOf : Found → Option ℕ
 foundOf (Symbol i) = some i
 foundOf Unknown = none

@@ -5,7 +5,7 @@ use mathlib.Core.Option.{Option, none, some}
 use Prim.Native.Nat.{ℕ, zero, suc, _+_, _/_, _%_}
 use lib.Dec.{ltb, leb}
 use lib.ListN.{length, getD}
-use Rattle.model.specs.Lists.{allBelow, eqList}
+use Rattle.model.specs.Lists.{allBelow, eqList, orElse}
 use Rattle.names.specs.Lines.{lineAt}
 
 -- a to z
@@ -30,13 +30,13 @@ name? s =
     ltb 0 (length s) && (leb (length s) maxName && (letter? (getD s 0 0) && allBelow (length s) (λ k. nameByte? (getD s k 0))))
 
 -- the first of two lists of bytes, unless it is empty
-abbrev pub orElse : List ℕ → List ℕ → List ℕ
-orElse [] o = o
-orElse (x ∷ xs) o = x ∷ xs
+abbrev pub unlessEmpty : List ℕ → List ℕ → List ℕ
+unlessEmpty [] o = o
+unlessEmpty (x ∷ xs) o = x ∷ xs
 
 -- the part of the site's list, else the part of the built-in list; empty where neither has a name
 unfoldable pub nameOf : List ℕ → List ℕ → ℕ → List ℕ
-nameOf site builtIn i = orElse (lineAt site i) (lineAt builtIn i)
+nameOf site builtIn i = unlessEmpty (lineAt site i) (lineAt builtIn i)
 
 -- the decimal digits of n, of which there are at most the first number
 unfoldable pub digits : ℕ → ℕ → List ℕ
@@ -47,23 +47,18 @@ digits (suc f) n = elim (ltb n 10) [ true ↦ (48 + n) ∷ [] | false ↦ digits
 abbrev pub decimal : ℕ → List ℕ
 decimal n = digits (suc n) n
 
--- `s` and the number
-unfoldable pub numbered : ℕ → List ℕ
-numbered i = 115 ∷ decimal i
+-- the name of a symbol that the lists do not name: `s` and the number
+unfoldable pub defaultName : ℕ → List ℕ
+defaultName i = 115 ∷ decimal i
 
 -- the name shown for symbol i
 unfoldable pub shownName : List ℕ → List ℕ → ℕ → List ℕ
-shownName site builtIn i = orElse (nameOf site builtIn i) (numbered i)
-
--- the first of two answers, unless it is none
-abbrev pub orNext : Option ℕ → Option ℕ → Option ℕ
-orNext none o = o
-orNext (some k) o = some k
+shownName site builtIn i = unlessEmpty (nameOf site builtIn i) (defaultName i)
 
 -- the first index below n that passes the test
 unfoldable pub firstBelow : ℕ → (ℕ → Bool) → Option ℕ
 firstBelow zero p = none
-firstBelow (suc n) p = orNext (firstBelow n p) (cond (p n) (some n) none)
+firstBelow (suc n) p = orElse (firstBelow n p) (cond (p n) (some n) none)
 
 -- the first of n symbols that has these bytes for a name
 unfoldable pub findIn : ℕ → (ℕ → List ℕ) → List ℕ → Option ℕ

@@ -4,7 +4,6 @@ use mathlib.Core.List.{List, []}
 use Prim.Native.Nat.{ℕ, _+_, _-_, _≤_}
 use lib.ListN.{length, getD, take, drop}
 use Rattle.names.specs.Lines.{lines}
-use Rattle.names.specs.Names.{nameOf}
 
 -- The line that starts at place a ends at place e.
 pub record Ended (s : List ℕ) (a e : ℕ) : Type 0 where
@@ -17,7 +16,3 @@ pub record Ended (s : List ℕ) (a e : ℕ) : Type 0 where
 pub record Starts (s : List ℕ) (i a : ℕ) : Type 0 where
   pub inside : a ≤ length s
   pub lines-from : lines (drop a s) ≡ drop i (lines s)
-
--- These bytes are the name that two lists have for the symbol whose lines start at places a and b.
-abbrev pub NamedFrom : List ℕ → List ℕ → ℕ → ℕ → List ℕ → Type 0
-NamedFrom site builtIn a b bytes = (i : ℕ) → Starts site i a → Starts builtIn i b → bytes ≡ nameOf site builtIn i

@@ -1,15 +1,10 @@
 -- A table of the names shown, in cells of one width: a name's length, then its bytes. Assumes nothing.
-use mathlib.Core.List.{List, _∷_, _++_}
-use mathlib.Core.Bool.{cond}
+use mathlib.Core.List.{List, _∷_}
 use Prim.Native.Nat.{ℕ, zero, suc, _+_, _*_}
-use lib.Dec.{leb}
 use lib.ListN.{length, getD, take, drop}
 use Rattle.model.specs.Limits.{maxSymbols}
+use Rattle.model.specs.Space.{putAt}
 use Rattle.names.specs.Names.{maxName, shownName}
-
--- a list with these bytes at a place, where they fit; else as it was
-unfoldable pub putAt : List ℕ → ℕ → List ℕ → List ℕ
-putAt d at bytes = cond (leb (at + length bytes) (length d)) (take at d ++ bytes ++ drop (at + length bytes) d) d
 
 -- a cell's bytes
 abbrev pub cellBytes : ℕ

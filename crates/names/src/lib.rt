@@ -1,8 +1,9 @@
 // The two lent name lists: their check, the lookup of a symbol's name, and a table for finding a symbol by its name.
-pub mod bytes; // bytes.rt: byte classes, comparing and putting
+pub mod bytes; // bytes.rt: byte classes, and comparing
 pub mod lines; // lines.rt: the lines of a list, and the lookup
 pub mod table; // table.rt: the names shown, in cells of one width
 
+use base::limits::MAX_SYMBOLS;
 use lines::list_fits;
 use table::Found;
 use table::TABLE;
@@ -14,11 +15,9 @@ ghost use Prim.Native.Nat.{_≤_, min};
 ghost use mathlib.Core.Bool.{true};
 ghost use lib.ListN.{length};
 ghost use Rattle.model.specs.Limits.{maxSymbols};
+ghost use Rattle.model.specs.Refusal.{unless};
 ghost use Rattle.names.specs.Table.{nameIn};
-ghost use Rattle.names.specs.Check.{listFits?, new?, distinct?, shownApart?, namesCheckOf, namesNumber, namesAnswer};
-
-// The most symbols of a set.
-const MAX_SYMBOLS: u16 = 64;
+ghost use Rattle.names.specs.Check.{listFits?, new?, distinct?, shownApart?, namesCheckOf, namesAnswer};
 
 // What the check says of two lists.
 pub enum NamesChecked {
@@ -74,7 +73,7 @@ fn are_distinct<'a>(t: &mut [u8], symbols: u16, site: &'a [u8], built_in: &'a [u
 
 // Whether two name lists may be used with a set of so many symbols: 61 or 62 where not.
 pub fn check<'a>(symbols: u16, site: &'a [u8], built_in: &'a [u8]) -> NamesChecked
-    ensures { λ r. ⌜ (namesNumber r ≡ namesCheckOf symbols (now (site .entry)) (now («built_in» .entry))) × (r ≡ namesAnswer (namesCheckOf symbols (now (site .entry)) (now («built_in» .entry)))) ⌝ }
+    ensures { λ r. ⌜ namesAnswer r ≡ unless (namesCheckOf symbols (now (site .entry)) (now («built_in» .entry))) tt ⌝ }
 {
     if list_fits(site) {
         if list_fits(built_in) {

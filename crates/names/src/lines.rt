@@ -1,16 +1,15 @@
 // The lines of a name list, what a name is, and the lookup of a symbol's name in the two lists.
 use crate::bytes::is_digit;
 use crate::bytes::is_letter;
+use base::limits::MAX_SYMBOLS;
 ghost use mathlib.Core.Path.{_≡_};
 ghost use Prim.Native.Nat.{ℕ, _+_, _≤_, min};
 ghost use lib.ListN.{length, getD};
 ghost use Rattle.model.specs.Lists.{allBelow};
-ghost use Rattle.names.specs.Places.{Ended, Starts, NamedFrom};
+ghost use Rattle.names.specs.Lines.{lineAt};
+ghost use Rattle.names.specs.Places.{Ended, Starts};
 ghost use Rattle.names.specs.Names.{nameByte?, name?, nameOf};
 ghost use Rattle.names.specs.Check.{lineFits?, listFits?};
-
-// The most lines of a list: as many as a set has symbols.
-pub const MAX_LINES: usize = 64;
 
 // The most bytes of a name.
 pub const MAX_NAME: usize = 16;
@@ -112,14 +111,14 @@ fn line_fits(s: &[u8]) -> bool
     is_name(s)
 }
 
-// Whether a list has at most 64 lines, each empty or a name.
+// Whether a list has at most 64 lines, as many as a set has symbols, each empty or a name.
 pub fn list_fits(s: &[u8]) -> bool
     ensures { λ r. ⌜ r ≡ listFits? (now (s .entry)) ⌝ }
 {
     let mut a = 0;
     let mut k = 0;
     while a < s.len() {
-        if k == MAX_LINES {
+        if k == MAX_SYMBOLS {
             return false;
         }
         let e = line_end(s, a);
@@ -133,24 +132,22 @@ pub fn list_fits(s: &[u8]) -> bool
     true
 }
 
-// The line at place `a` of the site's list, else the one at place `b` of the built-in list.
-pub(crate) fn name_from<'a>(site: &'a [u8], built_in: &'a [u8], a: usize, b: usize) -> &'a [u8]
-    requires { ⌜ (a ≤ length (now site)) × (b ≤ length (now «built_in»)) ⌝ }
-    ensures { λ r. ⌜ NamedFrom (now (site .entry)) (now («built_in» .entry)) a b (now r) ⌝ }
+// Line `i` of a list; empty where there is none.
+fn line<'a>(s: &'a [u8], i: usize) -> &'a [u8]
+    ensures { λ r. ⌜ now r ≡ lineAt (now (s .entry)) i ⌝ }
 {
-    let e = line_end(site, a);
-    if a < e {
-        return &site[a..e];
-    }
-    let f = line_end(built_in, b);
-    &built_in[b..f]
+    let a = line_start(s, i);
+    let e = line_end(s, a);
+    &s[a..e]
 }
 
 // The name that the lists have for symbol `i`: the part of the site's list, else of the built-in list; empty where neither has one.
 pub fn name<'a>(site: &'a [u8], built_in: &'a [u8], i: usize) -> &'a [u8]
     ensures { λ r. ⌜ now r ≡ nameOf (now (site .entry)) (now («built_in» .entry)) i ⌝ }
 {
-    let a = line_start(site, i);
-    let b = line_start(built_in, i);
-    name_from(site, built_in, a, b)
+    let own = line(site, i);
+    if own.len() > 0 {
+        return own;
+    }
+    line(built_in, i)
 }

@@ -1,15 +1,20 @@
 // The names shown, in a table of cells of one width, and the search for a symbol by its name.
-use crate::bytes::put;
 use crate::bytes::same;
-use crate::lines::MAX_LINES;
 use crate::lines::MAX_NAME;
-use crate::lines::name_from;
+use crate::lines::name;
 use crate::lines::next_line;
+use base::limits::MAX_SYMBOLS;
+use base::numbers::digit;
+use base::numbers::size;
+use base::numbers::smaller;
+use base::numbers::wide;
+use base::space::put;
 ghost use mathlib.Core.Path.{_≡_};
-ghost use Prim.Native.Nat.{_+_, _*_, _<_, min};
+ghost use Prim.Native.Nat.{_*_, _<_};
 ghost use lib.ListN.{length, getD};
-ghost use Rattle.names.specs.Names.{orElse, numbered, findIn};
-ghost use Rattle.names.specs.Table.{putAt, cellBytes, cellOf, nameIn, tableOf};
+ghost use Rattle.model.specs.Space.{putAt};
+ghost use Rattle.names.specs.Names.{unlessEmpty, defaultName, findIn};
+ghost use Rattle.names.specs.Table.{cellBytes, cellOf, nameIn, tableOf};
 ghost use Rattle.names.specs.Check.{foundOf};
 
 // A cell's bytes: a name's length, then its bytes.
@@ -24,61 +29,46 @@ pub enum Found {
     Unknown,
 }
 
-// The smaller of two numbers.
-fn smaller(a: usize, b: usize) -> usize
-    ensures { λ r. ⌜ r ≡ min a b ⌝ }
-{
-    if a < b { a } else { b }
-}
-
-// The digit of a number below ten.
-fn digit(n: usize) -> u8
-    requires { ⌜ n < 10 ⌝ }
-    ensures { λ r. ⌜ r ≡ 48 + n ⌝ }
-{
-    b'0' + n as u8
-}
-
 // A name into cell `i`, where the cell fits into the space.
-fn put_cell(t: &mut [u8], i: usize, name: &[u8])
+fn put_cell(t: &mut [u8], i: u16, bytes: &[u8])
     requires { ⌜ i < 64 ⌝ }
-    ensures { λ r. ⌜ now (t .exit) ≡ putAt (now (t .entry)) (i * cellBytes) (cellOf (now (name .entry))) ⌝ }
+    ensures { λ r. ⌜ now (t .exit) ≡ putAt (now (t .entry)) (i * cellBytes) (cellOf (now (bytes .entry))) ⌝ }
 {
-    let at = i * CELL;
-    let n = smaller(MAX_NAME, name.len());
+    let at = size(i) * CELL;
+    let n = smaller(MAX_NAME, bytes.len());
     if at + n < t.len() {
         t[at] = n as u8;
-        put(t, at + 1, &name[..n]);
+        put(t, at + 1, &bytes[..n]);
     }
 }
 
 // A part of a list into cell `i`; where it is empty, `s` and the number.
-fn put_shown(t: &mut [u8], i: usize, part: &[u8])
+fn put_shown(t: &mut [u8], i: u16, part: &[u8])
     requires { ⌜ i < 64 ⌝ }
-    ensures { λ r. ⌜ now (t .exit) ≡ putAt (now (t .entry)) (i * cellBytes) (cellOf (orElse (now (part .entry)) (numbered i))) ⌝ }
+    ensures { λ r. ⌜ now (t .exit) ≡ putAt (now (t .entry)) (i * cellBytes) (cellOf (unlessEmpty (now (part .entry)) (defaultName i))) ⌝ }
 {
     if part.len() > 0 {
         put_cell(t, i, part);
         return;
     }
     if i < 10 {
-        let one = [b's', digit(i)];
+        let one = [b's', digit(wide(i))];
         put_cell(t, i, &one);
         return;
     }
-    let two = [b's', digit(i / 10), digit(i % 10)];
+    let two = [b's', digit(wide(i / 10)), digit(wide(i))];
     put_cell(t, i, &two);
 }
 
-// The names shown for 64 symbols, each in its cell of a space.
+// The names shown for 64 symbols, each in its cell of a space. The lookup is asked for symbol 0 of what is left of the lists, so that no list is scanned from its start again.
 pub fn fill<'a>(t: &mut [u8], site: &'a [u8], built_in: &'a [u8])
     ensures { λ r. ⌜ now (t .exit) ≡ tableOf (now (site .entry)) (now («built_in» .entry)) (now (t .entry)) ⌝ }
 {
     let mut a = 0;
     let mut b = 0;
     let mut i = 0;
-    while i < MAX_LINES {
-        let part = name_from(site, built_in, a, b);
+    while i < MAX_SYMBOLS {
+        let part = name(&site[a..], &built_in[b..], 0);
         put_shown(t, i, part);
         a = next_line(site, a);
         b = next_line(built_in, b);
@@ -97,7 +87,7 @@ fn byte_at(t: &[u8], at: usize) -> usize
 pub fn shown<'a>(t: &'a [u8], i: u16) -> &'a [u8]
     ensures { λ r. ⌜ now r ≡ nameIn (now (t .entry)) i ⌝ }
 {
-    let at = (i as usize) * CELL;
+    let at = size(i) * CELL;
     let n = byte_at(t, at);
     let a = smaller(at + 1, t.len());
     let e = smaller(at + 1 + n, t.len());

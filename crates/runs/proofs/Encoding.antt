@@ -6,15 +6,15 @@ use native.Mathlib.Omega.{arith}
 use lib.ListN.{length, getD, drop, length-append}
 use lib.Seq.{take-at, drop-append-add}
 use Rattle.model.specs.Limits.{maxChildren, unused}
+use Rattle.model.specs.Space.{putAt}
 use Rattle.model.specs.Written.{Step, stepAt}
 use Rattle.model.proofs.Tab.{tab-at}
-use Rattle.automaton.specs.Encode.{putAt}
+use Rattle.model.proofs.Space.{put-fits}
 use Rattle.automaton.proofs.Parts.{tab-same, tab-is, length-concat, concat-at}
 use Rattle.document.specs.Rows.{used}
 use Rattle.document.proofs.Encoding.{all-used, used-places}
 use Rattle.runs.specs.Steps.{stepCells, cellIn, placesIn, placeIn, stepIn, decodeSteps, encodeStep, encodeSteps, Fits}
 use Rattle.runs.proofs.Reading.{noStep}
-use Rattle.runs.proofs.Putting.{put-fits}
 
 pub length-encode : (run : List Step) → length (encodeSteps run) ≡ stepCells * length run
 length-encode run = length-concat encodeStep stepCells (λ s. refl) run
@@ -64,7 +64,7 @@ put-next run s rest h =
     let n = length-encode run in
     let at : length run * stepCells ≡ length (encodeSteps run) = omega arith in
     ap (λ (k : ℕ). putAt (encodeSteps run ++ rest) k (encodeStep s)) at
-    ∙ put-fits (encodeSteps run ++ rest) (encodeStep s) (length (encodeSteps run)) (rw length-append (omega arith))
+    ∙ put-fits (encodeSteps run ++ rest) (length (encodeSteps run)) (encodeStep s) (rw length-append (omega arith))
     ∙ ap (λ (cells : List ℕ). cells ++ encodeStep s ++ drop (length (encodeSteps run) + stepCells) (encodeSteps run ++ rest)) (take-at (encodeSteps run) rest (length (encodeSteps run)) refl)
     ∙ ap (λ (cells : List ℕ). encodeSteps run ++ encodeStep s ++ cells) (drop-append-add (encodeSteps run) rest stepCells)
     ∙ ap (λ (cells : List ℕ). cells ++ drop stepCells rest) (sym (encode-append run s))

@@ -12,55 +12,55 @@ use borrow.Author.Tests.{eq-eqb, ne-eqb, eqb-true, eqb-false, not-false}
 use lib.Dec.{eqb}
 use lib.ListN.{length, getD, set, replicate, length-set, getD-replicate}
 use lib.Seq.{getD-set-same, getD-set-other}
-use Rattle.model.specs.Limits.{unused}
+use Rattle.model.specs.Limits.{maxTags, unused}
 use Rattle.model.specs.Lists.{allBelow}
 use Rattle.model.specs.Automaton.{Automaton, stateAt, bit?, carries?}
 use Rattle.model.specs.Written.{Step, stepAt, ruleOf}
 use Rattle.model.specs.WrittenTest.{sameRow?, oneRow?}
 use Rattle.model.proofs.Below.{at, fails}
 use Rattle.automaton.proofs.Parts.{all-of}
-use Rattle.runs.specs.Passes.{tagPlaces, Tagged, mayGo?, Gone}
+use Rattle.runs.specs.Passes.{Tagged, agrees?, Assigned}
 
--- ---- the tags of one mask go to a row
+-- ---- the tags of one mask are assigned to a row
 
--- at the head of the loop: the tags below k went, the others not yet
-pub record Going (n mask row : ℕ) (before held : List ℕ) (k : ℕ) : Type 0 where
-  pub few : n ≤ tagPlaces
-  pub long : length held ≡ tagPlaces
+-- at the head of the loop: the tags below k are assigned, the others not yet
+pub record Assigning (n mask row : ℕ) (before held : List ℕ) (k : ℕ) : Type 0 where
+  pub few : n ≤ maxTags
+  pub long : length held ≡ maxTags
   pub inside : k ≤ n
-  pub went : (j : ℕ) → j < k → getD held j 0 ≡ cond (bit? mask j) row (getD before j 0)
+  pub assigned : (j : ℕ) → j < k → getD held j 0 ≡ cond (bit? mask j) row (getD before j 0)
   pub rest : (j : ℕ) → k ≤ j → getD held j 0 ≡ getD before j 0
 
 module _ (n mask row : ℕ) (before : List ℕ) where
-  pub going-none : n ≤ tagPlaces → length before ≡ tagPlaces → Going n mask row before before 0
-  going-none f e = record { few = f; long = e; inside = omega arith; went = λ j l. absurd (omega arith); rest = λ j l. refl }
+  pub assigning-none : n ≤ maxTags → length before ≡ maxTags → Assigning n mask row before before 0
+  assigning-none f e = record { few = f; long = e; inside = omega arith; assigned = λ j l. absurd (omega arith); rest = λ j l. refl }
 
   -- one tag more: the places are those before, with tag k's as asked
-  module _ (held held′ : List ℕ) (k : ℕ) (h : Going n mask row before held k) (l : k < n) (long : length held′ ≡ length held) (here : getD held′ k 0 ≡ cond (bit? mask k) row (getD held k 0)) (other : (j : ℕ) → (j ≡ k → ⊥) → getD held′ j 0 ≡ getD held j 0) where
-    going : Going n mask row before held′ (k + 1)
-    going = record {
+  module _ (held held′ : List ℕ) (k : ℕ) (h : Assigning n mask row before held k) (l : k < n) (long : length held′ ≡ length held) (here : getD held′ k 0 ≡ cond (bit? mask k) row (getD held k 0)) (other : (j : ℕ) → (j ≡ k → ⊥) → getD held′ j 0 ≡ getD held j 0) where
+    assigning : Assigning n mask row before held′ (k + 1)
+    assigning = record {
       few = h .few;
       long = long ∙ h .long;
       inside = omega arith;
-      went = λ j m. ⊎-elim (this j) (λ m′. other j (λ e. omega arith) ∙ h .went j m′) (eq-or-lt-of-le (le-of-suc-le-suc (rw add-one at m)));
+      assigned = λ j m. ⊎-elim (this j) (λ m′. other j (λ e. omega arith) ∙ h .assigned j m′) (eq-or-lt-of-le (le-of-suc-le-suc (rw add-one at m)));
       rest = λ j m. other j (λ e. omega arith) ∙ h .rest j (omega arith);
     }
       where
         this : (j : ℕ) → j ≡ k → getD held′ j 0 ≡ cond (bit? mask j) row (getD before j 0)
         this j e = rw e (here ∙ ap (λ (x : ℕ). cond (bit? mask k) row x) (h .rest k (omega arith)))
 
-  pub going-more : (held : List ℕ) (k a : ℕ) (r : Bool) → Going n mask row before held k → k < n → r ≡ bit? mask k → r ≡ true → a ≡ k → Going n mask row before (set held a row) (k + 1)
-  going-more held k a r h l e t ea =
-      rw ea (going held (set held k row) k h l (length-set held k row)
+  pub assigning-more : (held : List ℕ) (k a : ℕ) (r : Bool) → Assigning n mask row before held k → k < n → r ≡ bit? mask k → r ≡ true → a ≡ k → Assigning n mask row before (set held a row) (k + 1)
+  assigning-more held k a r h l e t ea =
+      rw ea (assigning held (set held k row) k h l (length-set held k row)
       (getD-set-same held k row 0 (rw (h .long) (omega (arith, h .few))) ∙ sym (ap (λ (b : Bool). cond b row (getD held k 0)) (sym e ∙ t)))
       (λ j n. getD-set-other held k j row 0 n))
 
-  pub going-on : (held : List ℕ) (k : ℕ) (r : Bool) → Going n mask row before held k → k < n → r ≡ bit? mask k → r ≡ false → Going n mask row before held (k + 1)
-  going-on held k r h l e f =
-      going held held k h l refl (sym (ap (λ (b : Bool). cond b row (getD held k 0)) (sym e ∙ f))) (λ j n. refl)
+  pub assigning-on : (held : List ℕ) (k : ℕ) (r : Bool) → Assigning n mask row before held k → k < n → r ≡ bit? mask k → r ≡ false → Assigning n mask row before held (k + 1)
+  assigning-on held k r h l e f =
+      assigning held held k h l refl (sym (ap (λ (b : Bool). cond b row (getD held k 0)) (sym e ∙ f))) (λ j n. refl)
 
-  pub gone : (held : List ℕ) (k : ℕ) → Going n mask row before held k → n ≤ k → Gone n mask row before held
-  gone held k h l j m = h .went j (omega arith)
+  pub all-assigned : (held : List ℕ) (k : ℕ) → Assigning n mask row before held k → n ≤ k → Assigned n mask row before held
+  all-assigned held k h l j m = h .assigned j (omega arith)
 
 -- ---- the pass over the steps
 
@@ -73,25 +73,25 @@ fails-at (suc n) p h = ⊎-elim (λ g. let (k, l, e) = fails-at n p g in (k, ome
     either true e = inr e
     either false e = inl refl
 
--- a tag of the mask that may go: its place names no row, or this one; one that may not
-may : (b : Bool) (x i : ℕ) → (not b || (eqb x unused || eqb x i)) ≡ true → b ≡ true → (x ≡ unused) ⊎ (x ≡ i)
-may true x i h e = go (eqb x unused) refl h
+-- a tag of the mask that agrees: its place names no row, or this one; one that does not
+agreed : (b : Bool) (x i : ℕ) → (not b || (eqb x unused || eqb x i)) ≡ true → b ≡ true → (x ≡ unused) ⊎ (x ≡ i)
+agreed true x i h e = go (eqb x unused) refl h
   where
     go : (a : Bool) → eqb x unused ≡ a → (a || eqb x i) ≡ true → (x ≡ unused) ⊎ (x ≡ i)
     go true f g = inl (eqb-true x unused f)
     go false f g = inr (eqb-true x i g)
-may false x i h e = let z : _≡_ {A = ℕ} 0 1 = cc in absurd (omega arith)
+agreed false x i h e = let z : _≡_ {A = ℕ} 0 1 = cc in absurd (omega arith)
 
-may-not : (b : Bool) (x i : ℕ) → (not b || (eqb x unused || eqb x i)) ≡ false → (b ≡ true) × ((x ≡ unused → ⊥) × (x ≡ i → ⊥))
-may-not true x i h = (refl, go (eqb x unused) refl h)
+not-agreed : (b : Bool) (x i : ℕ) → (not b || (eqb x unused || eqb x i)) ≡ false → (b ≡ true) × ((x ≡ unused → ⊥) × (x ≡ i → ⊥))
+not-agreed true x i h = (refl, go (eqb x unused) refl h)
   where
     go : (a : Bool) → eqb x unused ≡ a → (a || eqb x i) ≡ false → (x ≡ unused → ⊥) × (x ≡ i → ⊥)
     go true f g = let z : _≡_ {A = ℕ} 0 1 = cc in absurd (omega arith)
     go false f g = (eqb-false x unused f, eqb-false x i g)
-may-not false x i h = let z : _≡_ {A = ℕ} 0 1 = cc in absurd (omega arith)
+not-agreed false x i h = let z : _≡_ {A = ℕ} 0 1 = cc in absurd (omega arith)
 
 -- two steps, a and b whether they carry the tag, on rows x and y
-pub on-one : (a b : Bool) (x y : ℕ) → (a ≡ true → b ≡ true → x ≡ y) → (not (a && b) || eqb x y) ≡ true
+on-one : (a b : Bool) (x y : ℕ) → (a ≡ true → b ≡ true → x ≡ y) → (not (a && b) || eqb x y) ≡ true
 on-one true true x y h = eq-eqb x y (h refl refl)
 on-one true false x y h = refl
 on-one false b x y h = refl
@@ -111,41 +111,41 @@ module _ (A : Automaton) (run : List Step) where
     pub steps : n ≡ length run
     pub count : tags ≡ A .tags
     pub inside : i ≤ n
-    pub told : (k : ℕ) → k < tags → (j : ℕ) → j < i → has j k ≡ true → getD held k 0 ≡ (stepAt run j) .row
+    pub named : (k : ℕ) → k < tags → (j : ℕ) → j < i → has j k ≡ true → getD held k 0 ≡ (stepAt run j) .row
     pub from : (k : ℕ) → k < tags → (getD held k 0 ≡ unused → ⊥) → (j : ℕ) × (j < i) × (has j k ≡ true) × ((stepAt run j) .row ≡ getD held k 0)
 
   module _ (n tags : ℕ) (t : Tagged A run n) where
-    pub held-none : tags ≡ A .tags → Held n tags (replicate tagPlaces unused) 0
+    pub held-none : tags ≡ A .tags → Held n tags (replicate maxTags unused) 0
     held-none e = record {
       steps = t .steps;
       count = e;
       inside = omega arith;
-      told = λ k l j m. absurd (omega arith);
-      from = λ k l m. absurd (m (getD-replicate tagPlaces k unused 0 (omega (arith, t .few))));
+      named = λ k l j m. absurd (omega arith);
+      from = λ k l m. absurd (m (getD-replicate maxTags k unused 0 (omega (arith, t .few))));
     }
 
-    -- step i, in state q, goes to row r by the mask of q
+    -- step i, in state q, is on row r, with the mask of q
     module _ (held : List ℕ) (i r q mask : ℕ) (h : Held n tags held i) (l : i < n) (er : r ≡ (stepAt run i) .row) (eq : q ≡ (ruleOf A run i) .target) (em : mask ≡ (stateAt A q) .mask) where
       has-bit : (k : ℕ) → bit? mask k ≡ has i k
       has-bit k = ap (λ (m : ℕ). bit? m k) (em ∙ ap (λ (p : ℕ). (stateAt A p) .mask) eq)
 
-      module _ (held′ : List ℕ) (g : Gone tags mask r held held′) (f : (k : ℕ) → k < tags → mayGo? held mask r k ≡ true) where
+      module _ (held′ : List ℕ) (g : Assigned tags mask r held held′) (f : (k : ℕ) → k < tags → agrees? held mask r k ≡ true) where
         name : (k : ℕ) → k < tags → (b : Bool) → bit? mask k ≡ b → getD held′ k 0 ≡ cond b r (getD held k 0)
         name k m b e = g k m ∙ ap (λ (a : Bool). cond a r (getD held k 0)) e
 
         -- an earlier step keeps its row
         kept : (k : ℕ) → k < tags → (j : ℕ) → j < i → has j k ≡ true → (b : Bool) → bit? mask k ≡ b → getD held′ k 0 ≡ (stepAt run j) .row
-        unfolding mayGo?
+        unfolding agrees?
         kept k m j lj c true e =
-            let x = h .told k m j lj c in
+            let x = h .named k m j lj c in
             ⊎-elim
             (λ u. let z = t .rows j (omega arith) in absurd (omega arith))
             (λ u. name k m true e ∙ sym u ∙ x)
-            (may (bit? mask k) (getD held k 0) r (f k m) e)
-        kept k m j lj c false e = name k m false e ∙ h .told k m j lj c
+            (agreed (bit? mask k) (getD held k 0) r (f k m) e)
+        kept k m j lj c false e = name k m false e ∙ h .named k m j lj c
 
-        told-more : (k : ℕ) → k < tags → (j : ℕ) → j < i + 1 → has j k ≡ true → getD held′ k 0 ≡ (stepAt run j) .row
-        told-more k m j lj c =
+        named-more : (k : ℕ) → k < tags → (j : ℕ) → j < i + 1 → has j k ≡ true → getD held′ k 0 ≡ (stepAt run j) .row
+        named-more k m j lj c =
             ⊎-elim
             (λ e. name k m true (has-bit k ∙ subst (λ (q : ℕ). has q k ≡ true) e c) ∙ er ∙ ap (λ (q : ℕ). (stepAt run q) .row) (sym e))
             (λ lj′. kept k m j lj′ c (bit? mask k) refl)
@@ -157,23 +157,23 @@ module _ (A : Automaton) (run : List Step) where
             let (j, lj, c, ej) = h .from k m (λ q. u (name k m false e ∙ q)) in
             (j, omega arith, c, ej ∙ sym (name k m false e))
 
-      pub held-more : (held′ : List ℕ) (a : Bool) → a ≡ allBelow tags (mayGo? held mask r) → a ≡ true → Gone tags mask r held held′ → Held n tags held′ (i + 1)
+      pub held-more : (held′ : List ℕ) (a : Bool) → a ≡ allBelow tags (agrees? held mask r) → a ≡ true → Assigned tags mask r held held′ → Held n tags held′ (i + 1)
       held-more held′ a e y g =
-          let f : (k : ℕ) → k < tags → mayGo? held mask r k ≡ true = λ k m. at (mayGo? held mask r) tags k (sym e ∙ y) m in
+          let f : (k : ℕ) → k < tags → agrees? held mask r k ≡ true = λ k m. at (agrees? held mask r) tags k (sym e ∙ y) m in
           record {
             steps = h .steps;
             count = h .count;
             inside = omega arith;
-            told = told-more held′ g f;
+            named = named-more held′ g f;
             from = λ k m u. from-more held′ g f k m u (bit? mask k) refl;
           }
 
-      -- a tag that would go to a second row
-      pub two-rows : (a : Bool) → a ≡ allBelow tags (mayGo? held mask r) → a ≡ false → false ≡ oneRow? A run
-      unfolding mayGo?
+      -- a tag that a second row would be assigned to
+      pub two-rows : (a : Bool) → a ≡ allBelow tags (agrees? held mask r) → a ≡ false → false ≡ oneRow? A run
+      unfolding agrees?
       two-rows a e y =
-          let (k, m, x) = fails-at tags (mayGo? held mask r) (sym e ∙ y) in
-          let (b, (u, d)) = may-not (bit? mask k) (getD held k 0) r x in
+          let (k, m, x) = fails-at tags (agrees? held mask r) (sym e ∙ y) in
+          let (b, (u, d)) = not-agreed (bit? mask k) (getD held k 0) r x in
           let (j, lj, c, ej) = h .from k m u in
           let s = h .steps in let w = h .count in
           let ji : sameRow? A run k i j ≡ false = on-two (has i k) (has j k) ((stepAt run i) .row) ((stepAt run j) .row) (sym (has-bit k) ∙ b) c (λ o. d (sym ej ∙ sym o ∙ sym er)) in
@@ -188,6 +188,6 @@ module _ (A : Automaton) (run : List Step) where
         (λ k m. all-of (length run) (λ i. allBelow (length run) (λ j. sameRow? A run k i j))
         (λ x lx. all-of (length run) (sameRow? A run k x)
         (λ y ly. on-one (has x k) (has y k) ((stepAt run x) .row) ((stepAt run y) .row)
-        (λ cx cy. sym (h .told k (omega arith) x (omega arith) cx) ∙ h .told k (omega arith) y (omega arith) cy)))))
+        (λ cx cy. sym (h .named k (omega arith) x (omega arith) cx) ∙ h .named k (omega arith) y (omega arith) cy)))))
 
-pub ruleset tagging = (going-none, going-more, going-on, gone, held-none, held-more, two-rows, held-all, not-false, needs)
+pub ruleset tagging = (assigning-none, assigning-more, assigning-on, all-assigned, held-none, held-more, two-rows, held-all, not-false, needs)

@@ -5,10 +5,10 @@ use mathlib.Core.Bool.{Bool, true, _&&_}
 use Prim.Native.Nat.{ℕ, _-_, _/_, _%_, _<_, _≤_}
 use native.Mathlib.Omega.{arith}
 use borrow.Author.Needs.{needs}
-use borrow.Author.Tests.{leb-true, ltb-true}
+use borrow.Author.Tests.{leb-true}
 use mir.Syntax.{w16}
 use mir.Val.{Fits}
-use lib.Dec.{eqb, leb, ltb}
+use lib.Dec.{eqb, leb}
 use lib.ListN.{length}
 use Rattle.model.specs.Limits.{maxSteps}
 use Rattle.model.specs.Lists.{allBelow}
@@ -25,6 +25,7 @@ use Rattle.runs.specs.Steps.{stepCells, decodeSteps}
 use Rattle.runs.specs.Check.{counted?}
 use Rattle.runs.specs.Passes.{Counted, Known, Ready, Tagged}
 use Rattle.runs.proofs.Sound.{sound-set, sound-rows}
+use Rattle.runs.proofs.Fit.{row-known}
 
 -- a run that passed 21 has few steps
 module _ (run : List ℕ) (f : Bool) (n : ℕ) (e : f ≡ counted? run) (y : f ≡ true) (m : n ≡ length (decodeSteps run)) where
@@ -42,18 +43,13 @@ module _ (set doc run : List ℕ) (n : ℕ) (h : Ready set doc run n) where
   pub ready-known : (i : ℕ) → i < n → Known set doc run i
   ready-known i l = record { sound = h .sound; known = at (known? (decode set) (decodeRows doc) (decodeSteps run)) n i (h .known) l }
 
-  row-known : (i : ℕ) → i < n → (stepAt (decodeSteps run) i) .row < length (decodeRows doc)
-  row-known i l =
-      ltb-true ((stepAt (decodeSteps run) i) .row) (length (decodeRows doc))
-      (true-and (ltb ((stepAt (decodeSteps run) i) .rule) (length ((decode set) .rules))) (ltb ((stepAt (decodeSteps run) i) .row) (length (decodeRows doc))) (ready-known i l .known) .1)
-
   ready-tagged : Tagged (decode set) (decodeSteps run) n
   ready-tagged =
       let few = sound-rows set doc (h .sound) .few-rows in
       record {
         steps = h .counted .steps;
         few = let t = sound-set set doc (h .sound) .few-tags in omega arith;
-        rows = λ i l. let r = row-known i l in omega arith;
+        rows = λ i l. let r = row-known set doc run i (ready-known i l) in omega arith;
       }
 
   pub some-rows : (m : ℕ) → m ≡ length doc / rowCells → 1 ≤ m

@@ -5,7 +5,7 @@ use mathlib.Core.Bool.{Bool, true, _||_, not, cond}
 use Prim.Native.Nat.{ℕ, _<_, _≤_}
 use lib.Dec.{eqb}
 use lib.ListN.{length, getD}
-use Rattle.model.specs.Limits.{maxSteps, unused}
+use Rattle.model.specs.Limits.{maxTags, maxSteps, unused}
 use Rattle.model.specs.Lists.{allBelow}
 use Rattle.model.specs.Automaton.{Automaton, bit?}
 use Rattle.model.specs.Written.{Step, stepAt}
@@ -15,7 +15,7 @@ use Rattle.document.specs.Rows.{decodeRows}
 use Rattle.document.specs.Check.{documentCheckOf}
 use Rattle.runs.specs.Steps.{decodeSteps}
 
--- n is the number of steps, and 21 does not turn them away for it
+-- n is the number of steps, and 21 does not refuse them for it
 pub record Counted (run : List Step) (n : ℕ) : Type 0 where
   pub steps : n ≡ length run
   pub some : 0 < n
@@ -32,20 +32,16 @@ pub record Ready (set rows run : List ℕ) (n : ℕ) : Type 0 where
   pub counted : Counted (decodeSteps run) n
   pub known : allBelow n (known? (decode set) (decodeRows rows) (decodeSteps run)) ≡ true
 
--- the places of tags: how many a pass has
-abbrev pub tagPlaces : ℕ
-tagPlaces = 16
-
--- the tags have places, and each of the n steps has a row
+-- each tag has a place, and each of the n steps has a row
 pub record Tagged (A : Automaton) (run : List Step) (n : ℕ) : Type 0 where
   pub steps : n ≡ length run
-  pub few : A .tags ≤ tagPlaces
+  pub few : A .tags ≤ maxTags
   pub rows : (i : ℕ) → i < n → (stepAt run i) .row < unused
 
--- tag k, if the mask has it, may go to row i: its place names no row yet, or this one
-unfoldable pub mayGo? : List ℕ → ℕ → ℕ → ℕ → Bool
-mayGo? held mask i k = not (bit? mask k) || (eqb (getD held k 0) unused || eqb (getD held k 0) i)
+-- tag k, if the mask has it, agrees with row i: its place names no row yet, or this one
+unfoldable pub agrees? : List ℕ → ℕ → ℕ → ℕ → Bool
+agrees? held mask i k = not (bit? mask k) || (eqb (getD held k 0) unused || eqb (getD held k 0) i)
 
--- after the tags below n that the mask has went to row i
-abbrev pub Gone : ℕ → ℕ → ℕ → List ℕ → List ℕ → Type 0
-Gone n mask i before after = (k : ℕ) → k < n → getD after k 0 ≡ cond (bit? mask k) i (getD before k 0)
+-- after the tags below n that the mask has were assigned to row i
+abbrev pub Assigned : ℕ → ℕ → ℕ → List ℕ → List ℕ → Type 0
+Assigned n mask i before after = (k : ℕ) → k < n → getD after k 0 ≡ cond (bit? mask k) i (getD before k 0)

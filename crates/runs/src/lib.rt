@@ -1,7 +1,8 @@
 // The written run: its steps, lent as cells, and its check.
 ghost use mathlib.Core.Path.{_≡_};
+ghost use Rattle.model.specs.Refusal.{unless};
 ghost use Rattle.automaton.specs.Stored.{decode};
-ghost use Rattle.automaton.specs.Answer.{refusalOf, checkedOf};
+ghost use Rattle.automaton.specs.Answer.{checkAnswer};
 ghost use Rattle.document.specs.Rows.{decodeRows};
 ghost use Rattle.document.specs.Check.{documentCheckOf};
 ghost use Rattle.runs.specs.Check.{runCheckOf, checkRunOf};
@@ -14,7 +15,7 @@ use automaton::Checked;
 // The tests of the run, in their order, where the set and the table are sound.
 fn tried(set: &[u8], rows: &[u16], run: &[u16]) -> Checked
     requires { ⌜ documentCheckOf (now set) (now rows) ≡ 0 ⌝ }
-    ensures { λ r. ⌜ (refusalOf r ≡ runCheckOf (decode (now (set .entry))) (decodeRows (now (rows .entry))) (now (run .entry))) × (r ≡ checkedOf (runCheckOf (decode (now (set .entry))) (decodeRows (now (rows .entry))) (now (run .entry)))) ⌝ }
+    ensures { λ r. ⌜ checkAnswer r ≡ unless (runCheckOf (decode (now (set .entry))) (decodeRows (now (rows .entry))) (now (run .entry))) tt ⌝ }
 {
     if !tests::counted(run) {
         return Checked::Refused(21);
@@ -35,15 +36,15 @@ fn tried(set: &[u8], rows: &[u16], run: &[u16]) -> Checked
     if !tests::all_used(run, n) {
         return Checked::Refused(26);
     }
-    Checked::Sound
+    Checked::Passed
 }
 
-// Whether the run shows that the set lets the document in: the number that turns the set, the table or the run away, in this order.
+// Whether the run shows that the set lets the document in; else the number that refuses the set, the table or the run, in this order.
 pub fn check(set: &[u8], rows: &[u16], run: &[u16]) -> Checked
-    ensures { λ r. ⌜ (refusalOf r ≡ checkRunOf (now (set .entry)) (now (rows .entry)) (now (run .entry))) × (r ≡ checkedOf (checkRunOf (now (set .entry)) (now (rows .entry)) (now (run .entry)))) ⌝ }
+    ensures { λ r. ⌜ checkAnswer r ≡ unless (checkRunOf (now (set .entry)) (now (rows .entry)) (now (run .entry))) tt ⌝ }
 {
     match document::check(set, rows) {
-        Checked::Sound => tried(set, rows, run),
+        Checked::Passed => tried(set, rows, run),
         Checked::Refused(n) => Checked::Refused(n),
     }
 }

@@ -1,34 +1,30 @@
 // Lent steps, by index: every function answers for every slice. A step past the last whole one has rule 0 and row 0.
 use automaton::State;
 use automaton::rule_target;
-use document::rows::MAX_CHILDREN;
-use document::rows::PLACES;
+use base::limits::MAX_CHILDREN;
+use base::limits::PLACES;
+use base::limits::UNUSED;
+use base::numbers::size;
+use base::space::put_cells;
 use document::rows::Row;
 use document::rows::Step;
-use document::rows::UNUSED;
 ghost use mathlib.Core.Path.{_≡_};
-ghost use Prim.Native.Nat.{_*_, _<_};
+ghost use Prim.Native.Nat.{_*_};
 ghost use lib.ListN.{length};
+ghost use Rattle.model.specs.Space.{putAt};
 ghost use Rattle.model.specs.Written.{stepAt, ruleOf};
 ghost use Rattle.automaton.specs.Stored.{decode};
-ghost use Rattle.automaton.specs.Encode.{putAt};
 ghost use Rattle.runs.specs.Steps.{stepCells, cellIn, placesIn, placeIn, decodeSteps};
-ghost use Rattle.runs.specs.Fields.{fieldCells};
+ghost use Rattle.runs.specs.Fields.{stepNumbers, fieldCells};
 
 // A step by value; an unused place holds UNUSED.
 pub struct StepFields {
     pub rule: u16,
     pub row: Row,
-    pub places: [u16; PLACES],
+    pub places: [Step; PLACES],
 }
 
 pub const STEP_CELLS: usize = 6;
-
-pub(crate) fn size(x: u16) -> usize
-    ensures { λ r. ⌜ (r ≡ x) × (r < 65536) ⌝ }
-{
-    x as usize
-}
 
 // As many steps as fit whole.
 pub fn count(run: &[u16]) -> usize
@@ -77,14 +73,14 @@ pub fn place(run: &[u16], i: Step, k: u16) -> Step
 }
 
 // The four places of step i.
-pub fn places(run: &[u16], i: Step) -> [u16; PLACES]
-    ensures { λ r. ⌜ r ≡ placesIn (now (run .entry)) (i .0) ⌝ }
+pub fn places(run: &[u16], i: Step) -> [Step; PLACES]
+    ensures { λ r. ⌜ stepNumbers r ≡ placesIn (now (run .entry)) (i .0) ⌝ }
 {
     [
-        cell(run, i, 2),
-        cell(run, i, 3),
-        cell(run, i, 4),
-        cell(run, i, 5),
+        Step(cell(run, i, 2)),
+        Step(cell(run, i, 3)),
+        Step(cell(run, i, 4)),
+        Step(cell(run, i, 5)),
     ]
 }
 
@@ -95,30 +91,19 @@ pub fn target(set: &[u8], run: &[u16], i: Step) -> State
     rule_target(set, rule(run, i))
 }
 
-// Makes the cells step i of the space; where they do not fit whole, nothing is written.
-fn put_cells(out: &mut [u16], i: Step, cells: [u16; STEP_CELLS])
-    ensures { λ r. ⌜ now (out .exit) ≡ putAt (now (out .entry)) (i .0 * stepCells) cells ⌝ }
-{
-    let at = size(i.0) * STEP_CELLS;
-    if out.len() < at + STEP_CELLS {
-        return;
-    }
-    let mut k = 0;
-    while k < STEP_CELLS {
-        out[at + k] = cells[k];
-        k += 1;
-    }
-}
-
-// The same with a step by value.
+// Makes it step i of the space; where its cells do not fit whole, nothing is written.
 pub fn put_step(out: &mut [u16], i: Step, f: StepFields)
     ensures { λ r. ⌜ now (out .exit) ≡ putAt (now (out .entry)) (i .0 * stepCells) (fieldCells f) ⌝ }
 {
     let row = f.row;
     let places = f.places;
-    put_cells(
-        out,
-        i,
-        [f.rule, row.0, places[0], places[1], places[2], places[3]],
-    );
+    let cells = [
+        f.rule,
+        row.0,
+        places[0].0,
+        places[1].0,
+        places[2].0,
+        places[3].0,
+    ];
+    put_cells(out, size(i.0) * STEP_CELLS, &cells);
 }

@@ -1,10 +1,8 @@
 // The sample program: reads a stored set, and prints the height and the text of the lowest document that it lets in, or that it is dead.
+use console::INPUT;
 use console::OUTPUT;
 use libc::STDIN_FILENO;
 use libc::STDOUT_FILENO;
-
-// One byte more than the most that is taken, so that a longer input is seen.
-const INPUT: usize = 32769;
 
 fn main() {
     let mut input = [0u8; INPUT];

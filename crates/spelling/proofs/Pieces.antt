@@ -7,8 +7,9 @@ use native.Mathlib.Omega.{arith}
 use borrow.Author.Needs.{needs}
 use borrow.Author.Tests.{lt-ltb, le-ltb}
 use lib.Dec.{T}
-use lib.ListN.{length, take, drop, set, length-append, length-set}
-use lib.Seq.{set-split, drop-at, length-take-le}
+use lib.ListN.{length, take, drop, set, length-append, length-drop, length-set}
+use lib.Seq.{set-split, drop-at, length-take-le, take-all}
+use Rattle.model.specs.Space.{putAt}
 use Rattle.model.specs.Table.{scalar?}
 use Rattle.model.proofs.Members.{T-true}
 use Rattle.names.specs.Names.{decimal}
@@ -16,11 +17,11 @@ use Rattle.document.specs.declared.scalar.Scalar.{Scalar}
 use Rattle.document.specs.declared.scalar.Scalar.the-variants.{Bare, Count, Name}
 use Rattle.document.specs.declared.scalar.Decoded.the-variants.{Is, Not}
 use Rattle.document.specs.Scalars.{kindOf, payloadOf, scalarAt, decodeScalar}
-use Rattle.document.specs.Put.{orBare}
+use Rattle.document.specs.Fields.{orBare}
 use Rattle.document.proofs.Scalars.{there-and-back}
 use Rattle.spelling.specs.declared.piece.Piece.{Piece}
 use Rattle.spelling.specs.Text.{hexDigit, hexDigits, scalarText}
-use Rattle.spelling.specs.Parts.{pieceBytes, Holds}
+use Rattle.spelling.specs.Parts.{pieceBytes, textOf, Holds}
 use Rattle.spelling.proofs.Decimal.{decimal-last, decimal-more, decimal-few, decimal-some}
 
 -- a byte more in front
@@ -80,9 +81,10 @@ module _ (n rest : ℕ) (p : Piece) (j : Digits n rest p) where
         joined-more (decimal (rest / 10)) (decimal n) p q b
         (subst (λ l. Joined l (decimal n) p) (decimal-more rest l ∙ ap (λ d. decimal (rest / 10) ++ d ∷ []) (sym e)) j) f
 
-    pub digits-all : n < 2 ^ 64 → rest < 10 → b ≡ 48 + rest → Holds q (decimal n) × (0 < q .start)
+    pub digits-all : n < 2 ^ 64 → rest < 10 → b ≡ 48 + rest % 10 → Holds q (decimal n) × (0 < q .start)
     digits-all m l e =
-        let h = joined-all (decimal n) q (joined-more [] (decimal n) p q b (subst (λ l. Joined l (decimal n) p) (decimal-last rest l ∙ ap (λ d. d ∷ []) (sym e)) j) f) in
+        let last : 48 + rest ≡ b = omega arith in
+        let h = joined-all (decimal n) q (joined-more [] (decimal n) p q b (subst (λ l. Joined l (decimal n) p) (decimal-last rest l ∙ ap (λ d. d ∷ []) last) j) f) in
         (h, omega (arith, h .size, decimal-few n m))
 
 -- hex digits
@@ -155,6 +157,16 @@ row-scalar k n s p t e h =
     let q : s ≡ scalarAt k n = e ∙ ap (λ b. orBare (cond b (Is (scalarAt k n)) Not)) is in
     let b = there-and-back k n t in
     subst (Holds p) (λ i. scalarText ((ap kindOf q ∙ b .kind) i) ((ap payloadOf q ∙ b .payload) i)) h
+
+-- a piece put at a place of a space: all of its bytes from its start on, which are the text that it holds
+module _ (d : List ℕ) (at : ℕ) (p : Piece) (after : List ℕ) where
+  pub piece-put : length (p .bytes) ≡ pieceBytes → p .start ≤ pieceBytes → after ≡ putAt d at (take (pieceBytes - p .start) (textOf p)) → (pieceBytes - p .start ≡ length (textOf p)) × (after ≡ putAt d at (textOf p))
+  piece-put long inside f =
+      let n = length-drop (p .start) (p .bytes) in
+      (omega arith, f ∙ ap (putAt d at) (take-all (pieceBytes - p .start) (textOf p) (omega arith)))
+
+  pub text-put : (text : List ℕ) (r : ℕ) → Holds p text → (r ≡ length (textOf p)) × (after ≡ putAt d at (textOf p)) → (r ≡ length text) × (after ≡ putAt d at text)
+  text-put text r h f = (f .0 ∙ ap length (h .is), f .1 ∙ ap (putAt d at) (h .is))
 
 -- room for a byte before the digits
 pub hex-start : (n : ℕ) (p : Piece) → Holds p (hexDigits 16 n) → (0 < p .start) × (p .start ≤ pieceBytes)

@@ -1,76 +1,47 @@
 -- One text put behind another: what the writers know between two calls. Assumes nothing.
 use mathlib.Core.Path.{_≡_, refl, sym, ap, subst, _∙_}
 use mathlib.Core.List.{List, [], _∷_, _++_, append-assoc, append-nil, List·Memᴰ as In, List·Memᴰ·head as here, List·Memᴰ·tail as there}
-use Prim.Native.Nat.{ℕ, _+_, _-_, _<_, _≤_}
+use Prim.Native.Nat.{ℕ, _+_, _<_, _≤_}
 use native.Mathlib.Numerals.{add-one}
 use native.Mathlib.Omega.{arith}
-use borrow.Author.Tests.{le-leb}
-use lib.ListN.{length, take, drop, set, length-append, length-drop, take-append-drop}
-use lib.Seq.{set-split, length-take-le, take-all, take-at, drop-at, drop-drop}
+use lib.ListN.{length, take, drop, set, length-append}
+use lib.Seq.{set-split, drop-drop}
 use Rattle.model.specs.Limits.{unused}
-use Rattle.names.specs.Table.{putAt}
+use Rattle.model.specs.Space.{putAt}
+use Rattle.model.proofs.Space.{put-fits, put-length, put-up-to, put-behind, put-none}
 use Rattle.document.specs.Rows.{rowIn}
 use Rattle.document.specs.Check.{rowCount, placeIn}
 use Rattle.document.proofs.Places.{restIn, rest-first, rest-more}
 use Rattle.spelling.specs.declared.piece.Piece.{Piece}
 use Rattle.spelling.specs.Text.{scalarText}
-use Rattle.spelling.specs.Rows.{Sound, rowText, listText}
-use Rattle.spelling.specs.Parts.{pieceBytes, Holds, Wrote}
+use Rattle.spelling.specs.Rows.{SoundCells, rowText, listText}
+use Rattle.spelling.specs.Parts.{textOf, Holds, Wrote}
+use Rattle.spelling.proofs.Pieces.{text-put}
 use Rattle.spelling.proofs.Texts.{no-children, some-children, below, behind, row-text, leaf-text, list-text}
 use Rattle.spelling.proofs.Summing.{place-in-use, rest-none}
-
-module _ (d : List ℕ) (at : ℕ) (a : List ℕ) (fits : at + length a ≤ length d) where
-  pub put-is : putAt d at a ≡ take at d ++ a ++ drop (at + length a) d
-  unfolding putAt
-  put-is = rw (le-leb _ _ fits)
-
-  head-length : length (take at d ++ a) ≡ at + length a
-  head-length = let k : at ≤ length d = omega arith in simp (length-append, length-take-le at d k)
-
-  pub put-long : length (putAt d at a) ≡ length d
-  put-long =
-      let x = head-length in
-      let y = length-drop (at + length a) d in
-      let u = length-append (take at d ++ a) (drop (at + length a) d) in
-      let w = ap length put-is in
-      omega arith
 
 -- b behind a is a ++ b
 put-more : (d : List ℕ) (at : ℕ) (a b : List ℕ) → at + length a + length b ≤ length d → putAt (putAt d at a) (at + length a) b ≡ putAt d at (a ++ b)
 put-more d at a b fits =
     let first : at + length a ≤ length d = omega arith in
     let n : at + length a + length b ≡ at + length (a ++ b) = let l = length-append a b in omega arith in
-    let m = put-is d at a first in
-    let t : take (at + length a) (putAt d at a) ≡ take at d ++ a = ap (take (at + length a)) m ∙ take-at (take at d ++ a) (drop (at + length a) d) (at + length a) (head-length d at a first) in
-    let e : drop (at + length a) (putAt d at a) ≡ drop (at + length a) d = ap (drop (at + length a)) m ∙ drop-at (take at d ++ a) (drop (at + length a) d) (at + length a) (head-length d at a first) in
-    let g : drop (at + length a + length b) (putAt d at a) ≡ drop (at + length (a ++ b)) d = sym (drop-drop (length b) (at + length a) (putAt d at a)) ∙ ap (drop (length b)) e ∙ drop-drop (length b) (at + length a) d ∙ ap (λ k. drop k d) n in
-    put-is (putAt d at a) (at + length a) b (rw (put-long d at a first) fits)
+    let t : take (at + length a) (putAt d at a) ≡ take at d ++ a = put-up-to d at a first in
+    let g : drop (at + length a + length b) (putAt d at a) ≡ drop (at + length (a ++ b)) d = sym (drop-drop (length b) (at + length a) (putAt d at a)) ∙ ap (drop (length b)) (put-behind d at a first) ∙ drop-drop (length b) (at + length a) d ∙ ap (λ k. drop k d) n in
+    put-fits (putAt d at a) (at + length a) b (rw (put-length d at a first) fits)
     ∙ (λ i. t i ++ b ++ g i)
     ∙ ap (λ l. l ++ drop (at + length (a ++ b)) d) (append-assoc (take at d) a b)
-    ∙ sym (put-is d at (a ++ b) (omega arith))
-
-put-none : (d : List ℕ) (at : ℕ) → at ≤ length d → putAt d at [] ≡ d
-put-none d at l = let z : at + 0 ≡ at = omega arith in put-is d at [] (omega arith) ∙ ap (λ k. take at d ++ [] ++ drop k d) z ∙ ap (λ l. l ++ drop at d) (append-nil (take at d)) ∙ take-append-drop at d
-
--- the front of a space
-pub put-front : (d a : List ℕ) → length a ≤ length d → putAt d 0 a ≡ a ++ drop (length a) d
-put-front d a l = let z : 0 + length a ≡ length a = omega arith in put-is d 0 a (omega arith) ∙ ap (λ k. a ++ drop k d) z
+    ∙ sym (put-fits d at (a ++ b) (omega arith))
 
 pub one-byte : (d : List ℕ) (at b : ℕ) → at < length d → Wrote d at (b ∷ []) (set d at b) (at + 1)
 one-byte d at b l =
     record {
       place = refl;
-      is = set-split d at b l ∙ ap (λ n. take at d ++ b ∷ drop n d) (sym (add-one at)) ∙ sym (append-assoc (take at d) (b ∷ []) (drop (at + 1) d)) ∙ sym (put-is d at (b ∷ []) (omega arith));
+      is = set-split d at b l ∙ ap (λ n. take at d ++ b ∷ drop n d) (sym (add-one at)) ∙ sym (append-assoc (take at d) (b ∷ []) (drop (at + 1) d)) ∙ sym (put-fits d at (b ∷ []) (omega arith));
     }
 
--- a piece, from where its text starts
-pub piece-wrote : (d : List ℕ) (at : ℕ) (p : Piece) (text after : List ℕ) → Holds p text → after ≡ putAt d at (take (pieceBytes - p .start) (drop (p .start) (p .bytes))) → Wrote d at text after (at + (pieceBytes - p .start))
-piece-wrote d at p text after h f =
-    let n = length-drop (p .start) (p .bytes) in
-    record {
-      place = omega (arith, h .size);
-      is = f ∙ ap (putAt d at) (take-all (pieceBytes - p .start) (drop (p .start) (p .bytes)) (omega (arith, h .long)) ∙ h .is);
-    }
+-- a piece's text
+pub piece-wrote : (d : List ℕ) (at : ℕ) (p : Piece) (after text : List ℕ) (r : ℕ) → Holds p text → (r ≡ length (textOf p)) × (after ≡ putAt d at (textOf p)) → Wrote d at text after (at + r)
+piece-wrote d at p after text r h f = let (count, is) = text-put d at p after text r h f in record { place = ap (λ n. at + n) count; is = is }
 
 -- what is done and what is left make the whole
 pub record Written (d : List ℕ) (at : ℕ) (whole rest : List ℕ) (p : ℕ) (now : List ℕ) : Type 0 where
@@ -95,7 +66,7 @@ module _ (d : List ℕ) (at : ℕ) (whole : List ℕ) where
     pub written-room : p + length a ≤ length now
     written-room =
         let l = so-long in
-        let e = ap length (w .is) ∙ put-long d at (w .done) (omega arith) in
+        let e = ap length (w .is) ∙ put-length d at (w .done) (omega arith) in
         omega (arith, w .place)
 
     pub written-more : (q : ℕ) (next : List ℕ) → Wrote now p a next q → Written d at whole rest q next
@@ -132,7 +103,7 @@ module _ (d : List ℕ) (at : ℕ) (a b whole : List ℕ) (e : whole ≡ a ++ b)
     both-wrote r new v = subst (λ t. Wrote d at t new r) (sym e) (written-all d at (a ++ b) r new (written-more d at (a ++ b) b [] p mid half r new v))
 
 -- a row's text: its name, then its scalar or its children
-module _ (name : ℕ → List ℕ) (cells : List ℕ) (s : Sound cells) (i : ℕ) (l : i < rowCount cells) (y : ℕ) (known : y ≡ (rowIn cells i) .symbol) (d : List ℕ) (at : ℕ) (fits : at + length (rowText name cells i) ≤ length d) where
+module _ (name : ℕ → List ℕ) (cells : List ℕ) (s : SoundCells cells) (i : ℕ) (l : i < rowCount cells) (y : ℕ) (known : y ≡ (rowIn cells i) .symbol) (d : List ℕ) (at : ℕ) (fits : at + length (rowText name cells i) ≤ length d) where
   named : (t : List ℕ) → rowText name cells i ≡ name ((rowIn cells i) .symbol) ++ t → rowText name cells i ≡ name y ++ t
   named t e = e ∙ ap (λ z. name z ++ t) (sym known)
 
@@ -175,7 +146,7 @@ module _ (text : ℕ → List ℕ) (cells : List ℕ) (i : ℕ) (d : List ℕ) (
   abbrev whole : List ℕ
   whole = listText text 40 ((rowIn cells i) .children)
 
-  pub list-none : Sound cells → i < rowCount cells → at + length (listText text 40 ((rowIn cells i) .children)) ≤ length d → Listing text cells i d at 40 0 at d
+  pub list-none : SoundCells cells → i < rowCount cells → at + length (listText text 40 ((rowIn cells i) .children)) ≤ length d → Listing text cells i d at 40 0 at d
   list-none s l fits = let e = rest-first cells i in record { written = subst (λ cs. Written d at whole (listText text 40 cs) at d) e (written-none d at whole fits); lower = subst (λ cs. (j : ℕ) → In j cs → j < i) e (below cells s i l) }
 
   module _ (lead k p : ℕ) (now : List ℕ) (h : Listing text cells i d at lead k p now) (x : ℕ) (e : x ≡ placeIn cells i k) where

@@ -18,7 +18,7 @@ use Rattle.spelling.specs.declared.lengths.Length.{Length}
 use Rattle.spelling.specs.declared.lengths.Length.the-variants.{Fits, Over}
 use Rattle.spelling.specs.declared.piece.Piece.{Piece}
 use Rattle.spelling.specs.Text.{scalarText}
-use Rattle.spelling.specs.Rows.{Sound, rowText, listLength, behindLength, rowLength, within}
+use Rattle.spelling.specs.Rows.{SoundCells, rowText, listLength, behindLength, rowLength, within}
 use Rattle.spelling.specs.Parts.{pieceBytes, Holds}
 use Rattle.spelling.proofs.Texts.{no-children, some-children, some-rows, few-rows, row-long, no-longer}
 
@@ -124,7 +124,7 @@ pub record Lengths (name : ℕ → List ℕ) (cells : List ℕ) (space : ℕ) (l
   pub so-far : (j : ℕ) → j < i → getD lengths j 0 ≡ length (rowText name cells j)
   pub fit : (j : ℕ) → j < i → length (rowText name cells j) ≤ space
 
-module _ (name : ℕ → List ℕ) (cells : List ℕ) (space : ℕ) (s : Sound cells) where
+module _ (name : ℕ → List ℕ) (cells : List ℕ) (space : ℕ) (s : SoundCells cells) where
   pub lengths-none : Lengths name cells space (replicate maxRows 0) 0
   lengths-none = record { long = length-replicate {A = ℕ} maxRows 0; so-far = λ j l. let z : ⊥ = omega arith in absurd z; fit = λ j l. let z : ⊥ = omega arith in absurd z }
 

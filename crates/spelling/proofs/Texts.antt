@@ -15,7 +15,7 @@ use Rattle.document.specs.Rows.{rowIn, decodeRows}
 use Rattle.document.specs.Check.{rowCount, placeIn}
 use Rattle.document.proofs.Places.{row-at, rows-length, restIn, rest-first, rest-stop, rest-more}
 use Rattle.spelling.specs.Text.{scalarText, termText, behindText, restText}
-use Rattle.spelling.specs.Rows.{Sound, rowText, listText, listLength, behindLength, rowLength}
+use Rattle.spelling.specs.Rows.{SoundCells, rowText, listText, listLength, behindLength, rowLength}
 
 -- the children of a node, by their texts
 module _ (name : ℕ → List ℕ) (f : ℕ → Tree) where
@@ -36,7 +36,7 @@ module _ (cells : List ℕ) (i x : ℕ) (e : x ≡ placeIn cells i 0) where
   pub some-children : (x ≡ unused → ⊥) → (rowIn cells i) .children ≡ x ∷ restIn cells i 1
   some-children u = rest-first cells i ∙ rest-more cells i 0 x (omega arith) e u
 
-module _ (cells : List ℕ) (s : Sound cells) where
+module _ (cells : List ℕ) (s : SoundCells cells) where
   pub inside : (i : ℕ) → i < rowCount cells → i < length (decodeRows cells)
   inside i l = rw (rows-length cells) l
 
@@ -90,7 +90,7 @@ unfolding listText
 list-part text b c (d ∷ cs) (here e) = let a = length-append (text d) (listText text 44 cs) in let q = ap (λ x. length (text x)) e in omega arith
 list-part text b c (d ∷ cs) (there m) = let a = length-append (text d) (listText text 44 cs) in let r = list-part text 44 c cs m in omega arith
 
-module _ (cells : List ℕ) (s : Sound cells) (name : ℕ → List ℕ) where
+module _ (cells : List ℕ) (s : SoundCells cells) (name : ℕ → List ℕ) where
   -- the length of a row by those of lower rows
   pub row-long : (lengths : List ℕ) (i : ℕ) → i < rowCount cells → ((j : ℕ) → j < i → getD lengths j 0 ≡ length (rowText name cells j)) → rowLength name lengths cells i ≡ length (rowText name cells i)
   unfolding rowLength

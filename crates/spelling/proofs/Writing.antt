@@ -6,25 +6,26 @@ use native.Mathlib.Omega.{arith}
 use borrow.Author.Tests.{le-leb, lt-leb}
 use lib.ListN.{length}
 use Rattle.model.specs.Limits.{maxSymbols}
-use Rattle.model.specs.Refusal.{andAfter}
+use Rattle.model.specs.Refusal.{andAfter, Answer, gives, refuses, unless, answerMap}
 use Rattle.model.specs.Tree.{Tree, Forest, node, fnil, fcons}
 use Rattle.model.specs.Automaton.{Automaton}
 use Rattle.model.specs.Table.{treeAt, treeOf, SoundTable}
 use Rattle.model.specs.Fit.{FitTree, FitForest}
+use Rattle.model.proofs.Space.{put-front}
 use Rattle.model.proofs.BuiltTable.{fit-tree}
 use Rattle.automaton.specs.declared.Checked.{Checked}
-use Rattle.automaton.specs.declared.Checked.the-variants.{Sound as Passed, Refused as Stopped}
+use Rattle.automaton.specs.declared.Checked.the-variants.{Passed, Refused as Stopped}
 use Rattle.automaton.specs.Stored.{decode}
 use Rattle.automaton.specs.Check.{checkOf}
-use Rattle.automaton.specs.Answer.{checkedOf}
+use Rattle.automaton.specs.Answer.{checkAnswer}
 use Rattle.automaton.proofs.Sound.{sound-decode}
-use Rattle.automaton.proofs.Verdict.{sound-zero}
+use Rattle.automaton.proofs.Verdict.{checkedOf, answer-is, passed-zero}
 use Rattle.names.specs.declared.NamesChecked.{NamesChecked}
 use Rattle.names.specs.declared.NamesChecked.the-variants.{Distinct, Refused as Unfit}
 use Rattle.names.specs.Names.{shownName}
 use Rattle.names.specs.Table.{nameIn, cellBytes, tableOf}
 use Rattle.names.specs.Check.{namesCheckOf, namesAnswer}
-use Rattle.names.proofs.Checked.{distinct-zero}
+use Rattle.names.proofs.Checked.{namesOf, answer-is as names-is, distinct-zero}
 use Rattle.names.proofs.Shown.{table-shows}
 use Rattle.document.specs.Rows.{decodeRows}
 use Rattle.document.specs.Check.{rowCount, tableCheckOf, documentCheckOf}
@@ -35,12 +36,11 @@ use Rattle.spelling.specs.declared.lengths.Length.the-variants.{Fits, Ov
 use Rattle.spelling.specs.declared.TermWritten.{TermWritten}
 use Rattle.spelling.specs.declared.TermWritten.the-variants.{Bytes, Refused}
 use Rattle.spelling.specs.Text.{scalarText, termText, behindText, restText}
-use Rattle.spelling.specs.Rows.{Sound, rowText, within}
+use Rattle.spelling.specs.Rows.{SoundCells, rowText, within}
 use Rattle.spelling.specs.Parts.{Wrote}
-use Rattle.spelling.specs.Write.{Writing, turnedAway, fitted, unlessRefused, tableText, writeOf, answerOf, spaceAfter, Answers}
+use Rattle.spelling.specs.Write.{fitted, unlessRefused, tableText, writeOf, writeAnswer, spaceAfter, Answers}
 use Rattle.spelling.proofs.Texts.{some-rows}
 use Rattle.spelling.proofs.Summing.{is-over, is-fits}
-use Rattle.spelling.proofs.Putting.{put-front}
 
 -- the length decides
 module _ (space : ℕ) (text : List ℕ) (r : Length) (e : r ≡ within space (length text)) where
@@ -56,10 +56,10 @@ module _ (space : ℕ) (text : List ℕ) (r : Length) (e : r ≡ within space (l
   all-written m f before after n q w =
       let l = short-enough m f in
       let z : n ≡ length text = omega (arith, w .place) in
-      rw (le-leb _ _ l) (record { answer = ap Bytes z; space = w .is ∙ put-front before text (omega arith) })
+      rw (le-leb _ _ l) (record { answer = ap gives z; space = w .is ∙ put-front before text (omega arith) })
 
 -- the last row, by the number of rows
-module _ (cells : List ℕ) (s : Sound cells) (n : ℕ) (e : n ≡ rowCount cells) where
+module _ (cells : List ℕ) (s : SoundCells cells) (n : ℕ) (e : n ≡ rowCount cells) where
   pub last-inside : n - 1 < rowCount cells
   last-inside = omega (arith, some-rows cells s)
 
@@ -89,72 +89,78 @@ module _ (A : Automaton) (f g : ℕ → List ℕ) (same : (s : ℕ) → s < leng
     rest-same (fcons t ts) h = λ i. 44 ∷ term-same t (h .0) i ++ rest-same ts (h .1) i
 
 -- a number that is refused, and one that is not
-stops : (a : Checked) (n m : ℕ) (w : Writing) → a ≡ checkedOf n → a ≡ Stopped m → unlessRefused n w ≡ turnedAway m
-stops a zero m w e h = let z : _≡_ {A = ℕ} 0 1 = cc in absurd (omega arith)
-stops a (suc n) m w e h = cc
+stops : (a : Checked) (n m : ℕ) (w : Answer (List ℕ)) → checkAnswer a ≡ unless n tt → a ≡ Stopped m → unlessRefused n w ≡ refuses m
+stops a n m w e h = go n (answer-is a n e)
+  where
+    go : (k : ℕ) → a ≡ checkedOf k → unlessRefused k w ≡ refuses m
+    go zero f = let z : _≡_ {A = ℕ} 0 1 = cc in absurd (omega arith)
+    go (suc k) f = cc
 
-names-stop : (a : NamesChecked) (n m : ℕ) (w : Writing) → a ≡ namesAnswer n → a ≡ Unfit m → unlessRefused n w ≡ turnedAway m
-names-stop a zero m w e h = let z : _≡_ {A = ℕ} 0 1 = cc in absurd (omega arith)
-names-stop a (suc n) m w e h = cc
+names-stop : (a : NamesChecked) (n m : ℕ) (w : Answer (List ℕ)) → namesAnswer a ≡ unless n tt → a ≡ Unfit m → unlessRefused n w ≡ refuses m
+names-stop a n m w e h = go n (names-is a n e)
+  where
+    go : (k : ℕ) → a ≡ namesOf k → unlessRefused k w ≡ refuses m
+    go zero f = let z : _≡_ {A = ℕ} 0 1 = cc in absurd (omega arith)
+    go (suc k) f = cc
 
-goes-on : (n : ℕ) (w : Writing) → n ≡ 0 → unlessRefused n w ≡ w
+goes-on : (n : ℕ) (w : Answer (List ℕ)) → n ≡ 0 → unlessRefused n w ≡ w
 goes-on n w e = rw e
 
 -- an answer by what is to be written
-pub answers : (w v : Writing) (r : TermWritten) (before after : List ℕ) → w ≡ v → Answers v r before after → (r ≡ answerOf w) × (after ≡ spaceAfter w before)
-answers w v r before after e h = (h .answer ∙ ap answerOf (sym e), h .space ∙ ap (λ x. spaceAfter x before) (sym e))
+pub answers : (w v : Answer (List ℕ)) (r : TermWritten) (before after : List ℕ) → w ≡ v → Answers v r before after → (writeAnswer r ≡ answerMap length w) × (after ≡ spaceAfter w before)
+answers w v r before after e h = (h .answer ∙ ap (answerMap length) (sym e), h .space ∙ ap (λ x. spaceAfter x before) (sym e))
 
-pub refuses : (w : Writing) (n : ℕ) (before : List ℕ) → w ≡ turnedAway n → (Refused n ≡ answerOf w) × (before ≡ spaceAfter w before)
-refuses w n before e = answers w (turnedAway n) (Refused n) before before e (record { answer = refl; space = refl })
+pub refused-answers : (w : Answer (List ℕ)) (n : ℕ) (before : List ℕ) → w ≡ refuses n → (writeAnswer (Refused n) ≡ answerMap length w) × (before ≡ spaceAfter w before)
+refused-answers w n before e = answers w (refuses n) (Refused n) before before e (record { answer = refl; space = refl })
 
-module _ (set site builtIn cells : List ℕ) (space : ℕ) (a : Checked) (ea : a ≡ checkedOf (checkOf set)) where
-  abbrev tableOn : Writing
+module _ (set site builtIn cells : List ℕ) (space : ℕ) (a : Checked) (ea : checkAnswer a ≡ unless (checkOf set) tt) where
+  abbrev tableOn : Answer (List ℕ)
   tableOn = unlessRefused (tableCheckOf (decode set) cells) (fitted space (tableText site builtIn cells))
 
-  abbrev namesOn : Writing
+  abbrev namesOn : Answer (List ℕ)
   namesOn = unlessRefused (namesCheckOf (length ((decode set) .arities)) site builtIn) tableOn
 
-  pub set-refused : (n : ℕ) → a ≡ Stopped n → writeOf set site builtIn cells space ≡ turnedAway n
+  pub set-refused : (n : ℕ) → a ≡ Stopped n → writeOf set site builtIn cells space ≡ refuses n
   unfolding writeOf
   set-refused n h = stops a (checkOf set) n namesOn ea h
 
-  module _ (pa : a ≡ Passed) (symbols : ℕ) (es : symbols ≡ length ((decode set) .arities)) (b : NamesChecked) (eb : b ≡ namesAnswer (namesCheckOf symbols site builtIn)) where
+  module _ (pa : a ≡ Passed) (symbols : ℕ) (es : symbols ≡ length ((decode set) .arities)) (b : NamesChecked) (eb : namesAnswer b ≡ unless (namesCheckOf symbols site builtIn) tt) where
     set-passed : checkOf set ≡ 0
-    set-passed = sound-zero a (checkOf set) ea pa
+    set-passed = passed-zero a (checkOf set) ea pa
 
-    by-names : b ≡ namesAnswer (namesCheckOf (length ((decode set) .arities)) site builtIn)
-    by-names = eb ∙ ap (λ n. namesAnswer (namesCheckOf n site builtIn)) es
+    by-names : namesAnswer b ≡ unless (namesCheckOf (length ((decode set) .arities)) site builtIn) tt
+    by-names = eb ∙ ap (λ n. unless (namesCheckOf n site builtIn) tt) es
 
     on-names : writeOf set site builtIn cells space ≡ namesOn
     unfolding writeOf
     on-names = goes-on (checkOf set) namesOn set-passed
 
-    pub names-refused : (n : ℕ) → b ≡ Unfit n → writeOf set site builtIn cells space ≡ turnedAway n
+    pub names-refused : (n : ℕ) → b ≡ Unfit n → writeOf set site builtIn cells space ≡ refuses n
     names-refused n h = on-names ∙ names-stop b (namesCheckOf (length ((decode set) .arities)) site builtIn) n tableOn by-names h
 
-    module _ (pb : b ≡ Distinct) (d : Checked) (ed : d ≡ checkedOf (documentCheckOf set cells)) where
+    module _ (pb : b ≡ Distinct) (d : Checked) (ed : checkAnswer d ≡ unless (documentCheckOf set cells) tt) where
       names-passed : namesCheckOf (length ((decode set) .arities)) site builtIn ≡ 0
       names-passed = distinct-zero b (namesCheckOf (length ((decode set) .arities)) site builtIn) by-names pb
 
       on-table : writeOf set site builtIn cells space ≡ tableOn
       on-table = on-names ∙ goes-on (namesCheckOf (length ((decode set) .arities)) site builtIn) tableOn names-passed
 
-      by-table : d ≡ checkedOf (tableCheckOf (decode set) cells)
+      by-table : checkAnswer d ≡ unless (tableCheckOf (decode set) cells) tt
       unfolding andAfter
-      by-table = ed ∙ ap (λ n. checkedOf (andAfter n (tableCheckOf (decode set) cells))) set-passed
+      by-table = ed ∙ ap (λ n. unless (andAfter n (tableCheckOf (decode set) cells)) tt) set-passed
 
-      pub table-refused : (n : ℕ) → d ≡ Stopped n → writeOf set site builtIn cells space ≡ turnedAway n
+      pub table-refused : (n : ℕ) → d ≡ Stopped n → writeOf set site builtIn cells space ≡ refuses n
       table-refused n h = on-table ∙ stops d (tableCheckOf (decode set) cells) n (fitted space (tableText site builtIn cells)) by-table h
 
       module _ (pd : d ≡ Passed) where
         table-sound : SoundTable (decode set) (decodeRows cells)
-        table-sound = sound-document set cells (sound-zero d (documentCheckOf set cells) ed pd) .1
+        table-sound = sound-document set cells (passed-zero d (documentCheckOf set cells) ed pd) .1
 
-        pub sound : Sound cells
+        pub sound : SoundCells cells
         sound = record { set = decode set; table = table-sound }
 
         on-text : writeOf set site builtIn cells space ≡ fitted space (tableText site builtIn cells)
-        on-text = on-table ∙ goes-on (tableCheckOf (decode set) cells) (fitted space (tableText site builtIn cells)) (sound-zero d (tableCheckOf (decode set) cells) by-table pd)
+        on-text = on-table ∙ goes-on (tableCheckOf (decode set) cells) (fitted space (tableText site builtIn cells)) (passed-zero d (tableCheckOf (decode set) cells) by-table pd)
 
         -- the last row's text by a filled table is that of the tree by the names shown
         as-shown : (zeros : List ℕ) → maxSymbols * cellBytes ≤ length zeros → rowText (nameIn (tableOf site builtIn zeros)) cells (rowCount cells - 1) ≡ tableText site builtIn cells
@@ -167,7 +173,7 @@ module _ (set site builtIn cells : List ℕ) (space : ℕ) (a : Checked) (ea : a
 
         pub text-answers : (zeros table : List ℕ) (r : TermWritten) (before after : List ℕ) → maxSymbols * cellBytes ≤ length zeros → table ≡ tableOf site builtIn zeros
             → Answers (fitted space (rowText (nameIn table) cells (rowCount cells - 1))) r before after
-            → (r ≡ answerOf (writeOf set site builtIn cells space)) × (after ≡ spaceAfter (writeOf set site builtIn cells space) before)
+            → (writeAnswer r ≡ answerMap length (writeOf set site builtIn cells space)) × (after ≡ spaceAfter (writeOf set site builtIn cells space) before)
         text-answers zeros table r before after room e h =
             answers (writeOf set site builtIn cells space) (fitted space (rowText (nameIn table) cells (rowCount cells - 1))) r before after
             (on-text ∙ ap (fitted space) (sym (as-shown zeros room)) ∙ ap (λ t. fitted space (rowText (nameIn t) cells (rowCount cells - 1))) (sym e)) h

@@ -2,3 +2,4 @@ pub mod Text
 pub mod Rows
 pub mod Parts
 pub mod Write
+pub mod RoundTrip

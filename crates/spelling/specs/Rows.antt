@@ -12,7 +12,7 @@ use Rattle.spelling.specs.declared.lengths.Length.{Length}
 use Rattle.spelling.specs.declared.lengths.Length.the-variants.{Fits, Over}
 
 -- the cells are a sound table of some set
-pub record Sound (cells : List ℕ) : Type 0 where
+pub record SoundCells (cells : List ℕ) : Type 0 where
   pub set : Automaton
   pub table : SoundTable set (decodeRows cells)
 

@@ -1,9 +1,9 @@
 // How long a table's text is: each row's length once, from those of its children, which are lower.
 use crate::piece::PIECE;
 use crate::piece::scalar_at;
-use document::rows::MAX_ROWS;
+use base::limits::MAX_ROWS;
+use base::limits::UNUSED;
 use document::rows::Row;
-use document::rows::UNUSED;
 use document::rows::count;
 use document::rows::place;
 use document::rows::symbol;
@@ -16,7 +16,9 @@ ghost use Rattle.model.specs.Table.{scalar?};
 ghost use Rattle.names.specs.Table.{nameIn};
 ghost use Rattle.document.specs.Rows.{rowIn};
 ghost use Rattle.document.specs.Check.{rowCount};
-ghost use Rattle.spelling.specs.Rows.{Sound, rowText, listLength, rowLength, within};
+ghost use Rattle.spelling.specs.Rows.{SoundCells, rowText, listLength, rowLength, within};
+
+const ROWS: usize = MAX_ROWS as usize;
 
 // A length, where it is at most that of the space.
 pub(crate) enum Length {
@@ -84,10 +86,10 @@ fn row_length(rows: &[u16], names: &[u8], lengths: &[usize], i: Row, space: usiz
 
 // The last row's text. A row that is longer than the space makes the last one so too, since each other row is part of it.
 pub(crate) fn text_length(rows: &[u16], names: &[u8], space: usize) -> Length
-    requires { ⌜ Sound (now rows) ⌝ }
+    requires { ⌜ SoundCells (now rows) ⌝ }
     ensures { λ r. ⌜ r ≡ within space (length (rowText (nameIn (now (names .entry))) (now (rows .entry)) (rowCount (now (rows .entry)) - 1))) ⌝ }
 {
-    let mut lengths = [0usize; MAX_ROWS];
+    let mut lengths = [0usize; ROWS];
     let n = count(rows);
     let mut i = 0;
     while i < n {

@@ -1,19 +1,23 @@
-// The text of a scalar, made from its last byte to its first.
+// The text of a scalar, made from its last byte to its first, and put into a space.
+use base::numbers::digit;
+use base::space::put;
 use document::Scalar;
 use document::rows::Row;
 use document::rows::fields_at;
 use document::scalar::bits_of;
 ghost use mathlib.Core.Path.{_≡_};
 ghost use mathlib.Core.List.{List, [], _∷_};
-ghost use Prim.Native.Nat.{ℕ, _+_, _<_, _≤_};
+ghost use Prim.Native.Nat.{ℕ, _<_, _≤_};
 ghost use lib.Dec.{T};
+ghost use lib.ListN.{length};
+ghost use Rattle.model.specs.Space.{putAt};
 ghost use Rattle.model.specs.Table.{scalar?};
 ghost use Rattle.names.specs.Names.{decimal};
 ghost use Rattle.document.specs.Rows.{rowIn};
 ghost use Rattle.document.specs.Scalars.{kindOf, payloadOf};
 ghost use Rattle.document.specs.declared.scalar.Scalar.the-variants.{Flag};
 ghost use Rattle.spelling.specs.Text.{hexDigit, hexDigits, scalarText};
-ghost use Rattle.spelling.specs.Parts.{pieceBytes, Holds};
+ghost use Rattle.spelling.specs.Parts.{pieceBytes, textOf, Holds};
 
 // The most bytes of a scalar.
 pub(crate) const PIECE: usize = 21;
@@ -21,9 +25,9 @@ pub(crate) const PIECE: usize = 21;
 const HEX_DIGITS: usize = 16;
 
 // The text stands from `start` to the end of the bytes.
-pub struct Piece {
-    pub bytes: [u8; PIECE],
-    pub start: usize,
+pub(crate) struct Piece {
+    pub(crate) bytes: [u8; PIECE],
+    pub(crate) start: usize,
 }
 
 fn nothing() -> Piece
@@ -46,14 +50,6 @@ fn before(b: u8, p: Piece) -> Piece
     Piece { bytes, start }
 }
 
-// The digit of a number below ten.
-fn digit(n: u64) -> u8
-    requires { ⌜ n < 10 ⌝ }
-    ensures { λ r. ⌜ r ≡ 48 + n ⌝ }
-{
-    b'0' + n as u8
-}
-
 // The hex digit of a number below sixteen.
 fn hex_digit(n: u64) -> u8
     requires { ⌜ n < 16 ⌝ }
@@ -66,13 +62,13 @@ fn hex_digit(n: u64) -> u8
 }
 
 // A number in decimal, which leaves room for a byte before it.
-pub fn decimal_of(n: u64) -> Piece
+pub(crate) fn decimal_of(n: u64) -> Piece
     ensures { λ r. ⌜ Holds r (decimal n) × (0 < r .start) ⌝ }
 {
     let mut rest = n;
     let mut p = nothing();
     while rest >= 10 {
-        p = before(digit(rest % 10), p);
+        p = before(digit(rest), p);
         rest = rest / 10;
     }
     before(digit(rest), p)
@@ -130,4 +126,16 @@ pub(crate) fn scalar_at(rows: &[u16], i: Row) -> Piece
     let f = fields_at(rows, i);
     let s = f.scalar;
     scalar_text(s)
+}
+
+// The text of a piece, put at a place of a space, where it fits whole; its length comes back.
+pub(crate) fn put_piece(out: &mut [u8], at: usize, p: Piece) -> usize
+    requires { ⌜ p .start ≤ pieceBytes ⌝ }
+    ensures count { λ r. ⌜ r ≡ length (textOf p) ⌝ }
+    ensures space { λ r. ⌜ now (out .exit) ≡ putAt (now (out .entry)) at (textOf p) ⌝ }
+{
+    let bytes = p.bytes;
+    let start = p.start;
+    put(out, at, &bytes[start..]);
+    PIECE - start
 }

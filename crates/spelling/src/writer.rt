@@ -1,11 +1,10 @@
 // Terms and argument lists: the two writers call each other, row numbers falling; siblings are a loop.
-use crate::piece::PIECE;
+use crate::piece::put_piece;
 use crate::piece::scalar_at;
+use base::limits::UNUSED;
 use document::rows::Row;
-use document::rows::UNUSED;
 use document::rows::place;
 use document::rows::symbol;
-use names::bytes::put;
 use names::table::put_name;
 use names::table::shown_length;
 ghost use mathlib.Core.List.{[], _∷_};
@@ -17,7 +16,7 @@ ghost use Rattle.names.specs.Table.{nameIn};
 ghost use Rattle.document.specs.Rows.{rowIn};
 ghost use Rattle.document.specs.Check.{rowCount};
 ghost use Rattle.spelling.specs.Text.{scalarText};
-ghost use Rattle.spelling.specs.Rows.{Sound, rowText, listText};
+ghost use Rattle.spelling.specs.Rows.{SoundCells, rowText, listText};
 ghost use Rattle.spelling.specs.Parts.{Wrote};
 
 fn byte(out: &mut [u8], at: usize, b: u8) -> usize
@@ -43,15 +42,12 @@ fn scalar(rows: &[u16], i: Row, out: &mut [u8], at: usize) -> usize
     ensures { λ r. ⌜ Wrote (now (out .entry)) at (scalarText ((rowIn (now (rows .entry)) (i .0)) .kind) ((rowIn (now (rows .entry)) (i .0)) .payload)) (now (out .exit)) r ⌝ }
 {
     let p = scalar_at(rows, i);
-    let bytes = p.bytes;
-    let start = p.start;
-    put(out, at, &bytes[start..]);
-    at + (PIECE - start)
+    at + put_piece(out, at, p)
 }
 
 // The text of row i at a place of a space, where it fits.
 pub(crate) fn term(rows: &[u16], names: &[u8], i: Row, out: &mut [u8], at: usize) -> usize
-    requires sound { ⌜ Sound (now rows) ⌝ }
+    requires sound { ⌜ SoundCells (now rows) ⌝ }
     requires inside { ⌜ i .0 < rowCount (now rows) ⌝ }
     requires fits { ⌜ at + length (rowText (nameIn (now names)) (now rows) (i .0)) ≤ length (now out) ⌝ }
     ensures { λ r. ⌜ Wrote (now (out .entry)) at (rowText (nameIn (now (names .entry))) (now (rows .entry)) (i .0)) (now (out .exit)) r ⌝ }
@@ -66,7 +62,7 @@ pub(crate) fn term(rows: &[u16], names: &[u8], i: Row, out: &mut [u8], at: usize
 
 // The children of row i in brackets: one turn of the loop for each.
 fn arguments(rows: &[u16], names: &[u8], i: Row, out: &mut [u8], at: usize) -> usize
-    requires sound { ⌜ Sound (now rows) ⌝ }
+    requires sound { ⌜ SoundCells (now rows) ⌝ }
     requires inside { ⌜ i .0 < rowCount (now rows) ⌝ }
     requires fits { ⌜ at + length (listText (rowText (nameIn (now names)) (now rows)) 40 ((rowIn (now rows) (i .0)) .children)) ≤ length (now out) ⌝ }
     ensures { λ r. ⌜ Wrote (now (out .entry)) at (listText (rowText (nameIn (now (names .entry))) (now (rows .entry))) 40 ((rowIn (now (rows .entry)) (i .0)) .children)) (now (out .exit)) r ⌝ }

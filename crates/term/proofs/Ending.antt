@@ -11,8 +11,10 @@ use lib.Dec.{eqb, ltb, leb}
 use lib.ListN.{length, take, drop, length-append}
 use lib.Seq.{take-at, length-take-le}
 use Rattle.model.specs.Limits.{maxRows, maxChildren}
+use Rattle.model.specs.Space.{putAt}
 use Rattle.model.specs.Table.{Row}
 use Rattle.model.specs.Build.{eqRow, findRow, placed, addRow}
+use Rattle.model.proofs.Space.{put-fits}
 use Rattle.model.proofs.Tab.{length-tab}
 use Rattle.document.specs.declared.rows.Row as number
 use Rattle.document.specs.declared.fields.RowFields.{RowFields}
@@ -22,12 +24,11 @@ use Rattle.document.specs.declared.builder.Placed.{Placed}
 use Rattle.document.specs.declared.builder.Placed.the-variants.{Known, Added, Full}
 use Rattle.document.specs.Rows.{rowCells, rowIn, rowsBelow, used, encodeRow, encodeRows, Kept}
 use Rattle.document.specs.Scalars.{kindOf, payloadOf}
-use Rattle.document.specs.Fields.{fieldsRow}
-use Rattle.document.specs.Index.{numbered, probe, startSlot}
-use Rattle.document.specs.Put.{putCells}
+use Rattle.document.specs.Fields.{asRow, numbersOf, fieldsRow}
+use Rattle.document.specs.Index.{probe, startSlot}
 use Rattle.document.specs.Builder.{Built, roomFor?, placeAt, findOrAdd, Did, Grows}
 use Rattle.document.proofs.Encoding.{all-used, used-places}
-use Rattle.document.proofs.Putting.{put-fits, rows-put}
+use Rattle.document.proofs.Putting.{rows-put}
 use Rattle.document.proofs.Placement.{room}
 use Rattle.document.proofs.Building.{grows}
 use Rattle.term.specs.Scan.{scalar}
@@ -41,9 +42,9 @@ pub says-by : (cells slots : List ℕ) (limit : ℕ) (r : TermPart) {o v : Outco
 says-by cells slots limit r e h = subst (Says cells slots limit r) (sym e) h
 
 -- so many rows
-says-rows : (cells slots : List ℕ) (limit j next n : ℕ) (rows : List Row) → length rows ≡ n → rows ≡ rowsBelow cells n → Ready cells slots n limit → Says cells slots limit (Read (numbered j) next n) (good j next rows)
+says-rows : (cells slots : List ℕ) (limit j next n : ℕ) (rows : List Row) → length rows ≡ n → rows ≡ rowsBelow cells n → Ready cells slots n limit → Says cells slots limit (Read (asRow j) next n) (good j next rows)
 says-rows cells slots limit j next n rows e f h =
-    (ap (Read (numbered j) next) (sym e), f ∙ ap (rowsBelow cells) (sym e), subst (λ m. Ready cells slots m limit) (sym e) h)
+    (ap (Read (asRow j) next) (sym e), f ∙ ap (rowsBelow cells) (sym e), subst (λ m. Ready cells slots m limit) (sym e) h)
 
 encode-more : (rows : List Row) (r : Row) → encodeRows (rows ++ r ∷ []) ≡ encodeRows rows ++ encodeRow r
 encode-more [] r = append-nil (encodeRow r)
@@ -51,29 +52,29 @@ encode-more (x ∷ rows) r = ap (encodeRow x ++_) (encode-more rows r) ∙ sym (
 
 -- the cells after a row was added
 module _ (cells slots : List ℕ) (n limit : ℕ) (r : Row) where
-  free-cells : (i : number.Row) (t : ℕ) (b : Bool) → roomFor? cells n limit ≡ b → (placeAt cells slots n limit r (Free t)) .answer ≡ Added i → (placeAt cells slots n limit r (Free t)) .cells ≡ putCells cells n (encodeRow r)
+  free-cells : (i : number.Row) (t : ℕ) (b : Bool) → roomFor? cells n limit ≡ b → (placeAt cells slots n limit r (Free t)) .answer ≡ Added i → (placeAt cells slots n limit r (Free t)) .cells ≡ putAt cells (n * rowCells) (encodeRow r)
   free-cells i t true e q = rw e
   free-cells i t false e q = let f : Full ≡ Added i = rw e at q in let z : _≡_ {A = ℕ} 0 1 = cc in absurd (omega arith)
 
-  added-cells : (i : number.Row) (q : Probed) → (placeAt cells slots n limit r q) .answer ≡ Added i → (placeAt cells slots n limit r q) .cells ≡ putCells cells n (encodeRow r)
+  added-cells : (i : number.Row) (q : Probed) → (placeAt cells slots n limit r q) .answer ≡ Added i → (placeAt cells slots n limit r q) .cells ≡ putAt cells (n * rowCells) (encodeRow r)
   added-cells i (Found j) e = let z : _≡_ {A = ℕ} 0 1 = cc in absurd (omega arith)
   added-cells i (Free t) e = free-cells i t (roomFor? cells n limit) refl e
   added-cells i Crowded e = let z : _≡_ {A = ℕ} 0 1 = cc in absurd (omega arith)
 
-  pub added-put : (i : number.Row) → (findOrAdd cells slots n limit r) .answer ≡ Added i → (findOrAdd cells slots n limit r) .cells ≡ putCells cells n (encodeRow r)
+  pub added-put : (i : number.Row) → (findOrAdd cells slots n limit r) .answer ≡ Added i → (findOrAdd cells slots n limit r) .cells ≡ putAt cells (n * rowCells) (encodeRow r)
   unfolding findOrAdd
   added-put i e = added-cells i (probe slots (λ k. eqRow r (rowIn cells k)) (startSlot r)) e
 
   -- where the rows' cells stand in front, they do so with one more
   pub encoded-more : Kept r → n * rowCells + rowCells ≤ length cells → take (n * rowCells) cells ≡ encodeRows (rowsBelow cells n)
-      → take ((n + 1) * rowCells) (putCells cells n (encodeRow r)) ≡ encodeRows (rowsBelow (putCells cells n (encodeRow r)) (n + 1))
+      → take ((n + 1) * rowCells) (putAt cells (n * rowCells) (encodeRow r)) ≡ encodeRows (rowsBelow (putAt cells (n * rowCells) (encodeRow r)) (n + 1))
   encoded-more k fits e =
       let front = take (n * rowCells) cells in
       let long : length (front ++ encodeRow r) ≡ (n + 1) * rowCells = simp (length-append, length-take-le (n * rowCells) cells (omega arith)) (omega arith) in
-      let put : putCells cells n (encodeRow r) ≡ (front ++ encodeRow r) ++ drop (n * rowCells + rowCells) cells = put-fits cells (encodeRow r) n fits in
+      let put : putAt cells (n * rowCells) (encodeRow r) ≡ (front ++ encodeRow r) ++ drop (n * rowCells + rowCells) cells = put-fits cells (n * rowCells) (encodeRow r) fits in
       ap (take ((n + 1) * rowCells)) put ∙ take-at (front ++ encodeRow r) (drop (n * rowCells + rowCells) cells) ((n + 1) * rowCells) long
       ∙ ap (_++ encodeRow r) e ∙ sym (encode-more (rowsBelow cells n) r)
-      ∙ ap encodeRows (sym (rows-put cells n r fits k)) ∙ ap (λ m. encodeRows (rowsBelow (putCells cells n (encodeRow r)) m)) (sym (add-one n))
+      ∙ ap encodeRows (sym (rows-put cells n r fits k)) ∙ ap (λ m. encodeRows (rowsBelow (putAt cells (n * rowCells) (encodeRow r)) m)) (sym (add-one n))
 
 -- room is a matter of the limit alone
 pub room-is : (cells slots : List ℕ) (n limit : ℕ) → Ready cells slots n limit → roomFor? cells n limit ≡ ltb n limit
@@ -92,16 +93,16 @@ room-is cells slots n limit h = go (ltb n limit) refl
 abbrev pub rowWith : RowFields → List ℕ → Row
 rowWith f js = rowOf (f .symbol) (scalar (kindOf (f .scalar)) (payloadOf (f .scalar))) js
 
-module _ (cells slots : List ℕ) (n limit : ℕ) (ready : Ready cells slots n limit) (arity : ℕ → ℕ) (at next : ℕ) (f : RowFields) (children : ℕ) (js : List ℕ) (held : Held js children (f .places)) where
-  pub end-wrong : (cs ss : List ℕ) (a : ℕ) → a ≡ arity (f .symbol) → (children ≡ a → ⊥) → Says cs ss limit (Refused 66 at) (endTerm arity limit at (rowWith f js) next (rowsBelow cells n))
+module _ (cells slots : List ℕ) (n limit : ℕ) (ready : Ready cells slots n limit) (arity : ℕ → ℕ) (at next : ℕ) (f : RowFields) (count : ℕ) (js : List ℕ) (held : Held js count (f .places)) where
+  pub end-wrong : (cs ss : List ℕ) (a : ℕ) → a ≡ arity (f .symbol) → (count ≡ a → ⊥) → Says cs ss limit (Refused 66 at) (endTerm arity limit at (rowWith f js) next (rowsBelow cells n))
   unfolding endTerm
   end-wrong cs ss a e h =
       let g : eqb (length js) (arity (f .symbol)) ≡ false = ne-eqb _ _ (λ q. h (held .number ∙ q ∙ sym e)) in
       says-by cs ss limit (Refused 66 at) (ap (λ b. cond b (placeRow limit at (rowWith f js) next (rowsBelow cells n) (findRow (rowWith f js) (rowsBelow cells n))) (refused 66 at)) g) refl
 
   -- the number of children is right, and the builder was asked
-  module _ (few : arity (f .symbol) ≤ maxChildren) (a : ℕ) (e : a ≡ arity (f .symbol)) (right : children ≡ a) (kept : Kept (fieldsRow f)) (answer : Placed) (cs ss : List ℕ) (did : Did (findOrAdd cells slots n limit (fieldsRow f)) answer cs ss) where
-    all : used (f .places) ≡ js
+  module _ (few : arity (f .symbol) ≤ maxChildren) (a : ℕ) (e : a ≡ arity (f .symbol)) (right : count ≡ a) (kept : Kept (fieldsRow f)) (answer : Placed) (cs ss : List ℕ) (did : Did (findOrAdd cells slots n limit (fieldsRow f)) answer cs ss) where
+    all : used (numbersOf (f .places)) ≡ js
     all = ap used (held .first) ∙ used-places maxChildren js (omega (arith, held .number)) (all-used js (held .rows))
 
     row-is : fieldsRow f ≡ rowWith f js
@@ -147,7 +148,7 @@ module _ (cells slots : List ℕ) (n limit : ℕ) (ready : Ready cells slots n l
       new : (i .0 ≡ n) × (roomFor? cells n limit ≡ true) × (addRow (rowsBelow cells n) (fieldsRow f) ≡ (rowsBelow ((findOrAdd cells slots n limit (fieldsRow f)) .cells) (n + 1), n)) × Built ((findOrAdd cells slots n limit (fieldsRow f)) .cells) ((findOrAdd cells slots n limit (fieldsRow f)) .slots) (n + 1)
       new = grown .added (i .0) (sym (did .answer) ∙ q)
 
-      put : cs ≡ putCells cells n (encodeRow (fieldsRow f))
+      put : cs ≡ putAt cells (n * rowCells) (encodeRow (fieldsRow f))
       put = did .cells ∙ added-put cells slots n limit (fieldsRow f) i (sym (did .answer) ∙ q)
 
       grown-ready : Ready cs ss (n + 1) limit

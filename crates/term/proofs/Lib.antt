@@ -10,4 +10,5 @@ pub mod Meaning
 pub mod Texts
 pub mod Whole
 pub mod TextTable
+pub mod Spelled
 pub mod Refusals

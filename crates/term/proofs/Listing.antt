@@ -15,12 +15,18 @@ use Rattle.model.specs.Table.{Row}
 use Rattle.model.proofs.Tab.{length-tab}
 use Rattle.document.specs.declared.rows.Row as number
 use Rattle.document.specs.Rows.{rowIn, rowsBelow, placesOf}
-use Rattle.document.specs.Index.{numbered}
-use Rattle.term.specs.Scan.{byteAt}
-use Rattle.term.specs.Grammar.{Outcome, good, refused, withFirst, readArgs}
-use Rattle.term.specs.State.{Ready, Held, Says}
+use Rattle.document.specs.declared.fields.RowFields.{RowFields}
+use Rattle.document.specs.declared.scalar.Scalar.{Scalar}
+use Rattle.document.specs.declared.scalar.Scalar.the-variants.{Bare}
+use Rattle.document.specs.Scalars.{kindOf, payloadOf}
+use Rattle.document.specs.Fields.{asRow, asRows, numbersOf}
+use Rattle.document.proofs.Numbers.{numbers-set}
+use Rattle.term.specs.Scan.{byteAt, scalar}
+use Rattle.term.specs.Grammar.{Outcome, good, refused, rowOf, endTerm, withFirst, readArgs}
+use Rattle.term.specs.State.{Ready, childless, withChild, Held, Says}
 use Rattle.term.specs.declared.reader.TermPart.{TermPart}
 use Rattle.term.specs.declared.reader.TermPart.the-variants.{Read, Refused}
+use Rattle.term.proofs.Ending.{rowWith}
 
 -- one more child goes to the place of its number, among any number of places
 one-more : (d j n : ℕ) (js : List ℕ) → tab n (λ k. getD (js ++ j ∷ []) k d) ≡ set (tab n (λ k. getD js k d)) (length js) j
@@ -28,27 +34,35 @@ one-more d j zero js = refl
 one-more d j (suc n) [] = refl
 one-more d j (suc n) (x ∷ js) = ap (x ∷_) (one-more d j n js)
 
-pub held-none : Held [] 0 (placesOf [])
+pub held-none : Held [] 0 (asRows (placesOf []))
 held-none = record { number = refl; first = refl; rows = λ j h. absurd (not-nil h) }
 
--- what is put where there is such a place
-abbrev pub putIn : List ℕ → ℕ → ℕ → List ℕ
-putIn places k j = cond (ltb k maxChildren) (set places k j) places
-
-put-set : (places : List ℕ) (k j : ℕ) → length places ≡ maxChildren → putIn places k j ≡ set places k j
-put-set places k j e = go (ltb k maxChildren) refl
+with-child : (f : RowFields) (k : ℕ) (j : number.Row) → length (numbersOf (f .places)) ≡ maxChildren → numbersOf ((withChild f k j) .places) ≡ set (numbersOf (f .places)) k (j .0)
+with-child f k j e = go (ltb k maxChildren) refl
   where
-    go : (b : Bool) → ltb k maxChildren ≡ b → cond b (set places k j) places ≡ set places k j
-    go true f = refl
-    go false f = sym (set-out places k j (let h = ltb-false k maxChildren f in omega arith))
+    go : (b : Bool) → ltb k maxChildren ≡ b → numbersOf (cond b (set (f .places) k j) (f .places)) ≡ set (numbersOf (f .places)) k (j .0)
+    go true t = numbers-set (f .places) k j
+    go false t = sym (set-out (numbersOf (f .places)) k (j .0) (let h = ltb-false k maxChildren t in omega arith))
 
-pub held-more : (js : List ℕ) (children j : ℕ) (places : List ℕ) → Held js children places → j < unused → Held (js ++ j ∷ []) (children + 1) (putIn places children j)
-held-more js children j places h l =
+pub held-more : (js : List ℕ) (count : ℕ) (j : number.Row) (f : RowFields) → Held js count (f .places) → j .0 < unused → Held (js ++ j .0 ∷ []) (count + 1) ((withChild f count j) .places)
+held-more js count j f h l =
     record {
-      number = ap (_+ 1) (h .number) ∙ sym (length-append js (j ∷ []));
-      first = put-set places children j (ap length (h .first) ∙ length-tab maxChildren (λ k. getD js k unused)) ∙ (λ i. set (h .first i) (h .number i) j) ∙ sym (one-more unused j maxChildren js);
+      number = ap (_+ 1) (h .number) ∙ sym (length-append js (j .0 ∷ []));
+      first = with-child f count j (ap length (h .first) ∙ length-tab maxChildren (λ k. getD js k unused)) ∙ (λ i. set (h .first i) (h .number i) (j .0)) ∙ sym (one-more unused (j .0) maxChildren js);
       rows = λ k m. ⊎-elim (λ n. h .rows k n) (λ n. let e = eq-of-singleton n in rw e l) (append-cases js m);
     }
+
+-- the end of a term without children
+pub says-childless : (cells slots : List ℕ) (limit : ℕ) (r : TermPart) (arity : ℕ → ℕ) (at next : ℕ) (rows : List Row) (s : ℕ) (v : Scalar) (f : RowFields) → f ≡ childless s v
+    → ((js : List ℕ) → Held js 0 (f .places) → Says cells slots limit r (endTerm arity limit at (rowWith f js) next rows)) → Says cells slots limit r (endTerm arity limit at (rowOf s (scalar (kindOf v) (payloadOf v)) []) next rows)
+says-childless cells slots limit r arity at next rows s v f e h =
+    subst (λ g. (js : List ℕ) → Held js 0 (g .places) → Says cells slots limit r (endTerm arity limit at (rowWith g js) next rows)) e h [] held-none
+
+-- the row of fields whose symbol is s and whose scalar is bare
+pub says-bare : (cells slots : List ℕ) (limit : ℕ) (r : TermPart) (arity : ℕ → ℕ) (at next : ℕ) (rows : List Row) (js : List ℕ) (s : ℕ) (f : RowFields) → f .symbol ≡ s → f .scalar ≡ Bare
+    → Says cells slots limit r (endTerm arity limit at (rowWith f js) next rows) → Says cells slots limit r (endTerm arity limit at (rowOf s (scalar 0 0) js) next rows)
+says-bare cells slots limit r arity at next rows js s f a b h =
+    subst (λ v. Says cells slots limit r (endTerm arity limit at v next rows)) (λ i. rowOf (a i) (scalar (kindOf (b i)) (payloadOf (b i))) js) h
 
 -- children in front of those of an outcome
 abbrev pub before : List ℕ → Outcome (List ℕ) → Outcome (List ℕ)
@@ -66,21 +80,21 @@ module _ (term : ℕ → List Row → Outcome ℕ) (t : List ℕ) (at : ℕ) (ro
   turn-refused w p e = rw (readArgs, e)
 
   module _ (j next : ℕ) (more : List Row) (e : term at rows ≡ good j next more) where
-    turn-comma : byteAt t next ≡ 44 → readArgs term t (suc f) at rows ≡ withFirst j (readArgs term t f (next + 1) more)
+    pub turn-comma : byteAt t next ≡ 44 → readArgs term t (suc f) at rows ≡ withFirst j (readArgs term t f (next + 1) more)
     unfolding readArgs
     turn-comma b = let g : eqb (byteAt t next) 44 ≡ true = eq-eqb _ _ b in rw (readArgs, e, g)
 
-    turn-end : (b : Bool) → (byteAt t next ≡ 44 → ⊥) → eqb (byteAt t next) 41 ≡ b → readArgs term t (suc f) at rows ≡ cond b (good (j ∷ []) (next + 1) more) (refused 63 next)
+    pub turn-end : (b : Bool) → (byteAt t next ≡ 44 → ⊥) → eqb (byteAt t next) 41 ≡ b → readArgs term t (suc f) at rows ≡ cond b (good (j ∷ []) (next + 1) more) (refused 63 next)
     unfolding readArgs
     turn-end b n q = let g : eqb (byteAt t next) 44 ≡ false = ne-eqb _ _ n in rw (readArgs, e, g, q)
 
 -- The argument list from place `start` on, after the rows `rows₀`, is the children so far before what is still to be read from place `at` on.
-pub record Listing (term : ℕ → List Row → Outcome ℕ) (t : List ℕ) (start : ℕ) (rows₀ : List Row) (limit : ℕ) (cells slots : List ℕ) (at known children : ℕ) (places : List ℕ) : Type 0 where
+pub record Listing (term : ℕ → List Row → Outcome ℕ) (t : List ℕ) (start : ℕ) (rows₀ : List Row) (limit : ℕ) (cells slots : List ℕ) (at known count : ℕ) (places : List number.Row) : Type 0 where
   pub so-far : List ℕ
   pub turns : ℕ
   pub enough : length t ≤ at + turns
-  pub few : children ≤ at
-  pub held : Held so-far children places
+  pub few : count ≤ at
+  pub held : Held so-far count places
   pub ready : Ready cells slots known limit
   pub same : before so-far (readArgs term t turns at (rowsBelow cells known)) ≡ readArgs term t (length t - start) start rows₀
 
@@ -95,26 +109,26 @@ Ends t term = (at : ℕ) (rows : List Row) → length t ≤ at → term at rows 
 -- an answer that says what was read
 pub said : (cells slots : List ℕ) (limit : ℕ) (r : TermPart) (o : Outcome ℕ) → Says cells slots limit r o → (j : number.Row) (next n : ℕ) → r ≡ Read j next n → (o ≡ good (j .0) next (rowsBelow cells n)) × Ready cells slots n limit
 said cells slots limit r (good k p rows) h j next n q =
-    let e : Read j next n ≡ Read (numbered k) p (length rows) = sym q ∙ h .0 in
-    let a : j ≡ numbered k = cc in
+    let e : Read j next n ≡ Read (asRow k) p (length rows) = sym q ∙ h .0 in
+    let a : j ≡ asRow k = cc in
     let b : next ≡ p = cc in
     let c : n ≡ length rows = cc in
     (sym ((λ i. good (a i .0) (b i) (rowsBelow cells (c i))) ∙ ap (good k p) (sym (h .1))), subst (λ m. Ready cells slots m limit) (sym c) (h .2))
 said cells slots limit r (refused w p) h j next n q = let e : Read j next n ≡ Refused w p = sym q ∙ h in let z : _≡_ {A = ℕ} 0 1 = cc in absurd (omega arith)
 
 pub said-no : (cells slots : List ℕ) (limit : ℕ) (r : TermPart) (o : Outcome ℕ) → Says cells slots limit r o → (w p : ℕ) → r ≡ Refused w p → o ≡ refused w p
-said-no cells slots limit r (good k next rows) h w p q = let e : Refused w p ≡ Read (numbered k) next (length rows) = sym q ∙ h .0 in let z : _≡_ {A = ℕ} 0 1 = cc in absurd (omega arith)
+said-no cells slots limit r (good k next rows) h w p q = let e : Refused w p ≡ Read (asRow k) next (length rows) = sym q ∙ h .0 in let z : _≡_ {A = ℕ} 0 1 = cc in absurd (omega arith)
 said-no cells slots limit r (refused x y) h w p q = let e : Refused w p ≡ Refused x y = sym q ∙ h in cc
 
 module _ (term : ℕ → List Row → Outcome ℕ) (t : List ℕ) (start : ℕ) (rows₀ : List Row) (limit : ℕ) where
-  pub list-start : (cells slots : List ℕ) (known : ℕ) → rows₀ ≡ rowsBelow cells known → Ready cells slots known limit → Listing term t start rows₀ limit cells slots start known 0 (placesOf [])
-  list-start cells slots known e h =
+  pub list-start : (cells slots : List ℕ) (known s : ℕ) (v : Scalar) (f : RowFields) → f ≡ childless s v → rows₀ ≡ rowsBelow cells known → Ready cells slots known limit → Listing term t start rows₀ limit cells slots start known 0 (f .places)
+  list-start cells slots known s v f q e h =
       record {
         so-far = [];
         turns = length t - start;
         enough = omega arith;
         few = omega arith;
-        held = held-none;
+        held = subst (λ g. Held [] 0 (g .places)) (sym q) held-none;
         ready = h;
         same = before-none (readArgs term t (length t - start) start (rowsBelow cells known)) ∙ ap (readArgs term t (length t - start) start) (sym e);
       }
@@ -123,7 +137,7 @@ module _ (term : ℕ → List Row → Outcome ℕ) (t : List ℕ) (start : ℕ) 
       before-none (good ks next rows) = refl
       before-none (refused w p) = refl
 
-  module _ (ends : Ends t term) (ahead : Ahead t term) (cells slots : List ℕ) (at known children : ℕ) (places : List ℕ) (v : Listing term t start rows₀ limit cells slots at known children places) (r : TermPart) (cs ss : List ℕ) (says : Says cs ss limit r (term at (rowsBelow cells known))) where
+  module _ (ends : Ends t term) (ahead : Ahead t term) (cells slots : List ℕ) (at known count : ℕ) (f : RowFields) (v : Listing term t start rows₀ limit cells slots at known count (f .places)) (r : TermPart) (cs ss : List ℕ) (says : Says cs ss limit r (term at (rowsBelow cells known))) where
     pub list-refused : (w p : ℕ) → r ≡ Refused w p → readArgs term t (length t - start) start rows₀ ≡ refused w p
     unfolding readArgs
     list-refused w p q = go (v .turns) (v .enough) (v .same)
@@ -147,7 +161,7 @@ module _ (term : ℕ → List Row → Outcome ℕ) (t : List ℕ) (start : ℕ) 
       pub list-ready : Ready cs ss n limit
       list-ready = said cs ss limit r (term at (rowsBelow cells known)) says j next n q .1
 
-      pub list-ahead : (at < length t) × (at < next) × (children < next)
+      pub list-ahead : (at < length t) × (at < next) × (count < next)
       list-ahead = let a = ahead at (rowsBelow cells known) (j .0) next (rowsBelow cs n) read in (a .0, a .1, omega (arith, v .few))
 
       small : j .0 < unused
@@ -158,8 +172,8 @@ module _ (term : ℕ → List Row → Outcome ℕ) (t : List ℕ) (start : ℕ) 
       abbrev now-held : List ℕ
       now-held = v .so-far ++ j .0 ∷ []
 
-      pub list-held : Held now-held (children + 1) (putIn places children (j .0))
-      list-held = held-more (v .so-far) children (j .0) places (v .held) small
+      pub list-held : (g : RowFields) → g ≡ withChild f count j → Held now-held (count + 1) (g .places)
+      list-held g e = subst (λ h. Held now-held (count + 1) (h .places)) (sym e) (held-more (v .so-far) count j f (v .held) small)
 
       -- there is a turn for it
       turn : (f : ℕ) × (v .turns ≡ suc f)
@@ -180,15 +194,15 @@ module _ (term : ℕ → List Row → Outcome ℕ) (t : List ℕ) (start : ℕ) 
       list-other a b =
           one-turn (turn-end term t at (rowsBelow cells known) (turn .0) (j .0) next (rowsBelow cs n) read false a (ne-eqb _ _ b))
 
-      pub list-more : byteAt t next ≡ 44 → Listing term t start rows₀ limit cs ss (next + 1) n (children + 1) (putIn places children (j .0))
-      list-more b =
+      pub list-more : (g : RowFields) → g ≡ withChild f count j → byteAt t next ≡ 44 → Listing term t start rows₀ limit cs ss (next + 1) n (count + 1) (g .places)
+      list-more g e b =
           let a = list-ahead in
           record {
             so-far = now-held;
             turns = turn .0;
             enough = omega (arith, a, v .enough, turn .1);
             few = omega (arith, a);
-            held = list-held;
+            held = list-held g e;
             ready = list-ready;
             same = sym (before-first (v .so-far) (j .0) (readArgs term t (turn .0) (next + 1) (rowsBelow cs n))) ∙ sym (one-turn (turn-comma term t at (rowsBelow cells known) (turn .0) (j .0) next (rowsBelow cs n) read b));
           }

@@ -118,7 +118,7 @@ module _ (A : Automaton) (S : Setting) (t : List ℕ) (known : (name : List ℕ)
       last-args b =
           record {
             forest = fcons (h .tree) fnil;
-            spelled = last (h .spelled) b;
+            spelled = last (h .spelled) b refl;
             added = ap (λ p. (p .0, p .1 ∷ [])) (h .added);
             low = larger-least (levels (h .tree)) 0 l (h .low) (omega arith);
             fits = (h .fits, tt);

@@ -1,5 +1,5 @@
 -- Every refusal has one of document 01's numbers, none above 67. Assumes nothing.
-use mathlib.Core.Path.{_≡_, refl}
+use mathlib.Core.Path.{_≡_, refl, sym, ap, _∙_}
 use mathlib.Core.Bool.{Bool, true, false, cond}
 use mathlib.Core.List.{List, []}
 use Prim.Native.Nat.{ℕ, zero, suc, _≤_}
@@ -13,7 +13,7 @@ use Rattle.automaton.specs.Stored.{decode}
 use Rattle.automaton.specs.Check.{checkOf}
 use Rattle.names.specs.Check.{namesCheckOf}
 use Rattle.term.specs.Grammar.{Outcome}
-use Rattle.term.specs.Read.{Reading, rowsRead, turnedAway, wholeText, readText, settingFor, unlessRefused, readOf, answerOf}
+use Rattle.term.specs.Read.{Reading, rowsRead, refusedAt, wholeText, readText, settingFor, unlessRefused, readOf, readingMap, readAnswer}
 use Rattle.term.specs.declared.TermRead.{TermRead}
 use Rattle.term.specs.declared.TermRead.the-variants.{Refused}
 use Rattle.term.proofs.Meaning.{Gives, gives, gives-none, IsTerm, term-gives}
@@ -40,19 +40,19 @@ unfolding namesCheckOf
 names-most n site builtIn = demand-most _ 61 _ (omega arith) (demand-most _ 62 _ (omega arith) (omega arith))
 
 -- a reading's refusal number, 0 for none
-abbrev number : Reading → ℕ
+abbrev number : Reading (List Row) → ℕ
 number (rowsRead rows) = 0
-number (turnedAway w p) = w
+number (refusedAt w p) = w
 
 end-most : (P : ℕ → ℕ → List Row → Type 0) (end : ℕ) {o : Outcome ℕ} → Gives P o → number (wholeText end o) ≤ 67
 end-most P end (gives {v = j} {n = next} {rows = rows} h) = go (eqb next end)
   where
-    go : (b : Bool) → number (cond b (rowsRead rows) (turnedAway 63 next)) ≤ 67
+    go : (b : Bool) → number (cond b (rowsRead rows) (refusedAt 63 next)) ≤ 67
     go true = omega arith
     go false = omega arith
 end-most P end (gives-none l) = l
 
-after-most : (n : ℕ) (v : Reading) → n ≤ 67 → number v ≤ 67 → number (unlessRefused n v) ≤ 67
+after-most : (n : ℕ) (v : Reading (List Row)) → n ≤ 67 → number v ≤ 67 → number (unlessRefused n v) ≤ 67
 after-most zero v h k = k
 after-most (suc n) v h k = h
 
@@ -69,9 +69,9 @@ module _ (set site builtIn text : List ℕ) (space : ℕ) where
       after-most (checkOf set) _ (set-most set)
       (after-most (namesCheckOf (length ((decode set) .arities)) site builtIn) _ (names-most (length ((decode set) .arities)) site builtIn) text-most)
 
-  pub refused-most : (r : TermRead) (n p : ℕ) → r ≡ answerOf (readOf set site builtIn text space) → r ≡ Refused n p → n ≤ 67
+  pub refused-most : (r : TermRead) (n p : ℕ) → readAnswer r ≡ readingMap length (readOf set site builtIn text space) → r ≡ Refused n p → n ≤ 67
   refused-most r n p = go (readOf set site builtIn text space) read-most
     where
-      go : (v : Reading) → number v ≤ 67 → r ≡ answerOf v → r ≡ Refused n p → n ≤ 67
-      go (rowsRead rows) l e q = let z : _≡_ {A = ℕ} 0 1 = cc in absurd (omega arith)
-      go (turnedAway w s) l e q = let f : w ≡ n = cc in omega arith
+      go : (v : Reading (List Row)) → number v ≤ 67 → readAnswer r ≡ readingMap length v → r ≡ Refused n p → n ≤ 67
+      go (rowsRead rows) l e q = let f : _≡_ {A = Reading ℕ} (rowsRead (length rows)) (refusedAt n p) = sym e ∙ ap readAnswer q in let z : _≡_ {A = ℕ} 0 1 = cc in absurd (omega arith)
+      go (refusedAt w s) l e q = let f : _≡_ {A = Reading ℕ} (refusedAt w s) (refusedAt n p) = sym e ∙ ap readAnswer q in let g : w ≡ n = cc in omega arith

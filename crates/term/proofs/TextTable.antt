@@ -22,12 +22,12 @@ use Rattle.names.specs.Names.{findName}
 use Rattle.names.specs.Check.{namesCheckOf}
 use Rattle.names.proofs.Shown.{found-shown}
 use Rattle.term.specs.Grammar.{Outcome, good, refused, readTerm}
-use Rattle.term.specs.Read.{Reading, rowsRead, turnedAway, wholeText, readText, settingFor, unlessRefused, readOf}
+use Rattle.term.specs.Read.{Reading, rowsRead, refusedAt, wholeText, readText, settingFor, unlessRefused, readOf}
 use Rattle.term.specs.Meaning.{RowsOfText}
 use Rattle.term.proofs.Meaning.{IsTerm, term-gives, given-is}
 
 -- what is read was not refused before
-unrefused : (n : ℕ) (v : Reading) (rows : List Row) → unlessRefused n v ≡ rowsRead rows → (n ≡ 0) × (v ≡ rowsRead rows)
+unrefused : (n : ℕ) (v : Reading (List Row)) (rows : List Row) → unlessRefused n v ≡ rowsRead rows → (n ≡ 0) × (v ≡ rowsRead rows)
 unrefused zero v rows e = (refl, e)
 unrefused (suc n) v rows e = let z : _≡_ {A = ℕ} 0 1 = cc in absurd (omega arith)
 
@@ -35,7 +35,7 @@ unrefused (suc n) v rows e = let z : _≡_ {A = ℕ} 0 1 = cc in absurd (omega a
 to-the-end : (end : ℕ) (o : Outcome ℕ) (rows : List Row) → wholeText end o ≡ rowsRead rows → (j : ℕ) × (o ≡ good j end rows)
 to-the-end end (good j next rs) rows = go (eqb next end) refl
   where
-    go : (b : Bool) → eqb next end ≡ b → cond b (rowsRead rs) (turnedAway 63 next) ≡ rowsRead rows → (k : ℕ) × (good j next rs ≡ good k end rows)
+    go : (b : Bool) → eqb next end ≡ b → cond b (rowsRead rs) (refusedAt 63 next) ≡ rowsRead rows → (k : ℕ) × (good j next rs ≡ good k end rows)
     go true f e = let p = eqb-true next end f in let q : rs ≡ rows = cc in (j, (λ i. good j (p i) (q i)))
     go false f e = let z : _≡_ {A = ℕ} 0 1 = cc in absurd (omega arith)
 to-the-end end (refused w p) rows = λ e. let z : _≡_ {A = ℕ} 0 1 = cc in absurd (omega arith)

@@ -2,6 +2,12 @@
 use automaton::Checked;
 use automaton::check;
 use automaton::header;
+use base::limits::MAX_LEVELS;
+use base::limits::MAX_ROWS;
+use base::numbers::size;
+use base::numbers::smaller;
+use base::space::put_cells;
+use document::index::SLOTS;
 use document::rows::ROW_CELLS;
 use document::rows::count;
 use names::NamesChecked;
@@ -9,29 +15,21 @@ use names::table::TABLE;
 use names::table::fill;
 use reader::TermPart;
 use reader::term;
-use scan::size;
 ghost use mathlib.Core.Path.{_≡_};
-ghost use mathlib.Core.List.{_++_};
-ghost use Prim.Native.Nat.{_/_, _≤_, min};
-ghost use lib.ListN.{length, take, drop};
+ghost use Prim.Native.Nat.{_/_, min};
+ghost use lib.ListN.{length};
 ghost use Rattle.model.specs.Limits.{maxRows};
 ghost use Rattle.automaton.specs.Stored.{decode};
 ghost use Rattle.automaton.specs.Check.{checkOf};
 ghost use Rattle.document.specs.Rows.{rowCells};
 ghost use Rattle.term.specs.State.{settingOf};
-ghost use Rattle.term.specs.Read.{readText, readOf, answerOf, spaceAfter, Answers};
+ghost use Rattle.term.specs.Read.{readText, readOf, readingMap, readAnswer, spaceAfter, Answers};
 
 mod reader; // reader.rt: terms and argument lists
 mod scan; // scan.rt: names and scalars at a place
 
-const MAX_LEVELS: usize = 256;
-
-const MAX_ROWS: u16 = 1024;
-
-// The cells of as many rows as a table has, and the slots of their index.
-const CELLS: usize = 10240;
-
-const SLOTS: usize = 2048;
+// The cells of as many rows as a table has.
+const CELLS: usize = MAX_ROWS as usize * ROW_CELLS;
 
 // What reading a text says: the number of rows written, or a refusal's number and place.
 pub enum TermRead {
@@ -43,23 +41,7 @@ pub enum TermRead {
 fn row_limit(rows: &[u16]) -> u16
     ensures { λ r. ⌜ r ≡ min maxRows (length (now (rows .entry)) / rowCells) ⌝ }
 {
-    let n = count(rows);
-    if n < size(MAX_ROWS) {
-        return n as u16;
-    }
-    MAX_ROWS
-}
-
-// The first cells of one space to the front of another.
-fn copy_front(from: &[u16], to: &mut [u16], n: usize)
-    requires { ⌜ (n ≤ length (now from)) × (n ≤ length (now to)) ⌝ }
-    ensures { λ r. ⌜ now (to .exit) ≡ take n (now (from .entry)) ++ drop n (now (to .entry)) ⌝ }
-{
-    let mut i = 0;
-    while i < n {
-        to[i] = from[i];
-        i += 1;
-    }
+    smaller(size(MAX_ROWS), count(rows)) as u16
 }
 
 // A text against a sound set and a table of its symbols' names. The rows are built in local cells, and copied where the text is whole.
@@ -80,7 +62,7 @@ fn read_text(set: &[u8], names: &[u8], symbols: u16, text: &[u8], rows: &mut [u1
         &mut cells,
         &mut slots,
         0,
-        MAX_LEVELS,
+        MAX_LEVELS as usize,
         0,
     ) {
         TermPart::Refused(w, p) => TermRead::Refused(w, p),
@@ -88,7 +70,7 @@ fn read_text(set: &[u8], names: &[u8], symbols: u16, text: &[u8], rows: &mut [u1
             if next != text.len() {
                 return TermRead::Refused(63, next);
             }
-            copy_front(&cells, &mut *rows, size(used) * ROW_CELLS);
+            put_cells(&mut *rows, 0, &cells[..size(used) * ROW_CELLS]);
             TermRead::Rows(used)
         },
     }
@@ -102,12 +84,12 @@ pub fn read<'a>(
     text: &[u8],
     rows: &mut [u16],
 ) -> TermRead
-    ensures answer { λ r. ⌜ r ≡ answerOf (readOf (now (set .entry)) (now (site .entry)) (now («built_in» .entry)) (now (text .entry)) (length (now (rows .entry)))) ⌝ }
+    ensures answer { λ r. ⌜ readAnswer r ≡ readingMap length (readOf (now (set .entry)) (now (site .entry)) (now («built_in» .entry)) (now (text .entry)) (length (now (rows .entry)))) ⌝ }
     ensures space { λ r. ⌜ now (rows .exit) ≡ spaceAfter (readOf (now (set .entry)) (now (site .entry)) (now («built_in» .entry)) (now (text .entry)) (length (now (rows .entry)))) (now (rows .entry)) ⌝ }
 {
     match check(set) {
         Checked::Refused(n) => TermRead::Refused(n, 0),
-        Checked::Sound => {
+        Checked::Passed => {
             let h = header(set);
             let symbols = h.symbols;
             match names::check(symbols, site, built_in) {

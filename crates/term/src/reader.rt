@@ -3,25 +3,26 @@ use crate::scan::ScalarRead;
 use crate::scan::byte_at;
 use crate::scan::name_bytes;
 use crate::scan::scalar_at;
-use crate::scan::size;
 use automaton::arity;
+use base::limits::PLACES;
+use base::limits::UNUSED;
+use base::numbers::size;
 use document::Scalar;
 use document::builder::Placed;
 use document::builder::find_or_add;
 use document::fields::RowFields;
+use document::index::SLOTS;
 use document::rows::Row;
-use document::rows::UNUSED;
 use names::bytes::is_letter;
 use names::lines::MAX_NAME;
 use names::table::Found;
 use names::table::find;
 ghost use mathlib.Core.Path.{_≡_};
-ghost use mathlib.Core.Bool.{true, cond};
+ghost use mathlib.Core.Bool.{true};
 ghost use mathlib.Core.Option.{Option};
 ghost use mathlib.Core.List.{List};
-ghost use Prim.Native.Nat.{ℕ, _+_, _-_, _<_};
-ghost use lib.Dec.{ltb};
-ghost use lib.ListN.{length, set};
+ghost use Prim.Native.Nat.{ℕ, _-_};
+ghost use lib.ListN.{length};
 ghost use Rattle.model.specs.Automaton.{arityOf};
 ghost use Rattle.automaton.specs.Stored.{decode};
 ghost use Rattle.automaton.specs.Check.{checkOf};
@@ -31,7 +32,7 @@ ghost use Rattle.names.specs.Names.{letter?, findIn};
 ghost use Rattle.names.specs.Table.{nameIn};
 ghost use Rattle.term.specs.Scan.{byteAt, nameAt, scalar, scalarAt};
 ghost use Rattle.term.specs.Grammar.{rowOf, endTerm, afterArgs, afterScalar, readArgs, symbolOf, readTerm};
-ghost use Rattle.term.specs.State.{settingOf, Ready, Held, Says, namedOf};
+ghost use Rattle.term.specs.State.{settingOf, Ready, childless, withChild, Held, Says, namedOf};
 
 // A symbol and the place after its name, or a refusal's number and place.
 pub(crate) enum SymbolRead {
@@ -65,19 +66,19 @@ fn symbol_at(text: &[u8], names: &[u8], symbols: u16, at: usize) -> SymbolRead
 fn end_term(
     set: &[u8],
     rows: &mut [u16],
-    slots: &mut [u16; 2048],
+    slots: &mut [u16; SLOTS],
     used: u16,
     limit: u16,
     at: usize,
     next: usize,
-    children: usize,
+    count: usize,
     fields: RowFields,
 ) -> TermPart
     requires ready { ⌜ Ready (now rows) (now slots) used limit ⌝ }
     requires sound { ⌜ checkOf (now set) ≡ 0 ⌝ }
-    ensures { λ r. ⌜ ((js : List ℕ) → Held js children (fields .places) → Says (now (rows .exit)) (now (slots .exit)) limit r (endTerm (arityOf (decode (now (set .entry)))) limit at (rowOf (fields .symbol) (scalar (kindOf (fields .scalar)) (payloadOf (fields .scalar))) js) next (rowsBelow (now (rows .entry)) used))) ⌝ }
+    ensures { λ r. ⌜ ((js : List ℕ) → Held js count (fields .places) → Says (now (rows .exit)) (now (slots .exit)) limit r (endTerm (arityOf (decode (now (set .entry)))) limit at (rowOf (fields .symbol) (scalar (kindOf (fields .scalar)) (payloadOf (fields .scalar))) js) next (rowsBelow (now (rows .entry)) used))) ⌝ }
 {
-    if children != size(arity(set, fields.symbol)) {
+    if count != size(arity(set, fields.symbol)) {
         return TermPart::Refused(66, at);
     }
     match find_or_add(rows, slots, used, limit, fields) {
@@ -87,12 +88,40 @@ fn end_term(
     }
 }
 
+// A row by value without children.
+fn no_children(symbol: u16, value: Scalar) -> RowFields
+    ensures { λ r. ⌜ r ≡ childless symbol value ⌝ }
+{
+    RowFields {
+        symbol,
+        places: [Row(UNUSED); PLACES],
+        scalar: value,
+    }
+}
+
+// A row by value with row j as child k; past the last place the places stay as they are.
+fn with_child(fields: RowFields, k: usize, j: Row) -> RowFields
+    ensures { λ r. ⌜ r ≡ withChild fields k j ⌝ }
+{
+    if k >= PLACES {
+        return fields;
+    }
+    let mut places = fields.places;
+    places[k] = j;
+    let scalar = fields.scalar;
+    RowFields {
+        symbol: fields.symbol,
+        places,
+        scalar,
+    }
+}
+
 // A term without children: the scalar behind its name, then its end.
 fn leaf(
     text: &[u8],
     set: &[u8],
     rows: &mut [u16],
-    slots: &mut [u16; 2048],
+    slots: &mut [u16; SLOTS],
     used: u16,
     limit: u16,
     at: usize,
@@ -105,23 +134,10 @@ fn leaf(
 {
     match scalar_at(text, end) {
         ScalarRead::Is(s, next) => {
-            let fields = RowFields {
-                symbol: symbol,
-                places: [UNUSED; 4],
-                scalar: s,
-            };
+            let fields = no_children(symbol, s);
             end_term(set, rows, slots, used, limit, at, next, 0, fields)
         },
         ScalarRead::Fault(p) => TermPart::Refused(63, p),
-    }
-}
-
-// One more child into the places; past the fourth they stay as they are.
-fn put_child(places: &mut [u16; 4], k: usize, j: Row)
-    ensures { λ r. ⌜ now (places .exit) ≡ cond (ltb k 4) (set (now (places .entry)) k (j .0)) (now (places .entry)) ⌝ }
-{
-    if k < 4 {
-        places[k] = j.0;
     }
 }
 
@@ -133,7 +149,7 @@ pub(crate) fn term(
     symbols: u16,
     limit: u16,
     rows: &mut [u16],
-    slots: &mut [u16; 2048],
+    slots: &mut [u16; SLOTS],
     used: u16,
     level: usize,
     at: usize,
@@ -181,7 +197,7 @@ fn arguments(
     symbols: u16,
     limit: u16,
     rows: &mut [u16],
-    slots: &mut [u16; 2048],
+    slots: &mut [u16; SLOTS],
     used: u16,
     level: usize,
     start: usize,
@@ -195,8 +211,8 @@ fn arguments(
 {
     let mut at = start;
     let mut known = used;
-    let mut children = 0;
-    let mut places = [UNUSED; 4];
+    let mut count = 0;
+    let mut fields = no_children(symbol, Scalar::Bare);
     loop {
         match term(
             text,
@@ -214,27 +230,12 @@ fn arguments(
                 return TermPart::Refused(w, p);
             },
             TermPart::Read(j, next, n) => {
-                put_child(&mut places, children, j);
-                children += 1;
+                fields = with_child(fields, count, j);
+                count += 1;
                 known = n;
                 let b = byte_at(text, next);
                 if b == b')' {
-                    let fields = RowFields {
-                        symbol: symbol,
-                        places: places,
-                        scalar: Scalar::Bare,
-                    };
-                    return end_term(
-                        set,
-                        rows,
-                        slots,
-                        known,
-                        limit,
-                        first,
-                        next + 1,
-                        children,
-                        fields,
-                    );
+                    return end_term(set, rows, slots, n, limit, first, next + 1, count, fields);
                 }
                 if b != b',' {
                     return TermPart::Refused(63, next);

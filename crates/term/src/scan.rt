@@ -30,12 +30,6 @@ pub(crate) enum ScalarRead {
     Fault(usize),
 }
 
-pub(crate) fn size(x: u16) -> usize
-    ensures { λ r. ⌜ (r ≡ x) × (r < 65536) ⌝ }
-{
-    x as usize
-}
-
 // The byte at a place; past the end 0.
 pub(crate) fn byte_at(text: &[u8], i: usize) -> u8
     ensures { λ r. ⌜ r ≡ byteAt (now (text .entry)) i ⌝ }

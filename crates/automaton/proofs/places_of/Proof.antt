@@ -7,7 +7,7 @@ use Rattle.automaton.proofs.places_of.Statement.{statement}
 use Rattle.automaton.proofs.places_of.Tie as tie
 
 abbrev Inv-loop : tie.InvT-loop
-Inv-loop set first i n places₀ k₀ places k = Filled (placeOf set i n) maxChildren places k
+Inv-loop set first i n places₀ k₀ places k = Filled (λ q. q .0) (placeOf set i n) maxChildren places k
 
 abbrev μ-loop : tie.MeasureT-loop
 μ-loop set first i n places₀ k₀ places k = maxChildren - k

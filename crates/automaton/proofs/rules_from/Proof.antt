@@ -1,5 +1,5 @@
--- `automaton::rules_from` meets its contract: rules before the lower bound have a lower symbol, those from the upper bound on do not. Assumes nothing.
-use Prim.Native.Nat.{_+_, _-_, _/_, _<_}
+-- `automaton::rules_from` meets its contract: from each turn's bounds on, bisection ends where the whole one does. Assumes nothing.
+use Prim.Native.Nat.{_-_, _<_}
 use native.Mathlib.Omega.{arith}
 use Rattle.automaton.proofs.Window.{Sought, sought-low, sought-high, seeks}
 use Rattle.automaton.proofs.rules_from.Statement.{statement}
@@ -27,15 +27,11 @@ rules-from-spec =
     (λ c. search seeks)
     (λ c. let a = c .before .before .before .before .before .before .before .args in
     let w = c .before .before .before .loop in
-    let t = c .before .before .loop-test .taken in
     let i = w .inv .0 .inside in
-    let m = w .low + (w .high - w .low) / 2 in
-    (sought-low (a .set .now) (a .symbol) (w .low) (w .high) m _ (w .inv .0) (omega arith) (omega arith) (c .before .rule-word .ensures) (c .if1 .taken), w .inv .1))
+    (sought-low (a .set .now) (a .symbol) (w .low) (w .high) _ (w .inv .0) (c .before .before .loop-test .taken) (c .before .rule-word .ensures) (c .if1 .taken), w .inv .1))
     (λ c. search seeks)
     (λ c. let a = c .before .before .before .before .before .before .before .args in
     let w = c .before .before .before .loop in
-    let t = c .before .before .loop-test .taken in
     let i = w .inv .0 .inside in
-    let m = w .low + (w .high - w .low) / 2 in
-    (sought-high (a .set .now) (a .symbol) (w .low) (w .high) m _ (w .inv .0) (omega arith) (omega arith) (c .before .rule-word .ensures) (c .if1 .left), omega arith))
+    (sought-high (a .set .now) (a .symbol) (w .low) (w .high) _ (w .inv .0) (c .before .before .loop-test .taken) (c .before .rule-word .ensures) (c .if1 .left), omega arith))
     (λ c. search seeks))

@@ -1,7 +1,7 @@
 -- `cidhomba::cidhomba_product` meets its contract: the answer of `boolean::product`, as a number. Assumes nothing.
 use mathlib.Core.Path.{ap, _∙_}
 use borrow.Author.Needs.{needs}
-use Rattle.cidhomba.specs.Code.{combinedCode}
+use Rattle.cidhomba.specs.Code.{countCode}
 use Rattle.cidhomba.proofs.cidhomba_product.Statement.{statement}
 use Rattle.cidhomba.proofs.cidhomba_product.Tie as tie
 
@@ -12,4 +12,4 @@ cidhomba-product-spec =
     (λ c κs. search needs)
     (λ c κs. search needs)
     (λ c. search needs)
-    (λ c. let s = c .before .before .before .product .ensures .1 in (c .combined-code .ensures ∙ ap combinedCode (s .0), s .1)))
+    (λ c. let s = c .before .before .before .product .ensures in (c .combined-code .ensures ∙ ap countCode (s .0), s .1)))

@@ -2,6 +2,7 @@
 use mathlib.Core.Path.{sym, ap, _∙_}
 use native.Mathlib.Omega.{arith}
 use borrow.Author.Needs.{needs}
+use Rattle.term.specs.Read.{readAnswer}
 use Rattle.term.proofs.Refusals.{refused-most}
 use Rattle.cidhomba.specs.Code.{readCode}
 use Rattle.cidhomba.proofs.cidhomba_read_term.Statement.{statement}
@@ -11,10 +12,10 @@ refusal-code-requires : tie.Need-refusal-code-requires
 refusal-code-requires c κs = omega (arith, refused-most _ _ _ _ _ _ _ _ (c .before .before .before .before .before .read .ensures .0) (c .before .n2 .given .1))
 
 returns : tie.Need-returns
-returns c = (ap readCode (sym (c .before .n .given .1) ∙ c .before .before .before .before .before .read .ensures .0), c .before .before .before .before .before .read .ensures .1)
+returns c = (ap readCode (ap readAnswer (sym (c .before .n .given .1)) ∙ c .before .before .before .before .before .read .ensures .0), c .before .before .before .before .before .read .ensures .1)
 
 returns-2 : tie.Need-returns-2
-returns-2 c = (c .refusal-code .ensures ∙ ap readCode (sym (c .before .before .n2 .given .1) ∙ c .before .before .before .before .before .before .read .ensures .0), c .before .before .before .before .before .before .read .ensures .1)
+returns-2 c = (c .refusal-code .ensures ∙ ap readCode (ap readAnswer (sym (c .before .before .n2 .given .1)) ∙ c .before .before .before .before .before .before .read .ensures .0), c .before .before .before .before .before .before .read .ensures .1)
 
 pub cidhomba-read-term-spec : {M : Type 1} → statement M
 cidhomba-read-term-spec =

@@ -13,6 +13,6 @@ cidhomba-witness-spec =
     (λ c κs. search needs)
     (λ c. search needs)
     (λ c. (
-      c .witness-code .ensures ∙ ap witnessCode (c .before .before .before .witness .ensures .0 .1),
+      c .witness-code .ensures ∙ ap witnessCode (c .before .before .before .witness .ensures .0),
       c .before .before .before .witness .ensures .1,
     )))

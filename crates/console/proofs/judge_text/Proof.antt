@@ -17,7 +17,7 @@ returns : tie.Need-returns
 returns c = read-printed _ _ (replicate 10240 0) _ _ _ _ _ _ (zeros-long 10240) (c .before .before .before .before .before .before .before .before .before .read .ensures .0) (c .before .before .before .before .before .before .before .before .before .read .ensures .1) (c .before .before .before .before .before .before .n .given .1) (c .before .before .judge-rows .ensures)
 
 returns-2 : tie.Need-returns-2
-returns-2 c = read-printed _ _ (replicate 10240 0) _ _ _ _ _ _ (zeros-long 10240) (c .before .before .before .before .before .before .before .before .read .ensures .0) (c .before .before .before .before .before .before .before .before .read .ensures .1) (c .before .before .before .before .before .n2 .given .1) (c .before .before .put-turned-away .ensures)
+returns-2 c = read-printed _ _ (replicate 10240 0) _ _ _ _ _ _ (zeros-long 10240) (c .before .before .before .before .before .before .before .before .read .ensures .0) (c .before .before .before .before .before .before .before .before .read .ensures .1) (c .before .before .before .before .before .n2 .given .1) (c .before .before .put-refusal .ensures)
 
 pub judge-text-spec : {M : Type 1} → statement M
 judge-text-spec =

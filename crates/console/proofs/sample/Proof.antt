@@ -12,25 +12,25 @@ returns : tie.Need-returns
 returns c = sample-beyond _ _ _ _ (c .before .before .if1 .taken) (c .put-refused .ensures)
 
 array-share-prefix-rows : tie.Need-array-share-prefix-rows
-array-share-prefix-rows c = sample-fits _ (replicate 2560 0) _ _ _ _ (c .before .before .before .before .witness .ensures .0 .1) (c .before .before .before .before .witness .ensures .1) (c .before .n .given .1)
+array-share-prefix-rows c = sample-fits _ (replicate 2560 0) _ _ _ _ (c .before .before .before .before .witness .ensures .0) (c .before .before .before .before .witness .ensures .1) (c .before .n .given .1)
 
 slice-aggregate-live : tie.Need-slice-aggregate-live
-slice-aggregate-live c = sym (length-take-le _ _ (sample-fits _ (replicate 2560 0) _ _ _ _ (c .before .before .before .before .before .witness .ensures .0 .1) (c .before .before .before .before .before .witness .ensures .1) (c .before .before .n .given .1)))
+slice-aggregate-live c = sym (length-take-le _ _ (sample-fits _ (replicate 2560 0) _ _ _ _ (c .before .before .before .before .before .witness .ensures .0) (c .before .before .before .before .before .witness .ensures .1) (c .before .before .n .given .1)))
 
 returns-2 : tie.Need-returns-2
 returns-2 c =
     sample-within _ _ _ _ (c .before .before .before .before .before .before .before .before .if1 .left)
-    (sample-printed _ (replicate 2560 0) _ _ _ _ _ _ (zeros-long 2560) (c .before .before .before .before .before .before .witness .ensures .0 .1) (c .before .before .before .before .before .before .witness .ensures .1) (c .before .before .before .enum-told .given .1) (c .put-answer .ensures))
+    (sample-printed _ (replicate 2560 0) _ _ _ _ _ _ (zeros-long 2560) (c .before .before .before .before .before .before .witness .ensures .0) (c .before .before .before .before .before .before .witness .ensures .1) (c .before .before .before .enum-told .given .1) (c .put-answer .ensures))
 
 returns-3 : tie.Need-returns-3
 returns-3 c =
     sample-within _ _ _ _ (c .before .before .before .before .before .before .before .before .before .if1 .left)
-    (sample-printed _ (replicate 2560 0) _ _ _ _ _ _ (zeros-long 2560) (c .before .before .before .before .before .before .before .witness .ensures .0 .1) (c .before .before .before .before .before .before .before .witness .ensures .1) (c .before .before .before .before .n .given .1) (c .live .ensures))
+    (sample-printed _ (replicate 2560 0) _ _ _ _ _ _ (zeros-long 2560) (c .before .before .before .before .before .before .before .witness .ensures .0) (c .before .before .before .before .before .before .before .witness .ensures .1) (c .before .before .before .before .n .given .1) (c .live .ensures))
 
 returns-4 : tie.Need-returns-4
 returns-4 c =
     sample-within _ _ _ _ (c .before .before .before .before .before .before .before .before .if1 .left)
-    (sample-printed _ (replicate 2560 0) _ _ _ _ _ _ (zeros-long 2560) (c .before .before .before .before .before .before .witness .ensures .0 .1) (c .before .before .before .before .before .before .witness .ensures .1) (c .before .before .before .n2 .given .1) (c .put-refused2 .ensures))
+    (sample-printed _ (replicate 2560 0) _ _ _ _ _ _ (zeros-long 2560) (c .before .before .before .before .before .before .witness .ensures .0) (c .before .before .before .before .before .before .witness .ensures .1) (c .before .before .before .n2 .given .1) (c .put-refused2 .ensures))
 
 pub sample-spec : {M : Type 1} → statement M
 sample-spec =

@@ -1,5 +1,5 @@
 -- `document::check` meets its contract: the set is tried first, then the table. Assumes nothing.
-use Rattle.document.proofs.Verdicts.{answered, answers}
+use Rattle.document.proofs.Verdicts.{answers}
 use Rattle.document.proofs.check.Statement.{statement}
 use Rattle.document.proofs.check.Tie as tie
 
@@ -12,5 +12,5 @@ check-spec =
     (λ c κs. search answers)
     (λ c κs. search answers)
     (λ c. search answers)
-    (λ c. answered _ _ (search answers))
-    (λ c. answered _ _ (search answers)))
+    (λ c. search answers)
+    (λ c. search answers))

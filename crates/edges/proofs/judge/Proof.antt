@@ -9,7 +9,7 @@ use Rattle.edges.proofs.judge.Reads as reads
 use Rattle.edges.proofs.judge.Lts as lts
 use Rattle.console.proofs.judge.Reads as judge-reads
 use Rattle.edges.proofs.say.Reads as say-reads
-use Rattle.names.proofs.bytes.put.Reads as put-reads
+use Rattle.base.proofs.space.put.Reads as put-reads
 
 say-requires : tie.Need-say-requires
 say-requires c κs = search needs

@@ -10,7 +10,7 @@ use Rattle.edges.proofs.symbols.Lts as lts
 use Rattle.automaton.proofs.check.Reads as check-reads
 use Rattle.edges.proofs.checked.Reads as checked-reads
 use Rattle.edges.proofs.say.Reads as say-reads
-use Rattle.names.proofs.bytes.put.Reads as put-reads
+use Rattle.base.proofs.space.put.Reads as put-reads
 
 say-requires : tie.Need-say-requires
 say-requires c κs = search needs

@@ -12,7 +12,7 @@ use Rattle.edges.proofs.table.Lts as lts
 use Rattle.document.proofs.check.Reads as check-reads
 use Rattle.document.proofs.rows.put_row.Reads as put-row-reads
 use Rattle.edges.proofs.checked.Reads as checked-reads
-use Rattle.edges.proofs.row.Reads as row-reads
+use Rattle.edges.proofs.fields.Reads as fields-reads
 use Rattle.edges.proofs.say.Reads as say-reads
 
 abbrev Inv-loop : tie.InvT-loop
@@ -30,8 +30,8 @@ loop-holds c = search needs
 slice-aggregate-put-row : tie.Need-slice-aggregate-put-row Inv-loop μ-loop
 slice-aggregate-put-row c = search needs
 
-row-requires : tie.Need-row-requires Inv-loop μ-loop
-row-requires c κs = search needs
+fields-requires : tie.Need-fields-requires Inv-loop μ-loop
+fields-requires c κs = search needs
 
 put-row-requires : tie.Need-put-row-requires Inv-loop μ-loop
 put-row-requires c κs = search needs
@@ -78,7 +78,7 @@ table-spec =
     say-requires
     loop-holds
     slice-aggregate-put-row
-    row-requires
+    fields-requires
     put-row-requires
     add-i
     loop-less

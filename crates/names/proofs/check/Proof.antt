@@ -19,7 +19,7 @@ check-spec =
     (λ c κs. search needs)
     (λ c. search needs)
     distinct-requires
-    (λ c. answered _ _ (search answers))
-    (λ c. answered _ _ (search answers))
-    (λ c. answered _ _ (search answers))
-    (λ c. answered _ _ (search answers)))
+    (λ c. answered 0 _ (search answers))
+    (λ c. answered 62 _ (search answers))
+    (λ c. answered 61 _ (search answers))
+    (λ c. answered 61 _ (search answers)))

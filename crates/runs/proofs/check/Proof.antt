@@ -1,5 +1,5 @@
 -- `runs::check` meets its contract: the set and the table are tried first, then the run. Assumes nothing.
-use Rattle.document.proofs.Verdicts.{answered, answers}
+use Rattle.document.proofs.Verdicts.{answers}
 use Rattle.runs.proofs.check.Statement.{statement}
 use Rattle.runs.proofs.check.Tie as tie
 
@@ -11,5 +11,5 @@ check-spec =
     (λ c. search answers)
     (λ c κs. search answers)
     (λ c. search answers)
-    (λ c. answered _ _ (search answers))
-    (λ c. answered _ _ (search answers)))
+    (λ c. search answers)
+    (λ c. search answers))

@@ -1,10 +1,11 @@
 -- What the term reader said of the text, then whether it went to the end. Assumes nothing.
-use mathlib.Core.Path.{ap}
+use mathlib.Core.Path.{sym, ap}
 use Prim.Native.Nat.{_*_}
 use denote.Ref.{now}
 use borrow.Author.Needs.{needs}
+use lib.Seq.{length-take-le}
 use Rattle.document.specs.Rows.{rowCells}
-use Rattle.term.proofs.Texts.{ready-start, text-refused, text-fits, text-more, text-rows}
+use Rattle.term.proofs.Texts.{ready-start, text-refused, text-inside, text-more, text-rows}
 use Rattle.term.proofs.read_text.Statement.{statement}
 use Rattle.term.proofs.read_text.Tie as tie
 
@@ -15,9 +16,14 @@ returns : tie.Need-returns
 returns c =
     text-more _ _ _ _ _ _ (c .before .before .before .before .before .before .before .before .before .before .before .before .before .before .pre .1) (c .before .before .before .before .before .before .before .before .row-limit .ensures) _ _ _ (c .before .before .before .before .before .term .ensures) _ _ _ (c .before .before .next .given .1) (c .if1 .taken)
 
-copy-front-requires : tie.Need-copy-front-requires
-copy-front-requires c κs =
-    text-fits _ _ _ (now (c .before .before .before .before .before .before .before .before .before .before .before .before .before .before .before .before .before .args .rows)) _ _ (c .before .before .before .before .before .before .before .before .before .before .before .before .before .before .before .before .before .pre .1) (c .before .before .before .before .before .before .before .before .before .before .before .row-limit .ensures) _ _ _ (c .before .before .before .before .before .before .before .before .term .ensures) _ _ _ (c .before .before .before .before .before .next .given .1) _ (ap (λ n. n * rowCells) (c .size .ensures .0))
+array-share-prefix-cells : tie.Need-array-share-prefix-cells
+array-share-prefix-cells c =
+    text-inside _ _ _ (now (c .before .before .before .before .before .before .before .before .before .before .before .before .before .before .before .before .args .rows)) _ _ (c .before .before .before .before .before .before .before .before .before .before .before .before .before .before .before .before .pre .1) (c .before .before .before .before .before .before .before .before .before .before .row-limit .ensures) _ _ _ (c .before .before .before .before .before .before .before .term .ensures) _ _ _ (c .before .before .before .before .next .given .1) _ (ap (λ n. n * rowCells) (c .size .ensures .0))
+
+slice-aggregate-put-cells : tie.Need-slice-aggregate-put-cells
+slice-aggregate-put-cells c =
+    sym (length-take-le _ _
+    (text-inside _ _ _ (now (c .before .before .before .before .before .before .before .before .before .before .before .before .before .before .before .before .before .args .rows)) _ _ (c .before .before .before .before .before .before .before .before .before .before .before .before .before .before .before .before .before .pre .1) (c .before .before .before .before .before .before .before .before .before .before .before .row-limit .ensures) _ _ _ (c .before .before .before .before .before .before .before .before .term .ensures) _ _ _ (c .before .before .before .before .before .next .given .1) _ (ap (λ n. n * rowCells) (c .before .size .ensures .0))))
 
 returns-2 : tie.Need-returns-2
 returns-2 c =
@@ -25,7 +31,7 @@ returns-2 c =
 
 returns-3 : tie.Need-returns-3
 returns-3 c =
-    text-rows _ _ _ _ _ _ (c .before .before .before .before .before .before .before .before .before .before .before .before .before .before .before .before .before .before .before .before .pre .1) (c .before .before .before .before .before .before .before .before .before .before .before .before .before .before .row-limit .ensures) _ _ _ (c .before .before .before .before .before .before .before .before .before .before .before .term .ensures) _ _ _ (c .before .before .before .before .before .before .before .before .next .given .1) (c .before .before .before .before .before .before .if1 .left) _ _ (ap (λ n. n * rowCells) (c .before .before .before .size .ensures .0)) (c .before .before .copy-front .ensures)
+    text-rows _ _ _ _ _ _ (c .before .before .before .before .before .before .before .before .before .before .before .before .before .before .before .before .before .before .before .before .pre .1) (c .before .before .before .before .before .before .before .before .before .before .before .before .before .before .row-limit .ensures) _ _ _ (c .before .before .before .before .before .before .before .before .before .before .before .term .ensures) _ _ _ (c .before .before .before .before .before .before .before .before .next .given .1) (c .before .before .before .before .before .before .if1 .left) _ _ (ap (λ n. n * rowCells) (c .before .before .before .before .size .ensures .0)) (c .before .before .put-cells .ensures)
 
 pub read-text-spec : {M : Type 1} → statement M
 read-text-spec =
@@ -33,15 +39,17 @@ read-text-spec =
     (tie.spec
     (λ c κs. search needs)
     (λ c. search needs)
+    (λ c. search needs)
     term-requires
     (λ c. search needs)
     (λ c. search needs)
     (λ c. search needs)
     returns
-    (λ c. search needs)
     (λ c κs. search needs)
     (λ c. search needs)
-    copy-front-requires
+    array-share-prefix-cells
+    slice-aggregate-put-cells
+    (λ c κs. search needs)
     (λ c. search needs)
     returns-2
     (λ c. search needs)

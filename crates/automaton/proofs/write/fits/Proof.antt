@@ -12,4 +12,4 @@ fits-spec =
     tie.close
     (tie.spec
     (λ c. fits-left _ _ _ (c .if1 .taken))
-    (λ c. sym (lt-leb (c .before .args .at + c .before .args .n) (c .before .args .length) (omega arith))))
+    (λ c. sym (lt-leb (c .before .args .at + c .before .args .n) (c .before .args .space) (omega arith))))

@@ -6,7 +6,7 @@ use native.Mathlib.Numerals.{add-one}
 use mathlib.Core.Path.{refl}
 use lib.Seq.{sets-eq}
 use Rattle.automaton.specs.Encode.{encodeState}
-use Rattle.automaton.proofs.Put.{fits-so, fits-not, put-done, put-none}
+use Rattle.automaton.proofs.Put.{fits-so, fits-not, put-done, put-stays}
 use borrow.Author.Needs.{needs}
 use Rattle.automaton.proofs.write.put_state.Statement.{statement}
 use Rattle.automaton.proofs.write.put_state.Tie as tie
@@ -36,4 +36,4 @@ put-state-spec =
     let h : a .at + 2 ≤ length (a .out .now) = fits-so _ _ _ (c .before .before .before .fits2 .ensures) (c .before .before .if1 .taken) in
     put-done (a .out .now) (a .at) (encodeState (a .accepting) (a .mask)) h 2 _ refl (rw (c .low .ensures, c .before .flag .ensures, add-one) (sets-eq (encodeState (a .accepting) (a .mask)) (a .out .now) (a .at) h)))
     (λ c. let a = c .before .before .before .args in
-    put-none (a .out .now) (a .at) (encodeState (a .accepting) (a .mask)) (fits-not _ _ _ (c .before .fits2 .ensures) (c .if1 .left))))
+    put-stays (a .out .now) (a .at) (encodeState (a .accepting) (a .mask)) (fits-not _ _ _ (c .before .fits2 .ensures) (c .if1 .left))))

@@ -5,7 +5,7 @@ use native.Mathlib.Omega.{arith}
 use mathlib.Core.Path.{refl}
 use lib.Seq.{sets-eq}
 use Rattle.automaton.specs.Encode.{encodeSymbol}
-use Rattle.automaton.proofs.Put.{put-done, put-none}
+use Rattle.automaton.proofs.Put.{put-done, put-stays}
 use borrow.Author.Needs.{needs}
 use Rattle.automaton.proofs.write.put_symbol.Statement.{statement}
 use Rattle.automaton.proofs.write.put_symbol.Tie as tie
@@ -24,4 +24,4 @@ put-symbol-spec =
     put-done (a .out .now) (a .at) (encodeSymbol (a .arity)) h 1 _ refl (rw (c .low .ensures) (sets-eq (encodeSymbol (a .arity)) (a .out .now) (a .at) h)))
     (λ c. let a = c .before .before .args in
     let h : length (a .out .now) < a .at + 1 = omega arith in
-    put-none (a .out .now) (a .at) (encodeSymbol (a .arity)) h))
+    put-stays (a .out .now) (a .at) (encodeSymbol (a .arity)) h))

@@ -5,7 +5,7 @@ use mathlib.Core.Path.{sym}
 use Rattle.model.specs.Lists.{concatMap}
 use Rattle.automaton.specs.Encode.{encodeWord}
 use Rattle.automaton.proofs.Words.{length-words}
-use Rattle.automaton.proofs.Put.{fits-so, fits-not, put-done, put-none}
+use Rattle.automaton.proofs.Put.{fits-so, fits-not, put-done, put-stays}
 use borrow.Author.Needs.{needs}
 use Rattle.automaton.proofs.write.put_words.Statement.{statement}
 use Rattle.automaton.proofs.write.put_words.Tie as tie
@@ -25,4 +25,4 @@ put-words-spec =
     let h : a .at + 2 * length (a .words .now) ≤ length (a .out .now) = fits-so _ _ _ (c .before .before .before .before .before .fits2 .ensures) (c .before .before .before .before .if1 .taken) in
     put-done (a .out .now) (a .at) (concatMap encodeWord (a .words .now)) (rw length-words h) _ _ (sym (length-words (a .words .now))) (c .before .before .paste-words .ensures))
     (λ c. let a = c .before .before .before .before .args in
-    put-none (a .out .now) (a .at) (concatMap encodeWord (a .words .now)) (rw length-words (fits-not _ _ _ (c .before .fits2 .ensures) (c .if1 .left)))))
+    put-stays (a .out .now) (a .at) (concatMap encodeWord (a .words .now)) (rw length-words (fits-not _ _ _ (c .before .fits2 .ensures) (c .if1 .left)))))

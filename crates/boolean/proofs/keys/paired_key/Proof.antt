@@ -6,12 +6,12 @@ use Prim.Native.Nat.{ℕ, _+_, _-_, _*_, _^_, _<_}
 use lib.ListN.{getD}
 use Rattle.model.specs.Limits.{maxChildren}
 use Rattle.boolean.specs.Key.{digitWidth, pushed, pairedPlace}
-use Rattle.boolean.proofs.Packing.{Pushing, pushing-none, pushing-more, pushing-all, product-low}
+use Rattle.boolean.proofs.Packing.{Pushing, pushing-none, pushing-more, pushing-all, product-low, numbers, number-at}
 use Rattle.boolean.proofs.keys.paired_key.Statement.{statement}
 use Rattle.boolean.proofs.keys.paired_key.Tie as tie
 
 abbrev Inv-loop : tie.InvT-loop
-Inv-loop r s n firsts seconds x₀ k₀ x k = Pushing (r .symbol) (λ j. pairedPlace n (getD (r .places) j 0) (getD (s .places) j 0)) x k
+Inv-loop r s n firsts seconds x₀ k₀ x k = Pushing (r .symbol) (λ j. pairedPlace n (getD (numbers (r .places)) j 0) (getD (numbers (s .places)) j 0)) x k
 
 abbrev μ-loop : tie.MeasureT-loop
 μ-loop r s n firsts seconds x₀ k₀ x k = maxChildren - k
@@ -25,13 +25,18 @@ loop-holds c = pushing-none _ _ _ (c .push .ensures .0 ∙ ap (pushed 0) (c .bef
 push-requires-2 : tie.Need-push-requires-2 Inv-loop μ-loop
 push-requires-2 c κs =
     let e = c .wide2 .ensures .0 in
-    let l = c .before .before .loop-test .taken in
-    (subst (λ (w : ℕ). c .before .before .before .loop .x < 2 ^ (digitWidth * (w + 1))) (sym e) (c .before .before .before .loop .inv .low), omega arith)
+    let l = c .before .before .before .before .loop-test .taken in
+    (subst (λ (w : ℕ). c .before .before .before .before .before .loop .x < 2 ^ (digitWidth * (w + 1))) (sym e) (c .before .before .before .before .before .loop .inv .low), omega arith)
 
 loop-again : tie.Need-loop-again Inv-loop μ-loop
 loop-again c =
     let e = c .before .wide2 .ensures .0 in
-    pushing-more _ _ _ _ (c .before .before .before .before .loop .inv) _ _ (c .before .before .before .loop-test .taken) (c .before .before .paired-place .ensures) (c .push2 .ensures .0)
+    let l = c .before .before .before .before .before .before .loop in
+    let a = c .before .before .before .before .before .before .before .before .before .before .before .args in
+    let p = number-at (a .r .places) (l .k) in
+    let q = number-at (a .s .places) (l .k) in
+    pushing-more _ _ _ _ (l .inv) _ _ (c .before .before .before .before .before .loop-test .taken)
+    (c .before .before .paired-place .ensures ∙ ap (λ (z : ℕ). pairedPlace (a .n) z ((getD (a .s .places) (l .k) (record { 0 = 0 })) .0)) p ∙ ap (pairedPlace (a .n) (getD (numbers (a .r .places)) (l .k) 0)) q) (c .push2 .ensures .0)
     (subst (λ (w : ℕ). c .push2 .result < 2 ^ (digitWidth * (w + 1 + 1))) e (c .push2 .ensures .1))
 
 mul-push : tie.Need-mul-push Inv-loop μ-loop

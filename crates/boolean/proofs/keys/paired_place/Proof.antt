@@ -10,16 +10,16 @@ use Rattle.boolean.proofs.keys.paired_place.Statement.{statement}
 use Rattle.boolean.proofs.keys.paired_place.Tie as tie
 
 mul-result : tie.Need-mul-result
-mul-result c = let e = product-low (c .wide .result) (c .before .before .args .n) (c .wide .ensures .1) (c .before .before .pre) in omega arith
+mul-result c = let e = product-low (c .wide .result) (c .before .before .before .args .n) (c .wide .ensures .1) (c .before .before .before .pre) in omega arith
 
 add-result : tie.Need-add-result
-add-result c = let e = product-low (c .before .wide .result) (c .before .before .before .args .n) (c .before .wide .ensures .1) (c .before .before .before .pre) in let f = c .wide2 .ensures .1 in omega arith
+add-result c = let e = product-low (c .before .wide .result) (c .before .before .before .before .args .n) (c .before .wide .ensures .1) (c .before .before .before .before .pre) in let f = c .wide2 .ensures .1 in omega arith
 
 returns : tie.Need-returns
 unfolding pairedPlace
 returns c =
-    let a = c .before .before .before .args in
-    rw (lt-ltb _ _ (c .before .before .if1 .taken)) (ap (λ (z : ℕ). z * a .n + c .wide2 .result) (c .before .wide .ensures .0) ∙ ap (a .p * a .n +_) (c .wide2 .ensures .0))
+    let a = c .before .before .before .before .args in
+    rw (lt-ltb _ _ (c .before .before .if1 .taken)) (ap (λ (z : ℕ). z * a .n + c .wide2 .result) (c .before .wide .ensures .0) ∙ ap (a .p .0 * a .n +_) (c .wide2 .ensures .0))
 
 returns-2 : tie.Need-returns-2
 unfolding pairedPlace

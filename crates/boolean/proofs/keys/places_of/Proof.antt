@@ -8,13 +8,13 @@ use Rattle.boolean.proofs.keys.places_of.Statement.{statement}
 use Rattle.boolean.proofs.keys.places_of.Tie as tie
 
 abbrev Inv-loop : tie.InvT-loop
-Inv-loop x places₀ k₀ places k = Filled (placeAt x) maxChildren places k
+Inv-loop x places₀ k₀ places k = Filled (λ q. q .0) (placeAt x) maxChildren places k
 
 abbrev μ-loop : tie.MeasureT-loop
 μ-loop x places₀ k₀ places k = maxChildren - k
 
 loop-again : tie.Need-loop-again Inv-loop μ-loop
-loop-again c = filled-more _ _ _ _ _ (c .before .before .before .loop .inv) (c .before .before .loop-test .taken) (c .place-of .ensures ∙ ap placeOf (c .before .digit-at .ensures))
+loop-again c = filled-more _ _ _ _ _ _ (c .before .before .before .loop .inv) (c .before .before .loop-test .taken) (c .place-of .ensures ∙ ap placeOf (c .before .digit-at .ensures))
 
 pub places-of-spec : {M : Type 1} → statement M
 places-of-spec =

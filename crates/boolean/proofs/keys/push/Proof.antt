@@ -14,13 +14,13 @@ mul-result c = record { fits = push-fits (c .args .x * 512) (c .args .k) (omega 
 add-result : tie.Need-add-result
 add-result c =
     let a = c .before .args in
-    record { fits = push-fits (a .x * 512 + c .digit .result) (a .k) (push-bound (a .x) (c .digit .result) (a .k) (c .before .pre .0) (c .digit .ensures .1)) (c .before .pre .1) }
+    record { fits = push-fits (a .x * 512 + c .key-digit .result) (a .k) (push-bound (a .x) (c .key-digit .result) (a .k) (c .before .pre .0) (c .key-digit .ensures .1)) (c .before .pre .1) }
 
 returns : tie.Need-returns
 unfolding pushed
 returns c =
     let a = c .before .args in
-    (ap (a .x * 512 +_) (c .digit .ensures .0), push-bound (a .x) (c .digit .result) (a .k) (c .before .pre .0) (c .digit .ensures .1))
+    (ap (a .x * 512 +_) (c .key-digit .ensures .0), push-bound (a .x) (c .key-digit .result) (a .k) (c .before .pre .0) (c .key-digit .ensures .1))
 
 pub push-spec : {M : Type 1} → statement M
 push-spec =

@@ -6,12 +6,12 @@ use Prim.Native.Nat.{ℕ, _+_, _-_, _*_, _^_, _<_}
 use lib.ListN.{getD}
 use Rattle.model.specs.Limits.{maxChildren}
 use Rattle.boolean.specs.Key.{digitWidth, pushed, shiftedPlace}
-use Rattle.boolean.proofs.Packing.{Pushing, pushing-none, pushing-more, pushing-all}
+use Rattle.boolean.proofs.Packing.{Pushing, pushing-none, pushing-more, pushing-all, numbers, number-at}
 use Rattle.boolean.proofs.keys.shifted_key.Statement.{statement}
 use Rattle.boolean.proofs.keys.shifted_key.Tie as tie
 
 abbrev Inv-loop : tie.InvT-loop
-Inv-loop r n places x₀ k₀ x k = Pushing (r .symbol) (λ j. shiftedPlace n (getD (r .places) j 0)) x k
+Inv-loop r n places x₀ k₀ x k = Pushing (r .symbol) (λ j. shiftedPlace n (getD (numbers (r .places)) j 0)) x k
 
 abbrev μ-loop : tie.MeasureT-loop
 μ-loop r n places x₀ k₀ x k = maxChildren - k
@@ -22,19 +22,21 @@ push-requires c κs = search needs
 loop-holds : tie.Need-loop-holds Inv-loop μ-loop
 loop-holds c = pushing-none _ _ _ (c .push .ensures .0 ∙ ap (pushed 0) (c .before .wide .ensures .0)) (c .push .ensures .1)
 
-array-read-shifted-place : tie.Need-array-read-shifted-place Inv-loop μ-loop
-array-read-shifted-place c = search needs
+array-copy-out-shifted-place : tie.Need-array-copy-out-shifted-place Inv-loop μ-loop
+array-copy-out-shifted-place c = search needs
 
 push-requires-2 : tie.Need-push-requires-2 Inv-loop μ-loop
 push-requires-2 c κs =
     let e = c .wide2 .ensures .0 in
-    let l = c .before .before .loop-test .taken in
-    (subst (λ (w : ℕ). c .before .before .before .loop .x < 2 ^ (digitWidth * (w + 1))) (sym e) (c .before .before .before .loop .inv .low), omega arith)
+    let l = c .before .before .before .loop-test .taken in
+    (subst (λ (w : ℕ). c .before .before .before .before .loop .x < 2 ^ (digitWidth * (w + 1))) (sym e) (c .before .before .before .before .loop .inv .low), omega arith)
 
 loop-again : tie.Need-loop-again Inv-loop μ-loop
 loop-again c =
     let e = c .before .wide2 .ensures .0 in
-    pushing-more _ _ _ _ (c .before .before .before .before .loop .inv) _ _ (c .before .before .before .loop-test .taken) (c .before .before .shifted-place .ensures) (c .push2 .ensures .0)
+    let l = c .before .before .before .before .before .loop in
+    let a = c .before .before .before .before .before .before .before .before .before .args in
+    pushing-more _ _ _ _ (l .inv) _ _ (c .before .before .before .before .loop-test .taken) (c .before .before .shifted-place .ensures ∙ ap (shiftedPlace (a .n)) (number-at (a .r .places) (l .k))) (c .push2 .ensures .0)
     (subst (λ (w : ℕ). c .push2 .result < 2 ^ (digitWidth * (w + 1 + 1))) e (c .push2 .ensures .1))
 
 push-requires-3 : tie.Need-push-requires-3 Inv-loop μ-loop
@@ -59,7 +61,7 @@ shifted-key-spec =
     loop-holds
     (λ c. search needs)
     (λ c. search needs)
-    array-read-shifted-place
+    array-copy-out-shifted-place
     (λ c κs. search needs)
     (λ c κs. search needs)
     (λ c. search needs)

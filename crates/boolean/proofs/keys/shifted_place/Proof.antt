@@ -9,7 +9,7 @@ use Rattle.boolean.proofs.keys.shifted_place.Tie as tie
 
 returns : tie.Need-returns
 unfolding shiftedPlace
-returns c = rw (lt-ltb _ _ (c .before .if1 .taken)) (ap (c .before .before .args .n +_) (c .wide .ensures .0))
+returns c = rw (lt-ltb _ _ (c .before .if1 .taken)) (ap (c .before .before .before .args .n +_) (c .wide .ensures .0))
 
 returns-2 : tie.Need-returns-2
 unfolding shiftedPlace

@@ -1,10 +1,13 @@
--- `boolean::pairs::window` meets its contract. Assumes nothing.
+-- `boolean::pairs::window` meets its contract: in a sound set bisection ends at the first rule. Assumes nothing.
 use borrow.Author.Needs.{needs}
+use Rattle.automaton.proofs.Known.{known-first}
 use Rattle.boolean.proofs.pairs.window.Statement.{statement}
 use Rattle.boolean.proofs.pairs.window.Tie as tie
 
 returns : tie.Need-returns
-returns c = record { starts = c .before .rules-from .ensures .1 (c .before .before .before .pre .0); stops = c .rules-from2 .ensures .1 (c .before .before .before .pre .0) }
+returns c =
+    let h = c .before .before .before .pre .0 in
+    record { starts = known-first _ _ _ h (c .before .rules-from .ensures); stops = known-first _ _ _ h (c .rules-from2 .ensures) }
 
 pub window-spec : {M : Type 1} → statement M
 window-spec =

@@ -1,5 +1,6 @@
 -- `boolean::write::put_rules` meets its contract: the loop has put the rules of the keys before its index. Assumes nothing.
 use mathlib.Core.Path.{ap, _∙_}
+use mathlib.Core.List.{map}
 use Prim.Native.Nat.{ℕ, _+_, _-_}
 use borrow.Author.Needs.{needs}
 use denote.Ref.{now}
@@ -24,9 +25,10 @@ loop-again : tie.Need-loop-again Inv-loop μ-loop
 loop-again c =
     let r = c .before .before .before .unpack .result in
     let x = getD (now (c .before .before .before .before .before .before .before .before .before .before .args .keys)) (c .before .before .before .before .before .before .before .loop .i) 0 in
+    let places = map (λ q. q .0) (r .places) in
     let u = c .before .before .before .unpack .ensures in
     parts-put _ 0 _ _ _ _ _ _ (c .before .before .before .before .before .before .before .loop .inv) _ _ _ (c .before .before .before .before .before .before .loop-test .taken)
-    (ap (λ (z : ℕ). encodePlaces z (r .target .0) (r .places)) (u .0) ∙ ap (λ (z : ℕ). encodePlaces (digitAt x (maxChildren + 1)) z (r .places)) (u .1) ∙ ap (encodePlaces (digitAt x (maxChildren + 1)) (digitAt x 0)) (u .2))
+    (ap (λ (z : ℕ). encodePlaces z (r .target .0) places) (u .0) ∙ ap (λ (z : ℕ). encodePlaces (digitAt x (maxChildren + 1)) z places) (u .1) ∙ ap (encodePlaces (digitAt x (maxChildren + 1)) (digitAt x 0)) (u .2))
     (c .before .before .put-rule .ensures)
 
 same-length : tie.Need-same-length Inv-loop μ-loop

@@ -2,6 +2,7 @@
 use mathlib.Core.Path.{ap}
 use native.Mathlib.Omega.{arith}
 use borrow.Author.Needs.{needs}
+use Rattle.automaton.specs.Answer.{checkAnswer}
 use Rattle.cidhomba.specs.Code.{checkCode}
 use Rattle.cidhomba.proofs.code.check_code.Statement.{statement}
 use Rattle.cidhomba.proofs.code.check_code.Tie as tie
@@ -15,4 +16,4 @@ check-code-spec =
     (λ c. search needs)
     (λ c. search needs)
     (λ c. search needs)
-    (λ c. omega (arith, ap checkCode (c .before .c .given .1))))
+    (λ c. omega (arith, ap (λ a. checkCode (checkAnswer a)) (c .before .c .given .1))))

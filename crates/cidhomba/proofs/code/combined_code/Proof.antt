@@ -2,7 +2,8 @@
 use mathlib.Core.Path.{ap}
 use native.Mathlib.Omega.{arith}
 use borrow.Author.Needs.{needs}
-use Rattle.cidhomba.specs.Code.{combinedCode}
+use Rattle.boolean.specs.Answer.{combinedAnswer}
+use Rattle.cidhomba.specs.Code.{countCode}
 use Rattle.cidhomba.proofs.code.combined_code.Statement.{statement}
 use Rattle.cidhomba.proofs.code.combined_code.Tie as tie
 
@@ -15,4 +16,4 @@ combined-code-spec =
     (λ c. search needs)
     (λ c. search needs)
     (λ c. search needs)
-    (λ c. omega (arith, ap combinedCode (c .before .c2 .given .1))))
+    (λ c. omega (arith, ap (λ a. countCode (combinedAnswer a)) (c .before .c2 .given .1))))

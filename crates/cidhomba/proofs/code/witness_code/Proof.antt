@@ -2,6 +2,7 @@
 use mathlib.Core.Path.{ap}
 use native.Mathlib.Omega.{arith}
 use borrow.Author.Needs.{needs}
+use Rattle.emptiness.specs.Answer.{emptinessAnswer}
 use Rattle.cidhomba.specs.Code.{witnessCode}
 use Rattle.cidhomba.proofs.code.witness_code.Statement.{statement}
 use Rattle.cidhomba.proofs.code.witness_code.Tie as tie
@@ -20,5 +21,5 @@ witness-code-spec =
     (λ c. search needs)
     (λ c. search needs)
     (λ c. search needs)
-    (λ c. omega (arith, ap witnessCode (c .before .e .given .1)))
-    (λ c. omega (arith, ap witnessCode (c .before .e2 .given .1))))
+    (λ c. omega (arith, ap (λ a. witnessCode (emptinessAnswer a)) (c .before .e .given .1)))
+    (λ c. omega (arith, ap (λ a. witnessCode (emptinessAnswer a)) (c .before .e2 .given .1))))

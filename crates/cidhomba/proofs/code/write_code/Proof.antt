@@ -2,7 +2,8 @@
 use mathlib.Core.Path.{ap}
 use native.Mathlib.Omega.{arith}
 use borrow.Author.Needs.{needs}
-use Rattle.cidhomba.specs.Code.{writeCode}
+use Rattle.spelling.specs.Write.{writeAnswer}
+use Rattle.cidhomba.specs.Code.{countCode}
 use Rattle.cidhomba.proofs.code.write_code.Statement.{statement}
 use Rattle.cidhomba.proofs.code.write_code.Tie as tie
 
@@ -15,4 +16,4 @@ write-code-spec =
     (λ c. search needs)
     (λ c. search needs)
     (λ c. search needs)
-    (λ c. omega (arith, ap writeCode (c .before .w2 .given .1))))
+    (λ c. omega (arith, ap (λ a. countCode (writeAnswer a)) (c .before .w2 .given .1))))

@@ -5,7 +5,7 @@ use Rattle.console.proofs.line.put_numbered.Statement.{statement}
 use Rattle.console.proofs.line.put_numbered.Tie as tie
 
 returns : tie.Need-returns
-returns c = numbered-put _ _ _ _ _ _ _ _ (c .before .before .before .before .before .before .before .before .before .before .pre) (c .before .before .before .before .before .before .put-bytes .ensures) (c .before .before .put-decimal .ensures)
+returns c = numbered-put _ _ _ _ _ _ _ _ (c .before .before .before .before .before .before .before .before .before .before .pre) (c .before .before .before .before .before .before .put-bytes .ensures) (c .before .before .put-number .ensures)
 
 pub put-numbered-spec : {M : Type 1} → statement M
 put-numbered-spec =

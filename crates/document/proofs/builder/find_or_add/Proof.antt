@@ -1,5 +1,4 @@
 -- `document::builder::find_or_add` meets its contract: each answer is that of the definition at what the probe found. Assumes nothing.
-use mathlib.Core.Path.{refl}
 use native.Mathlib.Omega.{arith}
 use borrow.Author.Needs.{needs}
 use borrow.Author.Tests.{not-true, not-false}
@@ -14,7 +13,7 @@ full c =
     let s = p .before .before .before in
     let a = s .before .before .before .args in
     let m = c .before .has-room in (
-      did-full (a .rows .now) (a .slots .now) (a .n) (a .limit) (fieldsRow (a .f)) (s .before .cells-of .result) (s .start-slot .result) (p .probe .result) (s .before .cells-of .ensures .0) (s .start-slot .ensures) (p .probe .ensures) (c .before .before .before .before .t .given .0 .0) (c .before .before .before .before .t .given .1) (m .result) (m .ensures) (not-true (m .result) (c .if1 .taken)),
+      did-full (a .rows .now) (a .slots .now) (a .n) (a .limit) (fieldsRow (a .f)) (s .before .cells-of .result) (s .start-slot .result) (p .look-up .result) (s .before .cells-of .ensures .0) (s .start-slot .ensures) (p .look-up .ensures) (c .before .before .before .before .t .given .0 .0) (c .before .before .before .before .t .given .1) (m .result) (m .ensures) (not-true (m .result) (c .if1 .taken)),
       s .before .cells-of .ensures .1,
     )
 
@@ -33,7 +32,7 @@ mul-slots c =
     let s = p .before .before .before in
     let a = s .before .before .before .args in
     let m = h .before .has-room in
-    let l = inside (a .rows .now) (a .slots .now) (a .n) (a .limit) (fieldsRow (a .f)) (s .before .cells-of .result) (s .start-slot .result) (p .probe .result) (s .before .cells-of .ensures .0) (s .start-slot .ensures) (p .probe .ensures) (h .before .before .before .before .t .given .0 .0) (h .before .before .before .before .t .given .1) (m .result) (m .ensures) in
+    let l = inside (a .rows .now) (a .slots .now) (a .n) (a .limit) (fieldsRow (a .f)) (s .before .cells-of .result) (s .start-slot .result) (p .look-up .result) (s .before .cells-of .ensures .0) (s .start-slot .ensures) (p .look-up .ensures) (h .before .before .before .before .t .given .0 .0) (h .before .before .before .before .t .given .1) (m .result) (m .ensures) in
     record { fits = omega arith }
 
 element-write-slots : tie.Need-element-write-slots
@@ -43,14 +42,14 @@ element-write-slots c =
     let s = p .before .before .before in
     let a = s .before .before .before .args in
     let m = h .before .has-room in
-    inside (a .rows .now) (a .slots .now) (a .n) (a .limit) (fieldsRow (a .f)) (s .before .cells-of .result) (s .start-slot .result) (p .probe .result) (s .before .cells-of .ensures .0) (s .start-slot .ensures) (p .probe .ensures) (h .before .before .before .before .t .given .0 .0) (h .before .before .before .before .t .given .1) (m .result) (m .ensures)
+    inside (a .rows .now) (a .slots .now) (a .n) (a .limit) (fieldsRow (a .f)) (s .before .cells-of .result) (s .start-slot .result) (p .look-up .result) (s .before .cells-of .ensures .0) (s .start-slot .ensures) (p .look-up .ensures) (h .before .before .before .before .t .given .0 .0) (h .before .before .before .before .t .given .1) (m .result) (m .ensures)
 
 known : tie.Need-returns-2
 known c =
     let p = c .before .before .before in
     let s = p .before .before .before in
     let a = s .before .before .before .args in (
-      did-known (a .rows .now) (a .slots .now) (a .n) (a .limit) (fieldsRow (a .f)) (s .before .cells-of .result) (s .start-slot .result) (p .probe .result) (s .before .cells-of .ensures .0) (s .start-slot .ensures) (p .probe .ensures) (c .before .i .given .0 .0) (c .before .i .given .1),
+      did-known (a .rows .now) (a .slots .now) (a .n) (a .limit) (fieldsRow (a .f)) (s .before .cells-of .result) (s .start-slot .result) (p .look-up .result) (s .before .cells-of .ensures .0) (s .start-slot .ensures) (p .look-up .ensures) (c .before .i .given .0 .0) (c .before .i .given .1),
       s .before .cells-of .ensures .1,
     )
 
@@ -61,7 +60,7 @@ added c =
     let s = p .before .before .before in
     let a = s .before .before .before .args in
     let m = h .before .has-room in (
-      did-add (a .rows .now) (a .slots .now) (a .n) (a .limit) (fieldsRow (a .f)) (s .before .cells-of .result) (s .start-slot .result) (p .probe .result) (s .before .cells-of .ensures .0) (s .start-slot .ensures) (p .probe .ensures) (h .before .before .before .before .t .given .0 .0) (h .before .before .before .before .t .given .1) (m .result) (m .ensures) (not-false (m .result) (h .if1 .left)) (c .before .before .put-cells .last .0) (c .before .before .put-cells .ensures),
+      did-add (a .rows .now) (a .slots .now) (a .n) (a .limit) (fieldsRow (a .f)) (s .before .cells-of .result) (s .start-slot .result) (p .look-up .result) (s .before .cells-of .ensures .0) (s .start-slot .ensures) (p .look-up .ensures) (h .before .before .before .before .t .given .0 .0) (h .before .before .before .before .t .given .1) (m .result) (m .ensures) (not-false (m .result) (h .if1 .left)) (c .before .before .put-cells .last .0) (c .before .before .put-cells .ensures),
       s .before .cells-of .ensures .1,
     )
 
@@ -70,7 +69,7 @@ crowded c =
     let p = c .before .before in
     let s = p .before .before .before in
     let a = s .before .before .before .args in (
-      did-crowded (a .rows .now) (a .slots .now) (a .n) (a .limit) (fieldsRow (a .f)) (s .before .cells-of .result) (s .start-slot .result) (p .probe .result) (s .before .cells-of .ensures .0) (s .start-slot .ensures) (p .probe .ensures) (c .enum-told .given .1),
+      did-crowded (a .rows .now) (a .slots .now) (a .n) (a .limit) (fieldsRow (a .f)) (s .before .cells-of .result) (s .start-slot .result) (p .look-up .result) (s .before .cells-of .ensures .0) (s .start-slot .ensures) (p .look-up .ensures) (c .enum-told .given .1),
       s .before .cells-of .ensures .1,
     )
 

@@ -1,5 +1,6 @@
 -- `document::fields::cells_of` meets its contract, cell by cell. Assumes nothing.
 use borrow.Author.Needs.{needs}
+use Rattle.document.proofs.Numbers.{rows-long}
 use Rattle.document.proofs.Encoding.{kept-fields}
 use Rattle.document.proofs.fields.cells_of.Statement.{statement}
 use Rattle.document.proofs.fields.cells_of.Tie as tie
@@ -11,11 +12,11 @@ returns c = (
     c .before .low-cell3 .ensures,
     c .before .before .low-cell2 .ensures,
     c .before .before .before .low-cell .ensures,
-    c .before .before .before .before .payload .ensures .0,
+    c .before .before .before .before .payload .ensures,
     c .before .before .before .before .before .kind .ensures,
     c .before .before .before .before .before .before .settled .ensures,
   ),
-  kept-fields (c .before .before .before .before .before .before .before .before .args .f) (c .before .before .before .before .payload .result) (c .before .before .before .before .payload .ensures .0) (search needs) (search needs),
+  kept-fields (c .before .before .before .before .before .before .before .before .args .f) (c .before .before .before .before .payload .result) (c .before .before .before .before .payload .ensures) (search needs) (search (rows-long, needs)),
 )
 
 pub cells-of-spec : {M : Type 1} → statement M

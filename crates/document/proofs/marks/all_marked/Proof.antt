@@ -3,6 +3,7 @@ use Prim.Native.Nat.{_-_}
 use mathlib.Core.Bool.{false}
 use lib.ListN.{getD}
 use Rattle.model.proofs.Below.{Passed, loops}
+use Rattle.document.proofs.Marking.{marked-at}
 use Rattle.document.proofs.marks.all_marked.Statement.{statement}
 use Rattle.document.proofs.marks.all_marked.Tie as tie
 
@@ -18,10 +19,11 @@ all-marked-spec =
     (tie.spec
     Inv-loop
     μ-loop
-    (λ c. search loops)
-    (λ c κs. search loops)
-    (λ c. search loops)
-    (λ c. search loops)
-    (λ c. search loops)
-    (λ c. search loops)
-    (λ c. search loops))
+    (λ c. search (marked-at, loops))
+    (λ c κs. search (marked-at, loops))
+    (λ c κs. search (marked-at, loops))
+    (λ c. search (marked-at, loops))
+    (λ c. search (marked-at, loops))
+    (λ c. search (marked-at, loops))
+    (λ c. search (marked-at, loops))
+    (λ c. search (marked-at, loops)))

@@ -5,4 +5,4 @@ use Rattle.document.proofs.marks.is_marked.Statement.{statement}
 use Rattle.document.proofs.marks.is_marked.Tie as tie
 
 pub is-marked-spec : {M : Type 1} → statement M
-is-marked-spec = tie.close (tie.spec (λ c κs. search needs) (λ c. search needs) (λ c. cc) (λ c. search (past, needs)))
+is-marked-spec = tie.close (tie.spec (λ c. search needs) (λ c. search needs) (λ c. search (past, needs)))

@@ -1,6 +1,6 @@
 -- `document::rows::fields_at` meets its contract. Assumes nothing.
 use borrow.Author.Needs.{needs}
-use Rattle.document.specs.Put.{fieldsIn}
+use Rattle.document.specs.Fields.{fieldsIn}
 use Rattle.document.proofs.rows.fields_at.Statement.{statement}
 use Rattle.document.proofs.rows.fields_at.Tie as tie
 

@@ -1,34 +1,15 @@
--- `document::rows::put_cells` meets its contract: after k turns the first k cells are copied. Assumes nothing.
-use Prim.Native.Nat.{_-_}
-use Rattle.document.specs.Rows.{rowCells}
-use Rattle.document.proofs.Putting.{Copied, putting}
+-- `document::rows::put_cells` meets its contract. Assumes nothing.
+use borrow.Author.Needs.{needs}
 use Rattle.document.proofs.rows.put_cells.Statement.{statement}
 use Rattle.document.proofs.rows.put_cells.Tie as tie
-
-abbrev Inv-loop : tie.InvT-loop
-Inv-loop out₀ cells at k₀ out k = Copied out₀ cells at out k
-
-abbrev μ-loop : tie.MeasureT-loop
-μ-loop out₀ cells at k₀ out k = rowCells - k
 
 pub put-cells-spec : {M : Type 1} → statement M
 put-cells-spec =
     tie.close
     (tie.spec
-    Inv-loop
-    μ-loop
-    (λ c κs. search putting)
-    (λ c. search putting)
-    (λ c. search putting)
-    (λ c. search putting)
-    (λ c. search putting)
-    (λ c. search putting)
-    (λ c. search putting)
-    (λ c. search putting)
-    (λ c. search putting)
-    (λ c. search putting)
-    (λ c. search putting)
-    (λ c. search putting)
-    (λ c. search putting)
-    (λ c. search putting)
-    (λ c. search putting))
+    (λ c κs. search needs)
+    (λ c. search needs)
+    (λ c. search needs)
+    (λ c κs. search needs)
+    (λ c. search needs)
+    (λ c. cc))

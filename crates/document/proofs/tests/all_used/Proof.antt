@@ -2,6 +2,7 @@
 use Prim.Native.Nat.{_-_}
 use Rattle.model.specs.Limits.{maxRows}
 use Rattle.document.specs.Rows.{placesIn}
+use Rattle.document.proofs.Numbers.{numbers}
 use Rattle.document.proofs.Marking.{MarkedBelow, markings, rows-marked}
 use Rattle.document.proofs.tests.all_used.Statement.{statement}
 use Rattle.document.proofs.tests.all_used.Tie as tie
@@ -24,7 +25,7 @@ all-used-spec =
     (λ c κs. search markings)
     (λ c. search markings)
     (λ c. search markings)
-    (λ c. search markings)
+    (λ c. search (numbers, markings))
     (λ c. search markings)
     (λ c. search markings)
     (λ c κs. search markings)

@@ -7,7 +7,7 @@ use Rattle.document.proofs.tests.highest_child.Statement.{statement}
 use Rattle.document.proofs.tests.highest_child.Tie as tie
 
 abbrev Inv-loop : tie.InvT-loop
-Inv-loop rows heights i n k₀ h₀ k h = (n ≡ maxChildren) × Rising rows heights i h k
+Inv-loop rows heights i n k₀ h₀ k h = (n ≡ maxChildren) × Rising rows heights (i .0) h k
 
 abbrev μ-loop : tie.MeasureT-loop
 μ-loop rows heights i n k₀ h₀ k h = n - k

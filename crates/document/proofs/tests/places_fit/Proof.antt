@@ -7,7 +7,7 @@ use Rattle.document.proofs.tests.places_fit.Statement.{statement}
 use Rattle.document.proofs.tests.places_fit.Tie as tie
 
 abbrev Inv-loop : tie.InvT-loop
-Inv-loop rows i arity n k₀ k = Passed (child? rows i arity) maxChildren n k
+Inv-loop rows i arity n k₀ k = Passed (child? rows (i .0) arity) maxChildren n k
 
 abbrev μ-loop : tie.MeasureT-loop
 μ-loop rows i arity n k₀ k = n - k

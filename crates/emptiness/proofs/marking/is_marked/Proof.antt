@@ -9,7 +9,7 @@ use Rattle.emptiness.proofs.marking.is_marked.Tie as tie
 
 returns : tie.Need-returns
 unfolding marked?
-returns c = ap (λ x. not (eqb x 0)) (c .number-at .ensures)
+returns c = ap (λ x. not (eqb x 0)) (c .mark-of .ensures)
 
 pub is-marked-spec : {M : Type 1} → statement M
 is-marked-spec = tie.close (tie.spec (λ c κs. search needs) returns)

@@ -7,7 +7,7 @@ use Rattle.emptiness.proofs.marking.lowest_final.Statement.{statement}
 use Rattle.emptiness.proofs.marking.lowest_final.Tie as tie
 
 abbrev Inv-loop : tie.InvT-loop
-Inv-loop set added n best₀ x₀ best x = (x ≤ n) × LowestAdded (decode set) added x best
+Inv-loop set added n best₀ x₀ best x = (x ≤ n) × LowestAdded (decode set) added x (best .0)
 
 abbrev μ-loop : tie.MeasureT-loop
 μ-loop set added n best₀ x₀ best x = n - x

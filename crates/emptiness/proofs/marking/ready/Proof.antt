@@ -1,11 +1,12 @@
 -- `emptiness::marking::ready` meets its contract: every child before the loop's index is marked. Assumes nothing.
 use Prim.Native.Nat.{_-_}
+use borrow.Author.Needs.{needs}
 use lib.ListN.{length}
 use Rattle.model.specs.Written.{ruleAt}
 use Rattle.model.proofs.Below.{Passed}
 use Rattle.automaton.specs.Stored.{decode}
 use Rattle.emptiness.specs.Marking.{childMarked?}
-use Rattle.emptiness.proofs.Marks.{readying}
+use Rattle.emptiness.proofs.Marks.{child-few, readying}
 use Rattle.emptiness.proofs.marking.ready.Statement.{statement}
 use Rattle.emptiness.proofs.marking.ready.Tie as tie
 
@@ -24,8 +25,7 @@ ready-spec =
     (λ c κs. search readying)
     (λ c κs. search readying)
     (λ c. search readying)
-    (λ c. search readying)
-    (λ c κs. search readying)
+    (λ c κs. search (child-few, needs))
     (λ c. search readying)
     (λ c. search readying)
     (λ c. search readying)

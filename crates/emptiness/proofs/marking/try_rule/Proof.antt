@@ -7,7 +7,7 @@ use Rattle.emptiness.proofs.marking.try_rule.Statement.{statement}
 use Rattle.emptiness.proofs.marking.try_rule.Tie as tie
 
 later : tie.Need-returns-2
-later c = try-later _ _ _ _ (c .before .before .before .before .before .before .rule-target .ensures) _ _ _ _ (c .before .number-at .ensures) (not-true _ (c .if2 .taken))
+later c = try-later _ _ _ _ (c .before .before .before .before .before .before .rule-target .ensures) _ _ _ _ (c .before .mark-of .ensures) (not-true _ (c .if2 .taken))
 
 unready : tie.Need-returns-3
 unready c = try-unready _ _ _ _ (c .before .before .before .before .before .before .before .before .rule-target .ensures) _ _ _ _ (c .before .ready .ensures) (not-true _ (c .if3 .taken))
@@ -15,7 +15,7 @@ unready c = try-unready _ _ _ _ (c .before .before .before .before .before .befo
 lower : tie.Need-returns-4
 lower c =
     try-lower _ (c .before .before .before .before .before .before .before .before .before .before .before .before .before .pre .0) _ _ _ (c .before .before .before .before .before .before .before .before .before .before .before .before .before .pre .1) (c .before .before .before .before .before .before .before .before .before .before .rule-target .ensures) _ _ _ _
-    (c .before .before .before .before .before .number-at .ensures) (not-false _ (c .before .before .before .before .if2 .left)) _
+    (c .before .before .before .before .before .mark-of .ensures) (not-false _ (c .before .before .before .before .if2 .left)) _
     (c .before .before .before .before .before .before .before .before .before .is-marked .ensures) (c .before .before .before .before .before .before .before .before .if1 .left) _
     (c .before .before .before .ready .ensures) (not-false _ (c .before .before .if3 .left)) _ (c .before .size .ensures .0)
     (c .if4 .taken)
@@ -23,7 +23,7 @@ lower c =
 full : tie.Need-returns-5
 full c =
     try-full _ (c .before .before .before .before .before .before .before .before .before .before .before .before .before .before .before .pre .0) _ _ _ (c .before .before .before .before .before .before .before .before .before .before .before .before .before .before .before .pre .1) (c .before .before .before .before .before .before .before .before .before .before .before .before .rule-target .ensures) _ _ _ _
-    (c .before .before .before .before .before .before .before .number-at .ensures) (not-false _ (c .before .before .before .before .before .before .if2 .left)) _
+    (c .before .before .before .before .before .before .before .mark-of .ensures) (not-false _ (c .before .before .before .before .before .before .if2 .left)) _
     (c .before .before .before .before .before .before .before .before .before .before .before .is-marked .ensures) (c .before .before .before .before .before .before .before .before .before .before .if1 .left) _
     (c .before .before .before .before .before .ready .ensures) (not-false _ (c .before .before .before .before .if3 .left)) _ (c .before .before .before .size .ensures .0)
     _ (c .before .before .if4 .left) (c .before .size2 .ensures .0) (c .if5 .taken)
@@ -31,7 +31,7 @@ full c =
 new : tie.Need-returns-6
 new c =
     try-new _ (c .before .before .before .before .before .before .before .before .before .before .before .before .before .before .before .pre .0) _ _ _ (c .before .before .before .before .before .before .before .before .before .before .before .before .before .before .before .pre .1) (c .before .before .before .before .before .before .before .before .before .before .before .before .rule-target .ensures) _ _ _ _
-    (c .before .before .before .before .before .before .before .number-at .ensures) (not-false _ (c .before .before .before .before .before .before .if2 .left)) _
+    (c .before .before .before .before .before .before .before .mark-of .ensures) (not-false _ (c .before .before .before .before .before .before .if2 .left)) _
     (c .before .before .before .before .before .before .before .before .before .before .before .is-marked .ensures) (c .before .before .before .before .before .before .before .before .before .before .if1 .left) _
     (c .before .before .before .before .before .ready .ensures) (not-false _ (c .before .before .before .before .if3 .left)) _ (c .before .before .before .size .ensures .0)
     _ (c .before .before .if4 .left) (c .before .size2 .ensures .0) (c .if5 .left)

@@ -5,13 +5,14 @@ use native.Mathlib.Omega.{arith}
 use borrow.Author.Needs.{needs}
 use borrow.Fn.Kinds.{In}
 use borrow.Fn.PlainCycle.{Measures, is, falls, and}
+use Rattle.automaton.proofs.Parts.{length-mapped}
 use Rattle.membership.specs.Cells.{memoryOf, annotationsIn}
 use Rattle.membership.specs.Entries.{entriesIn, addEntries, Grown}
 use Rattle.membership.proofs.Searching.{Searching, found-none, start, next-ready, in-window, skip, again, full, all}
 use Rattle.membership.proofs.search.search.Reads as search′
 use Rattle.membership.proofs.search.search.Kinds as search-kinds
 use Rattle.membership.proofs.search.+search.Lts-search as search-lts
-use Rattle.membership.proofs.entries.fits.Reads as fits-reads
+use Rattle.membership.proofs.entries.choosable.Reads as choosable-reads
 use Rattle.membership.proofs.entries.joined_with.Reads as joined-with-reads
 use Rattle.membership.proofs.search.finish.Reads as finish-reads
 use Rattle.membership.proofs.search.with_child.Reads as with-child-reads
@@ -29,7 +30,7 @@ search-below t = and 3 search-kinds.ps (falls 3 search-kinds.ps _<_ μ-search t)
 
 -- the readings of what search calls, itself below t
 abbrev read : ℕ → search-lts.Claims
-read t = (finish-reads.Asked, finish-reads.Learnt, fits-reads.Asked, fits-reads.Learnt, joined-with-reads.Asked, joined-with-reads.Learnt, with-child-reads.Asked, with-child-reads.Learnt, search-below t, search′.Post)
+read t = (finish-reads.Asked, finish-reads.Learnt, choosable-reads.Asked, choosable-reads.Learnt, joined-with-reads.Asked, joined-with-reads.Learnt, with-child-reads.Asked, with-child-reads.Learnt, search-below t, search′.Post)
 
 abbrev Inv-loop : search-lts.InvT-loop
 Inv-loop work₀ own want left n memory children p end state m₀ j₀ work m j = Searching work₀ own want left n memory children work m j
@@ -59,11 +60,11 @@ mul-end t c = search needs
 array-read-end : (t : ℕ) → search-lts.Need-array-read-end (read t) (search-at t) search′.Post Inv-loop μ-loop
 array-read-end t c = search needs
 
-mul-t22 : (t : ℕ) → search-lts.Need-mul-t22 (read t) (search-at t) search′.Post Inv-loop μ-loop
-mul-t22 t c = search needs
+mul-state : (t : ℕ) → search-lts.Need-mul-state (read t) (search-at t) search′.Post Inv-loop μ-loop
+mul-state t c = search needs
 
-array-read-t28 : (t : ℕ) → search-lts.Need-array-read-t28 (read t) (search-at t) search′.Post Inv-loop μ-loop
-array-read-t28 t c = search needs
+array-copy-out-state : (t : ℕ) → search-lts.Need-array-copy-out-state (read t) (search-at t) search′.Post Inv-loop μ-loop
+array-copy-out-state t c = search (length-mapped, needs)
 
 mul-j : (t : ℕ) → search-lts.Need-mul-j (read t) (search-at t) search′.Post Inv-loop μ-loop
 mul-j t c = search needs
@@ -73,36 +74,36 @@ array-read-j t c = search needs
 
 loop-holds : (t : ℕ) → search-lts.Need-loop-holds (read t) (search-at t) search′.Post Inv-loop μ-loop
 loop-holds t c =
-    let a = c .before .before .before .before .before .before .before .before .args in
-    start (a .work .now) (a .own .now) (a .want) (a .left) (a .n) (a .memory .now) (a .children) (c .before .before .before .before .before .before .before .before .pre .1 .0) (c .before .before .before .before .before .before .before .before .pre .1 .3) (c .before .before .before .before .if1 .left)
+    let a = c .before .before .before .before .before .before .before .before .before .args in
+    start (a .work .now) (a .own .now) (a .want) (a .left) (a .n) (a .memory .now) (a .children) (c .before .before .before .before .before .before .before .before .before .pre .1 .0) (c .before .before .before .before .before .before .before .before .before .pre .1 .3) (c .before .before .before .before .before .if1 .left)
 
 add-j : (t : ℕ) → search-lts.Need-add-j (read t) (search-at t) search′.Post Inv-loop μ-loop
 add-j t c =
-    let a = c .before .before .before .before .before .before .before .before .before .before .args in
+    let a = c .before .before .before .before .before .before .before .before .before .before .before .args in
     let l = c .before .loop in
     let i = in-window (a .work .now) (a .own .now) (a .want) (a .left) (a .n) (a .memory .now) (a .children) (l .work) (l .m) (l .j) (l .inv) (c .loop-test .taken) in
     let r = next-ready (a .work .now) (a .own .now) (a .want) (a .left) (a .n) (a .memory .now) (a .children) (l .work) (l .m) (l .j) (l .inv) in
     omega (arith, i, r .known, r .count, r .few)
 
-fits-requires : (t : ℕ) → search-lts.Need-fits-requires (read t) (search-at t) search′.Post Inv-loop μ-loop
-fits-requires t c κs =
-    let a = c .before .before .before .before .before .before .before .before .before .before .before .args in
+choosable-requires : (t : ℕ) → search-lts.Need-choosable-requires (read t) (search-at t) search′.Post Inv-loop μ-loop
+choosable-requires t c κs =
+    let a = c .before .before .before .before .before .before .before .before .before .before .before .before .args in
     let l = c .before .before .loop in
     let i = in-window (a .work .now) (a .own .now) (a .want) (a .left) (a .n) (a .memory .now) (a .children) (l .work) (l .m) (l .j) (l .inv) (c .before .loop-test .taken) in
     let r = next-ready (a .work .now) (a .own .now) (a .want) (a .left) (a .n) (a .memory .now) (a .children) (l .work) (l .m) (l .j) (l .inv) in
-    (r .few-tags, c .before .before .before .before .before .before .before .before .before .before .before .pre .1 .2, omega (arith, i, r .known, r .count, r .space))
+    (r .few-tags, c .before .before .before .before .before .before .before .before .before .before .before .before .pre .1 .2, omega (arith, i, r .known, r .count, r .space))
 
 joined-with-requires : (t : ℕ) → search-lts.Need-joined-with-requires (read t) (search-at t) search′.Post Inv-loop μ-loop
 joined-with-requires t c κs =
-    let a = c .before .before .before .before .before .before .before .before .before .before .before .before .before .before .args in
+    let a = c .before .before .before .before .before .before .before .before .before .before .before .before .before .before .before .args in
     let l = c .before .before .before .before .before .loop in
     let i = in-window (a .work .now) (a .own .now) (a .want) (a .left) (a .n) (a .memory .now) (a .children) (l .work) (l .m) (l .j) (l .inv) (c .before .before .before .before .loop-test .taken) in
     let r = next-ready (a .work .now) (a .own .now) (a .want) (a .left) (a .n) (a .memory .now) (a .children) (l .work) (l .m) (l .j) (l .inv) in
-    (c .before .before .before .before .before .before .before .before .before .before .before .before .before .before .pre .1 .2, omega (arith, i, r .known, r .count, r .space))
+    (c .before .before .before .before .before .before .before .before .before .before .before .before .before .before .before .pre .1 .2, omega (arith, i, r .known, r .count, r .space))
 
 with-child-requires : (t : ℕ) → search-lts.Need-with-child-requires (read t) (search-at t) search′.Post Inv-loop μ-loop
 with-child-requires t c κs =
-    let a = c .before .before .before .before .before .before .before .before .before .before .before .before .before .before .before .args in
+    let a = c .before .before .before .before .before .before .before .before .before .before .before .before .before .before .before .before .args in
     let l = c .before .before .before .before .before .before .loop in
     let i = in-window (a .work .now) (a .own .now) (a .want) (a .left) (a .n) (a .memory .now) (a .children) (l .work) (l .m) (l .j) (l .inv) (c .before .before .before .before .before .loop-test .taken) in
     let r = next-ready (a .work .now) (a .own .now) (a .want) (a .left) (a .n) (a .memory .now) (a .children) (l .work) (l .m) (l .j) (l .inv) in
@@ -116,11 +117,11 @@ slice-aggregate-search t c = search needs
 
 search-requires : (t : ℕ) → search-lts.Need-search-requires (read t) (search-at t) search′.Post Inv-loop μ-loop
 search-requires t c κs =
-    let a = c .before .before .before .before .before .before .before .before .before .before .before .before .before .before .before .before .before .before .args in
+    let a = c .before .before .before .before .before .before .before .before .before .before .before .before .before .before .before .before .before .before .before .args in
     let l = c .before .before .before .before .before .before .before .before .before .loop in
     let some = l .inv .some in
     let within = l .inv .within in
-    let p = c .before .before .before .before .before .before .before .before .before .before .before .before .before .before .before .before .before .before .pre in
+    let p = c .before .before .before .before .before .before .before .before .before .before .before .before .before .before .before .before .before .before .before .pre in
     (omega (arith, some, p .0), (next-ready (a .work .now) (a .own .now) (a .want) (a .left) (a .n) (a .memory .now) (a .children) (l .work) (l .m) (l .j) (l .inv), p .1 .1, omega arith, omega (arith, some, within)))
 
 same-length-2 : (t : ℕ) → search-lts.Need-same-length-2 (read t) (search-at t) search′.Post Inv-loop μ-loop
@@ -128,9 +129,9 @@ same-length-2 t c = c .before .before .before .before .search .kept .0 ∙ c .be
 
 returns-2 : (t : ℕ) → search-lts.Need-returns-2 (read t) (search-at t) search′.Post Inv-loop μ-loop
 returns-2 t c =
-    let a = c .before .before .before .before .before .before .before .before .before .before .before .before .before .before .before .before .before .before .before .before .before .before .before .args in
+    let a = c .before .before .before .before .before .before .before .before .before .before .before .before .before .before .before .before .before .before .before .before .before .before .before .before .args in
     let l = c .before .before .before .before .before .before .before .before .before .before .before .before .before .before .loop in
-    let f = c .before .before .before .before .before .before .before .before .before .before .before .fits2 in
+    let f = c .before .before .before .before .before .before .before .before .before .before .before .choosable in
     let h = c .before .before .before .before .before .before .before .before .joined-with in
     let d = c .before .before .before .before .before .before .before .with-child in
     let s = c .before .before .before .before .search in
@@ -142,9 +143,9 @@ loop-less t c = search needs
 
 loop-again : (t : ℕ) → search-lts.Need-loop-again (read t) (search-at t) search′.Post Inv-loop μ-loop
 loop-again t c =
-    let a = c .before .before .before .before .before .before .before .before .before .before .before .before .before .before .before .before .before .before .before .before .before .before .before .args in
+    let a = c .before .before .before .before .before .before .before .before .before .before .before .before .before .before .before .before .before .before .before .before .before .before .before .before .args in
     let l = c .before .before .before .before .before .before .before .before .before .before .before .before .before .before .loop in
-    let f = c .before .before .before .before .before .before .before .before .before .before .before .fits2 in
+    let f = c .before .before .before .before .before .before .before .before .before .before .before .choosable in
     let h = c .before .before .before .before .before .before .before .before .joined-with in
     let d = c .before .before .before .before .before .before .before .with-child in
     let s = c .before .before .before .before .search in
@@ -156,9 +157,9 @@ loop-less-2 t c = search needs
 
 loop-again-2 : (t : ℕ) → search-lts.Need-loop-again-2 (read t) (search-at t) search′.Post Inv-loop μ-loop
 loop-again-2 t c =
-    let a = c .before .before .before .before .before .before .before .before .before .before .before .before .before .args in
+    let a = c .before .before .before .before .before .before .before .before .before .before .before .before .before .before .args in
     let l = c .before .before .before .before .loop in
-    let f = c .before .fits2 in
+    let f = c .before .choosable in
     skip (a .work .now) (a .own .now) (a .want) (a .left) (a .n) (a .memory .now) (a .children) (l .work) (l .m) (l .j) (l .inv) (c .before .before .before .loop-test .taken) (f .result) (f .ensures) (c .if2 .left)
 
 same-length-3 : (t : ℕ) → search-lts.Need-same-length-3 (read t) (search-at t) search′.Post Inv-loop μ-loop
@@ -166,7 +167,7 @@ same-length-3 t c = c .before .loop .inv .turning .space
 
 returns-3 : (t : ℕ) → search-lts.Need-returns-3 (read t) (search-at t) search′.Post Inv-loop μ-loop
 returns-3 t c =
-    let a = c .before .before .before .before .before .before .before .before .before .before .args in
+    let a = c .before .before .before .before .before .before .before .before .before .before .before .args in
     let l = c .before .loop in
     all (a .work .now) (a .own .now) (a .want) (a .left) (a .n) (a .memory .now) (a .children) (l .work) (l .m) (l .j) (l .inv) (c .loop-test .left)
 
@@ -181,13 +182,13 @@ pub +search-spec : {M : Type 1} → statement M
     (sub-p t)
     (mul-end t)
     (array-read-end t)
-    (mul-t22 t)
-    (array-read-t28 t)
+    (mul-state t)
+    (array-copy-out-state t)
     (mul-j t)
     (array-read-j t)
     (loop-holds t)
     (add-j t)
-    (fits-requires t)
+    (choosable-requires t)
     (joined-with-requires t)
     (with-child-requires t)
     (sub-search t)

@@ -1,10 +1,10 @@
 -- `membership::table::by_row` meets its contract. Assumes nothing.
-use mathlib.Core.Path.{_≡_, refl, ap, _∙_}
+use mathlib.Core.Path.{refl, ap, _∙_}
 use Prim.Native.Nat.{_+_, _-_}
 use native.Mathlib.Omega.{arith}
 use borrow.Author.Needs.{needs}
 use Rattle.automaton.specs.Stored.{decode}
-use Rattle.membership.proofs.Firsts.{first-at}
+use Rattle.membership.proofs.FirstRules.{first-at}
 use Rattle.membership.proofs.Rowing.{Rowing, zeros, few-rules, width-small, symbol-small, row-small, tags-small, rowing-start, next-ready, rowing-more, rowing-full, rowing-all}
 use Rattle.membership.proofs.table.by_row.Statement.{statement}
 use Rattle.membership.proofs.table.by_row.Tie as tie

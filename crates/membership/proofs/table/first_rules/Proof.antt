@@ -1,8 +1,8 @@
 -- `membership::table::first_rules` meets its contract. Assumes nothing.
 use Prim.Native.Nat.{_-_}
-use native.Mathlib.Omega.{arith}
 use Rattle.automaton.specs.Stored.{decode}
-use Rattle.membership.proofs.Firsts.{Ruling, ruling-more, ruling-all, rulings}
+use Rattle.automaton.proofs.Known.{known-first}
+use Rattle.membership.proofs.FirstRules.{Ruling, ruling-more, ruling-all, rulings}
 use Rattle.membership.proofs.table.first_rules.Statement.{statement}
 use Rattle.membership.proofs.table.first_rules.Tie as tie
 
@@ -16,7 +16,7 @@ loop-again : tie.Need-loop-again Inv-loop μ-loop
 loop-again c =
     let a = c .before .before .before .before .before .args in
     let l = c .before .before .before .loop in
-    ruling-more (decode (a .set .now)) (l .out) (l .f) (c .rules-from .result) (c .before .narrow .result) (l .inv) (c .before .before .loop-test .taken) (c .before .narrow .ensures) (c .rules-from .ensures .1 (c .before .before .before .before .before .pre))
+    ruling-more (decode (a .set .now)) (l .out) (l .f) (c .rules-from .result) (c .before .narrow .result) (l .inv) (c .before .before .loop-test .taken) (c .before .narrow .ensures) (known-first (a .set .now) (c .before .narrow .result) (c .rules-from .result) (c .before .before .before .before .before .pre) (c .rules-from .ensures))
 
 returns : tie.Need-returns Inv-loop μ-loop
 returns c =

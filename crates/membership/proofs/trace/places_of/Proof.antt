@@ -1,13 +1,12 @@
 -- `membership::trace::places_of` meets its contract. Assumes nothing.
 use Prim.Native.Nat.{_-_}
+use Rattle.automaton.proofs.Loops.{Filled, fills}
 use Rattle.membership.specs.Trace.{numberAt}
-use Rattle.membership.proofs.Own.{Filled}
-use Rattle.membership.proofs.Marks.{placed}
 use Rattle.membership.proofs.trace.places_of.Statement.{statement}
 use Rattle.membership.proofs.trace.places_of.Tie as tie
 
 abbrev Inv-loop : tie.InvT-loop
-Inv-loop work j out₀ p₀ out p = Filled 4 (numberAt work j) 4 out p
+Inv-loop work j out₀ p₀ out p = Filled (λ s. s .0) (numberAt work j) 4 out p
 
 abbrev μ-loop : tie.MeasureT-loop
 μ-loop work j out₀ p₀ out p = 4 - p
@@ -18,11 +17,11 @@ places-of-spec =
     (tie.spec
     Inv-loop
     μ-loop
-    (λ c. search placed)
-    (λ c κs. search placed)
-    (λ c. search placed)
-    (λ c. search placed)
-    (λ c. search placed)
-    (λ c. search placed)
-    (λ c. search placed)
-    (λ c. search placed))
+    (λ c. search fills)
+    (λ c κs. search fills)
+    (λ c. search fills)
+    (λ c. search fills)
+    (λ c. search fills)
+    (λ c. search fills)
+    (λ c. search fills)
+    (λ c. search fills))

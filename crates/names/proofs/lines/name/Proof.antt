@@ -1,5 +1,6 @@
--- Both lines start where the scans end. Assumes nothing.
+-- A line with bytes is taken from the first list, else the line of the second. Assumes nothing.
 use borrow.Author.Needs.{needs}
+use Rattle.names.proofs.Scan.{scanning}
 use Rattle.names.proofs.lines.name.Statement.{statement}
 use Rattle.names.proofs.lines.name.Tie as tie
 
@@ -8,6 +9,6 @@ name-spec =
     tie.close
     (tie.spec
     (λ c κs. search needs)
+    (λ c. search scanning)
     (λ c κs. search needs)
-    (λ c κs. search needs)
-    (λ c. c .name-from .ensures _ (c .before .before .line-start .ensures) (c .before .line-start2 .ensures)))
+    (λ c. search scanning))

@@ -13,4 +13,7 @@ put-step-spec =
     (λ c. search putting)
     (λ c κs. search putting)
     (λ c. search putting)
+    (λ c. search putting)
+    (λ c κs. search putting)
+    (λ c. search putting)
     (λ c. search putting))

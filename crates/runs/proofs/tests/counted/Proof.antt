@@ -10,4 +10,5 @@ counted-spec =
     tie.close
     (tie.spec
     (λ c κs. search needs)
+    (λ c. search needs)
     (λ c. cc))

@@ -17,13 +17,13 @@ returns : tie.Need-returns Inv-loop μ-loop
 returns c =
     let l = c .before .before .before .before .before .before .before .loop in
     two-rows _ _ _ _ (c .before .before .before .before .before .before .before .before .before .before .before .pre) _ _ _ _ _ (l .inv) (c .before .before .before .before .before .before .loop-test .taken) (c .before .before .before .row .ensures) (c .before .before .before .before .before .target .ensures) (c .before .before .before .before .tags-of .ensures)
-    _ (c .before .all-may-go .ensures) (not-true _ (c .if1 .taken))
+    _ (c .before .all-agree .ensures) (not-true _ (c .if1 .taken))
 
 loop-again : tie.Need-loop-again Inv-loop μ-loop
 loop-again c =
     let l = c .before .before .before .before .before .before .before .before .loop in
     held-more _ _ _ _ (c .before .before .before .before .before .before .before .before .before .before .before .before .pre) _ _ _ _ _ (l .inv) (c .before .before .before .before .before .before .before .loop-test .taken) (c .before .before .before .before .row .ensures) (c .before .before .before .before .before .before .target .ensures) (c .before .before .before .before .before .tags-of .ensures)
-    _ _ (c .before .before .all-may-go .ensures) (not-false _ (c .before .if1 .left)) (c .went .ensures)
+    _ _ (c .before .before .all-agree .ensures) (not-false _ (c .before .if1 .left)) (c .assigned .ensures)
 
 pub one-row-spec : {M : Type 1} → statement M
 one-row-spec =

@@ -1,15 +1,16 @@
 -- `runs::tests::places_fit` meets its contract. Assumes nothing.
 use Prim.Native.Nat.{_-_}
 use Rattle.model.specs.Limits.{maxChildren}
+use Rattle.model.specs.WrittenTest.{placeFits?}
 use Rattle.model.proofs.Below.{Passed, loops}
 use Rattle.automaton.specs.Stored.{decode}
 use Rattle.document.specs.Rows.{decodeRows}
-use Rattle.runs.specs.Check.{place?}
+use Rattle.runs.specs.Steps.{placeIn, decodeSteps}
 use Rattle.runs.proofs.tests.places_fit.Statement.{statement}
 use Rattle.runs.proofs.tests.places_fit.Tie as tie
 
 abbrev Inv-loop : tie.InvT-loop
-Inv-loop set rows run i n k₀ k = Passed (place? (decode set) (decodeRows rows) run (i .0)) maxChildren n k
+Inv-loop set rows run i n k₀ k = Passed (λ k. placeFits? (decode set) (decodeRows rows) (decodeSteps run) (i .0) k (placeIn run (i .0) k)) maxChildren n k
 
 abbrev μ-loop : tie.MeasureT-loop
 μ-loop set rows run i n k₀ k = n - k

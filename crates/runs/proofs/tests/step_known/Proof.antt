@@ -8,9 +8,9 @@ pub step-known-spec : {M : Type 1} → statement M
 step-known-spec =
     tie.close
     (tie.spec
-    (λ c κs. search (known-is, needs))
-    (λ c κs. search (known-is, needs))
-    (λ c κs. search (known-is, needs))
-    (λ c κs. search (known-is, needs))
-    (λ c κs. search (known-is, needs))
+    (λ c κs. search needs)
+    (λ c κs. search needs)
+    (λ c κs. search needs)
+    (λ c κs. search needs)
+    (λ c κs. search needs)
     (λ c. search (known-is, needs)))

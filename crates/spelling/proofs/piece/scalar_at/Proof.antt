@@ -1,7 +1,7 @@
 -- `spelling::piece::scalar_at` meets its contract: a row's kind and payload that are a scalar go to it and back. Assumes nothing.
 use mathlib.Core.Path.{ap}
 use borrow.Author.Needs.{needs}
-use Rattle.document.specs.Put.{fieldsIn}
+use Rattle.document.specs.Fields.{fieldsIn}
 use Rattle.spelling.proofs.Pieces.{row-scalar}
 use Rattle.spelling.proofs.piece.scalar_at.Statement.{statement}
 use Rattle.spelling.proofs.piece.scalar_at.Tie as tie

@@ -1,6 +1,6 @@
 -- The level falls: a term's list has one less, and the terms of a list have the list's. At the head of the list reader's loop the children so far stand before what is still to be read. Assumes nothing.
 use Prim.Native.Nat.{ℕ, _+_, _-_, _*_, _<_}
-use mathlib.Core.Path.{_≡_, refl, sym, ap, subst, _∙_}
+use mathlib.Core.Path.{_≡_, refl, sym, ap, _∙_}
 use mathlib.Core.Bool.{true}
 use native.Mathlib.Omega.{arith}
 use borrow.Author.Needs.{needs}
@@ -8,14 +8,15 @@ use borrow.Author.Tests.{not-true, not-false}
 use denote.Ref.{now}
 use lib.ListN.{length, getD}
 use Rattle.document.specs.Rows.{rowsBelow}
+use Rattle.document.specs.declared.scalar.Scalar.the-variants.{Bare}
 use Rattle.names.specs.Names.{letter?, findIn}
 use Rattle.names.specs.Table.{nameIn}
 use Rattle.term.specs.Grammar.{afterArgs, readTerm}
-use Rattle.term.specs.State.{settingOf, Held, namedOf}
+use Rattle.term.specs.State.{settingOf, namedOf}
 use Rattle.term.proofs.Bytes.{byte-inside}
 use Rattle.term.proofs.Ending.{says-by}
 use Rattle.term.proofs.Reading.{no-letter, too-deep, term-unnamed, term-leaf, term-args}
-use Rattle.term.proofs.Listing.{Listing, list-start, list-refused, list-ready, list-ahead, list-held, list-last, list-other, list-more}
+use Rattle.term.proofs.Listing.{Listing, list-start, list-refused, list-ready, list-ahead, list-held, list-last, list-other, list-more, says-bare}
 use Rattle.term.proofs.Meaning.{term-ahead, term-ends}
 use borrow.Fn.Kinds.{In}
 use borrow.Fn.PlainCycle.{Measures, is, falls, and}
@@ -28,8 +29,9 @@ use Rattle.term.proofs.reader.+arguments+term.Lts-term as term-lts
 use Rattle.names.proofs.bytes.is_letter.Reads as is-letter-reads
 use Rattle.term.proofs.reader.end_term.Reads as end-term-reads
 use Rattle.term.proofs.reader.leaf.Reads as leaf-reads
-use Rattle.term.proofs.reader.put_child.Reads as put-child-reads
+use Rattle.term.proofs.reader.no_children.Reads as no-children-reads
 use Rattle.term.proofs.reader.symbol_at.Reads as symbol-at-reads
+use Rattle.term.proofs.reader.with_child.Reads as with-child-reads
 use Rattle.term.proofs.scan.byte_at.Reads as byte-at-reads
 use Rattle.term.proofs.reader.+arguments+term.{statement}
 use Rattle.term.proofs.reader.+arguments+term.Tie.{close}
@@ -53,19 +55,21 @@ abbrev term-below : ℕ → In 5 term-kinds.ps
 term-below t = and 5 term-kinds.ps (falls 5 term-kinds.ps _<_ μ-term t) term.Pre
 
 abbrev Inv-loop : arguments-lts.InvT-loop
-Inv-loop text set names symbols limit rows₀ slots₀ used level start first symbol at₀ known₀ children₀ places₀ rows slots at known children places =
-    Listing (readTerm (settingOf set names symbols limit) text level) text start (rowsBelow rows₀ used) limit rows slots at known children places × (length rows ≡ length rows₀)
+Inv-loop text set names symbols limit rows₀ slots₀ used level start first symbol at₀ known₀ count₀ fields₀ rows slots at known count fields =
+    Listing (readTerm (settingOf set names symbols limit) text level) text start (rowsBelow rows₀ used) limit rows slots at known count (fields .places) × (length rows ≡ length rows₀) × (fields .symbol ≡ symbol) × (fields .scalar ≡ Bare)
 
 abbrev μ-loop : arguments-lts.MeasureT-loop
-μ-loop text set names symbols limit rows₀ slots₀ used level start first symbol at₀ known₀ children₀ places₀ rows slots at known children places = length text - at
+μ-loop text set names symbols limit rows₀ slots₀ used level start first symbol at₀ known₀ count₀ fields₀ rows slots at known count fields = length text - at
 
 -- what the calls of the list reader and of the term reader ask and tell
 abbrev list : ℕ → arguments-lts.Claims
 list t = (
+  no-children-reads.Asked,
+  no-children-reads.Learnt,
   term-below t,
   term.Post,
-  put-child-reads.Asked,
-  put-child-reads.Learnt,
+  with-child-reads.Asked,
+  with-child-reads.Learnt,
   byte-at-reads.Asked,
   byte-at-reads.Learnt,
   end-term-reads.Asked,
@@ -87,35 +91,41 @@ one t = (
 )
 
 arguments-loop-holds : (t : ℕ) → arguments-lts.Need-loop-holds (list t) (arguments-at t) arguments.Post Inv-loop μ-loop
-arguments-loop-holds t c = (list-start _ _ _ _ _ _ _ _ refl (c .before .before .before .before .pre .1 .0), refl)
+arguments-loop-holds t c =
+    let is = c .no-children .ensures in (
+      list-start _ _ _ _ _ _ _ _ _ _ _ is refl (c .before .before .before .before .before .pre .1 .0),
+      refl,
+      ap (λ f. f .symbol) is,
+      ap (λ f. f .scalar) is,
+    )
 
 arguments-term-requires : (t : ℕ) → arguments-lts.Need-term-requires (list t) (arguments-at t) arguments.Post Inv-loop μ-loop
-arguments-term-requires t c κs = (omega (arith, c .before .before .before .before .before .before .before .pre .0), (c .before .before .loop .inv .0 .ready, c .before .before .before .before .before .before .before .pre .1 .1))
+arguments-term-requires t c κs = (omega (arith, c .before .before .before .before .before .before .before .before .pre .0), (c .before .before .loop .inv .0 .ready, c .before .before .before .before .before .before .before .before .pre .1 .1))
 
 arguments-returns : (t : ℕ) → arguments-lts.Need-returns (list t) (arguments-at t) arguments.Post Inv-loop μ-loop
 arguments-returns t c =
     says-by _ _ _ _
-    (ap (afterArgs _ (c .before .before .before .before .before .before .before .before .before .before .before .before .before .args .first) (c .before .before .before .before .before .before .before .before .before .before .before .before .before .args .symbol))
-    (list-refused _ _ _ _ _ (term-ends _ _ _) (term-ahead _ _ _ _ (c .before .before .before .before .before .before .before .before .before .before .before .before .before .pre .1 .1 .1) _ _) _ _ _ _ _ _ (c .before .before .before .before .before .before .before .before .loop .inv .0) _ _ _ (c .before .before .before .before .before .term .ensures) _ _ (c .before .w .given .1)))
+    (ap (afterArgs _ (c .before .before .before .before .before .before .before .before .before .before .before .before .before .before .args .first) (c .before .before .before .before .before .before .before .before .before .before .before .before .before .before .args .symbol))
+    (list-refused _ _ _ _ _ (term-ends _ _ _) (term-ahead _ _ _ _ (c .before .before .before .before .before .before .before .before .before .before .before .before .before .before .pre .1 .1 .1) _ _) _ _ _ _ _ (c .before .before .before .before .before .before .before .before .loop .fields) (c .before .before .before .before .before .before .before .before .loop .inv .0) _ _ _ (c .before .before .before .before .before .term .ensures) _ _ (c .before .w .given .1)))
     refl
 
 -- a term of the list was read
-arguments-add-children : (t : ℕ) → arguments-lts.Need-add-children (list t) (arguments-at t) arguments.Post Inv-loop μ-loop
-arguments-add-children t c =
+arguments-add-count : (t : ℕ) → arguments-lts.Need-add-count (list t) (arguments-at t) arguments.Post Inv-loop μ-loop
+arguments-add-count t c =
     omega (
       arith,
-      c .before .before .before .before .before .before .before .before .before .before .loop .inv .0 .few,
+      c .before .before .before .before .before .before .before .before .before .loop .inv .0 .few,
       c .before .before .before .before .before .before .before .before .before .before .before .before .before .before .before .good .0,
-      list-ahead _ _ _ _ _ (term-ends _ _ _) (term-ahead _ _ _ _ (c .before .before .before .before .before .before .before .before .before .before .before .before .before .before .before .pre .1 .1 .1) _ _) _ _ _ _ _ _ (c .before .before .before .before .before .before .before .before .before .before .loop .inv .0) _ _ _ (c .before .before .before .before .before .before .before .term .ensures) _ _ _ (c .before .before .before .j .given .1),
+      list-ahead _ _ _ _ _ (term-ends _ _ _) (term-ahead _ _ _ _ (c .before .before .before .before .before .before .before .before .before .before .before .before .before .before .before .pre .1 .1 .1) _ _) _ _ _ _ _ (c .before .before .before .before .before .before .before .before .before .loop .fields) (c .before .before .before .before .before .before .before .before .before .loop .inv .0) _ _ _ (c .before .before .before .before .before .before .term .ensures) _ _ _ (c .before .before .j .given .1),
     )
 
 arguments-add-end-term : (t : ℕ) → arguments-lts.Need-add-end-term (list t) (arguments-at t) arguments.Post Inv-loop μ-loop
 arguments-add-end-term t c =
-    omega (arith, c .before .before .before .before .before .before .before .before .before .before .before .before .before .before .before .before .before .before .before .good .0, byte-inside (now (c .before .before .before .before .before .before .before .before .before .before .before .before .before .before .before .before .before .before .before .args .text)) (c .before .before .before .before .before .before .before .j .given .0 .1 .0) (c .before .before .before .byte-at .result) (c .before .before .before .byte-at .ensures) (omega (arith, c .before .before .if1 .taken)))
+    omega (arith, c .before .before .before .before .before .before .before .before .before .before .before .before .before .before .before .before .before .before .before .good .0, byte-inside (now (c .before .before .before .before .before .before .before .before .before .before .before .before .before .before .before .before .before .before .before .args .text)) (c .before .before .before .before .before .before .j .given .0 .1 .0) (c .before .before .before .byte-at .result) (c .before .before .before .byte-at .ensures) (omega (arith, c .before .before .if1 .taken)))
 
 arguments-end-term-requires : (t : ℕ) → arguments-lts.Need-end-term-requires (list t) (arguments-at t) arguments.Post Inv-loop μ-loop
 arguments-end-term-requires t c κs = (
-  list-ready _ _ _ _ _ (term-ends _ _ _) (term-ahead _ _ _ _ (c .before .before .before .before .before .before .before .before .before .before .before .before .before .before .before .before .before .before .before .pre .1 .1 .1) _ _) _ _ _ _ _ _ (c .before .before .before .before .before .before .before .before .before .before .before .before .before .before .loop .inv .0) _ _ _ (c .before .before .before .before .before .before .before .before .before .before .before .term .ensures) _ _ _ (c .before .before .before .before .before .before .before .j .given .1),
+  list-ready _ _ _ _ _ (term-ends _ _ _) (term-ahead _ _ _ _ (c .before .before .before .before .before .before .before .before .before .before .before .before .before .before .before .before .before .before .before .pre .1 .1 .1) _ _) _ _ _ _ _ (c .before .before .before .before .before .before .before .before .before .before .before .before .before .loop .fields) (c .before .before .before .before .before .before .before .before .before .before .before .before .before .loop .inv .0) _ _ _ (c .before .before .before .before .before .before .before .before .before .before .term .ensures) _ _ _ (c .before .before .before .before .before .before .j .given .1),
   c .before .before .before .before .before .before .before .before .before .before .before .before .before .before .before .before .before .before .before .pre .1 .1 .0,
 )
 
@@ -123,37 +133,38 @@ arguments-returns-2 : (t : ℕ) → arguments-lts.Need-returns-2 (list t) (argum
 arguments-returns-2 t c =
     says-by _ _ _ _
     (ap (afterArgs _ (c .before .before .before .before .before .before .before .before .before .before .before .before .before .before .before .before .before .before .before .before .before .before .args .first) (c .before .before .before .before .before .before .before .before .before .before .before .before .before .before .before .before .before .before .before .before .before .before .args .symbol))
-    (list-last _ _ _ _ _ (term-ends _ _ _) (term-ahead _ _ _ _ (c .before .before .before .before .before .before .before .before .before .before .before .before .before .before .before .before .before .before .before .before .before .before .pre .1 .1 .1) _ _) _ _ _ _ _ _ (c .before .before .before .before .before .before .before .before .before .before .before .before .before .before .before .before .before .loop .inv .0) _ _ _ (c .before .before .before .before .before .before .before .before .before .before .before .before .before .before .term .ensures) _ _ _ (c .before .before .before .before .before .before .before .before .before .before .j .given .1)
+    (list-last _ _ _ _ _ (term-ends _ _ _) (term-ahead _ _ _ _ (c .before .before .before .before .before .before .before .before .before .before .before .before .before .before .before .before .before .before .before .before .before .before .pre .1 .1 .1) _ _) _ _ _ _ _ (c .before .before .before .before .before .before .before .before .before .before .before .before .before .before .before .before .loop .fields) (c .before .before .before .before .before .before .before .before .before .before .before .before .before .before .before .before .loop .inv .0) _ _ _ (c .before .before .before .before .before .before .before .before .before .before .before .before .before .term .ensures) _ _ _ (c .before .before .before .before .before .before .before .before .before .j .given .1)
     (sym (c .before .before .before .before .before .before .byte-at .ensures) ∙ c .before .before .before .before .before .if1 .taken)))
+    (says-bare _ _ _ _ _ _ _ _ _ _ (c .before .before .before .before .before .before .before .with-child .result) (ap (λ f. f .symbol) (c .before .before .before .before .before .before .before .with-child .ensures) ∙ c .before .before .before .before .before .before .before .before .before .before .before .before .before .before .before .before .loop .inv .2) (ap (λ f. f .scalar) (c .before .before .before .before .before .before .before .with-child .ensures) ∙ c .before .before .before .before .before .before .before .before .before .before .before .before .before .before .before .before .loop .inv .3)
     (c .before .before .end-term .ensures _
-    (subst (Held _ _) (sym (c .before .before .before .before .before .before .before .put-child .ensures))
-    (list-held _ _ _ _ _ (term-ends _ _ _) (term-ahead _ _ _ _ (c .before .before .before .before .before .before .before .before .before .before .before .before .before .before .before .before .before .before .before .before .before .before .pre .1 .1 .1) _ _) _ _ _ _ _ _ (c .before .before .before .before .before .before .before .before .before .before .before .before .before .before .before .before .before .loop .inv .0) _ _ _ (c .before .before .before .before .before .before .before .before .before .before .before .before .before .before .term .ensures) _ _ _ (c .before .before .before .before .before .before .before .before .before .before .j .given .1))))
+    (list-held _ _ _ _ _ (term-ends _ _ _) (term-ahead _ _ _ _ (c .before .before .before .before .before .before .before .before .before .before .before .before .before .before .before .before .before .before .before .before .before .before .pre .1 .1 .1) _ _) _ _ _ _ _ (c .before .before .before .before .before .before .before .before .before .before .before .before .before .before .before .before .loop .fields) (c .before .before .before .before .before .before .before .before .before .before .before .before .before .before .before .before .loop .inv .0) _ _ _ (c .before .before .before .before .before .before .before .before .before .before .before .before .before .term .ensures) _ _ _ (c .before .before .before .before .before .before .before .before .before .j .given .1) _ (c .before .before .before .before .before .before .before .with-child .ensures))))
 
 arguments-returns-3 : (t : ℕ) → arguments-lts.Need-returns-3 (list t) (arguments-at t) arguments.Post Inv-loop μ-loop
 arguments-returns-3 t c =
     says-by _ _ _ _
     (ap (afterArgs _ (c .before .before .before .before .before .before .before .before .before .before .before .before .before .before .before .before .before .before .args .first) (c .before .before .before .before .before .before .before .before .before .before .before .before .before .before .before .before .before .before .args .symbol))
-    (list-other _ _ _ _ _ (term-ends _ _ _) (term-ahead _ _ _ _ (c .before .before .before .before .before .before .before .before .before .before .before .before .before .before .before .before .before .before .pre .1 .1 .1) _ _) _ _ _ _ _ _ (c .before .before .before .before .before .before .before .before .before .before .before .before .before .loop .inv .0) _ _ _ (c .before .before .before .before .before .before .before .before .before .before .term .ensures) _ _ _ (c .before .before .before .before .before .before .j .given .1)
+    (list-other _ _ _ _ _ (term-ends _ _ _) (term-ahead _ _ _ _ (c .before .before .before .before .before .before .before .before .before .before .before .before .before .before .before .before .before .before .pre .1 .1 .1) _ _) _ _ _ _ _ (c .before .before .before .before .before .before .before .before .before .before .before .before .loop .fields) (c .before .before .before .before .before .before .before .before .before .before .before .before .loop .inv .0) _ _ _ (c .before .before .before .before .before .before .before .before .before .term .ensures) _ _ _ (c .before .before .before .before .before .j .given .1)
     (λ e. c .if2 .taken (c .before .before .byte-at .ensures ∙ e)) (λ e. c .before .if1 .left (c .before .before .byte-at .ensures ∙ e))))
     refl
 
 arguments-add-at : (t : ℕ) → arguments-lts.Need-add-at (list t) (arguments-at t) arguments.Post Inv-loop μ-loop
 arguments-add-at t c =
-    omega (arith, c .before .before .before .before .before .before .before .before .before .before .before .before .before .before .before .before .before .before .good .0, byte-inside (now (c .before .before .before .before .before .before .before .before .before .before .before .before .before .before .before .before .before .before .args .text)) (c .before .before .before .before .before .before .j .given .0 .1 .0) (c .before .before .byte-at .result) (c .before .before .byte-at .ensures) (omega (arith, c .if2 .left)))
+    omega (arith, c .before .before .before .before .before .before .before .before .before .before .before .before .before .before .before .before .before .before .good .0, byte-inside (now (c .before .before .before .before .before .before .before .before .before .before .before .before .before .before .before .before .before .before .args .text)) (c .before .before .before .before .before .j .given .0 .1 .0) (c .before .before .byte-at .result) (c .before .before .byte-at .ensures) (omega (arith, c .if2 .left)))
 
 arguments-loop-less : (t : ℕ) → arguments-lts.Need-loop-less (list t) (arguments-at t) arguments.Post Inv-loop μ-loop
 arguments-loop-less t c =
     omega (
       arith,
-      list-ahead _ _ _ _ _ (term-ends _ _ _) (term-ahead _ _ _ _ (c .before .before .before .before .before .before .before .before .before .before .before .before .before .before .before .before .before .before .pre .1 .1 .1) _ _) _ _ _ _ _ _ (c .before .before .before .before .before .before .before .before .before .before .before .before .before .loop .inv .0) _ _ _ (c .before .before .before .before .before .before .before .before .before .before .term .ensures) _ _ _ (c .before .before .before .before .before .before .j .given .1),
+      list-ahead _ _ _ _ _ (term-ends _ _ _) (term-ahead _ _ _ _ (c .before .before .before .before .before .before .before .before .before .before .before .before .before .before .before .before .before .before .pre .1 .1 .1) _ _) _ _ _ _ _ (c .before .before .before .before .before .before .before .before .before .before .before .before .loop .fields) (c .before .before .before .before .before .before .before .before .before .before .before .before .loop .inv .0) _ _ _ (c .before .before .before .before .before .before .before .before .before .term .ensures) _ _ _ (c .before .before .before .before .before .j .given .1),
     )
 
 arguments-loop-again : (t : ℕ) → arguments-lts.Need-loop-again (list t) (arguments-at t) arguments.Post Inv-loop μ-loop
 arguments-loop-again t c = (
-  subst (Listing _ _ _ _ _ _ _ _ _ _) (sym (c .before .before .before .put-child .ensures))
-      (list-more _ _ _ _ _ (term-ends _ _ _) (term-ahead _ _ _ _ (c .before .before .before .before .before .before .before .before .before .before .before .before .before .before .before .before .before .before .pre .1 .1 .1) _ _) _ _ _ _ _ _ (c .before .before .before .before .before .before .before .before .before .before .before .before .before .loop .inv .0) _ _ _ (c .before .before .before .before .before .before .before .before .before .before .term .ensures) _ _ _ (c .before .before .before .before .before .before .j .given .1)
-      (sym (c .before .before .byte-at .ensures) ∙ c .if2 .left)),
+  list-more _ _ _ _ _ (term-ends _ _ _) (term-ahead _ _ _ _ (c .before .before .before .before .before .before .before .before .before .before .before .before .before .before .before .before .before .before .pre .1 .1 .1) _ _) _ _ _ _ _ (c .before .before .before .before .before .before .before .before .before .before .before .before .loop .fields) (c .before .before .before .before .before .before .before .before .before .before .before .before .loop .inv .0) _ _ _ (c .before .before .before .before .before .before .before .before .before .term .ensures) _ _ _ (c .before .before .before .before .before .j .given .1) _ (c .before .before .before .with-child .ensures)
+      (sym (c .before .before .byte-at .ensures) ∙ c .if2 .left),
   search needs,
+  ap (λ f. f .symbol) (c .before .before .before .with-child .ensures) ∙ c .before .before .before .before .before .before .before .before .before .before .before .before .loop .inv .2,
+  ap (λ f. f .scalar) (c .before .before .before .with-child .ensures) ∙ c .before .before .before .before .before .before .before .before .before .before .before .before .loop .inv .3,
 )
 
 -- the term reader: what stands at the place
@@ -201,6 +212,7 @@ pub +arguments+term-spec : {M : Type 1} → statement M
 +arguments+term-spec =
     close μ-arguments μ-term
     (λ t. arguments-lts.spec (list t) (arguments-at t) arguments.Post Inv-loop μ-loop
+    (λ c κs. search needs)
     (arguments-loop-holds t)
     (arguments-term-requires t)
     (λ c. search needs)
@@ -208,7 +220,7 @@ pub +arguments+term-spec : {M : Type 1} → statement M
     (arguments-returns t)
     (λ c. search needs)
     (λ c κs. search needs)
-    (arguments-add-children t)
+    (arguments-add-count t)
     (λ c κs. search needs)
     (arguments-add-end-term t)
     (arguments-end-term-requires t)

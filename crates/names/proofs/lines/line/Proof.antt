@@ -1,0 +1,19 @@
+-- The line ends where the scan from its start ends. Assumes nothing.
+use borrow.Author.Needs.{needs}
+use Rattle.names.proofs.Scan.{line-is}
+use Rattle.names.proofs.lines.line.Statement.{statement}
+use Rattle.names.proofs.lines.line.Tie as tie
+
+returns : tie.Need-returns
+returns c = line-is _ _ _ (c .before .before .line-start .ensures) _ (c .before .line-end .ensures)
+
+pub line-spec : {M : Type 1} → statement M
+line-spec =
+    tie.close
+    (tie.spec
+    (λ c κs. search needs)
+    (λ c κs. search needs)
+    (λ c. search needs)
+    (λ c. search needs)
+    (λ c. search needs)
+    returns)
