@@ -3,7 +3,7 @@ use mathlib.Core.Path.{_≡_, refl, sym, ap, _∙_, subst}
 use mathlib.Core.List.{List, _++_}
 use mathlib.Core.Option.{Option, none, some}
 use mathlib.Core.Logic.{_↔_}
-use Prim.Native.Nat.{ℕ, zero, suc, _*_, _/_, _≤_}
+use Prim.Native.Nat.{ℕ, zero, suc, _*_, _/_}
 use native.Mathlib.Omega.{arith}
 use lib.Dec.{leb}
 use lib.ListN.{length, drop}
@@ -22,10 +22,10 @@ use Rattle.automaton.specs.Stored.{decode}
 use Rattle.automaton.specs.Check.{checkOf}
 use Rattle.automaton.proofs.Sound.{sound-decode}
 use Rattle.document.specs.Rows.{rowCells, decodeRows, encodeRows}
-use Rattle.document.specs.Check.{documentCheckOf}
 use Rattle.document.proofs.Refusals.{passed, both-passed}
 use Rattle.document.proofs.Sound.{document-passes, rows-back}
-use Rattle.emptiness.specs.Answer.{sampleCheckOf, witnessCheckOf, shapeOf, spaceOf, emptinessOf, spaceAfter}
+use Rattle.emptiness.specs.Answer.{sampleCheckOf, witnessCheckOf, shapeOf, spaceOf, emptinessOf}
+use Rattle.emptiness.specs.Meaning.{LetIn, Sample}
 
 -- no number refuses: the set is sound, and no two states share a tag
 pub checked : (set : List ℕ) (space : ℕ) → witnessCheckOf set space ≡ 0 → (checkOf set ≡ 0) × Sound (decode set) × Apart (decode set)
@@ -54,11 +54,6 @@ dead-means set space e =
       λ a. d .0 (no-rest (witnessCheckOf set space) (witness (decode set)) a .1),
       λ h. unrefused (witnessCheckOf set space) (witness (decode set)) none e (d .1 h),
     )
-
--- The cells hold a document that the set lets in: a table that no number refuses, of an accepted tree.
-pub record LetIn (set cells : List ℕ) : Type 0 where
-  pub passes : documentCheckOf set cells ≡ 0
-  pub accepted : Accepts (decode set) (treeOf (decodeRows cells))
 
 module _ (set : List ℕ) (space : ℕ) (e : witnessCheckOf set space ≡ 0) where
   -- the witness's own rows are such a document
@@ -97,19 +92,8 @@ module _ (set : List ℕ) (space : ℕ) (e : witnessCheckOf set space ≡ 0) whe
       back cells d none eo = absurd (dead-documents .0 (unrefused (witnessCheckOf set space) (witness (decode set)) none e eo) cells d)
       back cells d (some w) eo = (length (rowsOf w), levels w, unrefused (witnessCheckOf set space) (witness (decode set)) (some w) e eo)
 
--- What a live answer means: the tree of the rows at the front of the space, a document that the set lets in.
-pub record Sample (set cells : List ℕ) (n h : ℕ) : Type 0 where
-  pub tree : Tree
-  pub rows : n ≡ length (rowsOf tree)
-  pub height : h ≡ levels tree
-  pub space : spaceAfter set cells ≡ encodeRows (rowsOf tree) ++ drop (n * rowCells) cells
-  pub let-in : LetIn set (encodeRows (rowsOf tree))
-  pub tree-is : treeOf (rowsOf tree) ≡ tree
-  pub accepted : Accepts (decode set) tree
-  pub no-lower : (t : Tree) → Accepts (decode set) t → levels tree ≤ levels t
-
 -- the witness behind a live answer
-pub record Behind (n : ℕ) (o : Option Tree) (r h : ℕ) : Type 0 where
+record Behind (n : ℕ) (o : Option Tree) (r h : ℕ) : Type 0 where
   pub unrefused : n ≡ 0
   pub tree : Tree
   pub is : o ≡ some tree

@@ -3,3 +3,4 @@ pub mod Marking
 pub mod Tags
 pub mod Building
 pub mod Answer
+pub mod Meaning
