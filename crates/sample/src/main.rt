@@ -1,13 +1,23 @@
-// The sample program: reads a stored set, and prints the height and the text of the lowest document that it lets in, or that it is dead.
+// The sample program: reads a stored set, and prints the height and the text of the lowest document that it lets in, or that it is dead. Where the input cannot be read to its end it prints nothing.
 use console::INPUT;
 use console::OUTPUT;
+use libc::STDERR_FILENO;
 use libc::STDIN_FILENO;
 use libc::STDOUT_FILENO;
+use stream::Received;
 
 fn main() {
     let mut input = [0u8; INPUT];
     let mut output = [0u8; OUTPUT];
-    let n = io::read_full(STDIN_FILENO, &mut input);
+    let Received::Whole(n) = stream::receive(STDIN_FILENO, &mut input) else {
+        io::write_all(
+            STDERR_FILENO,
+            b"sample: the input could not be read to its end\n",
+        );
+        return;
+    };
     let k = console::sample(&input[..n], &mut output);
-    io::write_all(STDOUT_FILENO, &output[..k]);
+    if !io::write_all(STDOUT_FILENO, &output[..k]) {
+        io::write_all(STDERR_FILENO, b"sample: the answer could not be written\n");
+    }
 }
