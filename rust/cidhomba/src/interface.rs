@@ -2,6 +2,14 @@
 //!
 //! A slice passes as a pointer and a count of elements. The library keeps no pointer past a call, reads and
 //! writes nothing outside the slices, and writes only to those that are lent mutably; so every call below is sound.
+//!
+//! ```
+//! use cidhomba::{interface, word};
+//!
+//! let set = include_bytes!("../../../examples/e.set");
+//! assert_eq!(interface::check_automaton(set), 0);
+//! assert_eq!(word::parts(interface::check_automaton(&set[..58])), Err((3, 0)));
+//! ```
 
 extern "C" {
     fn cidhomba_check_automaton(set: *const u8, set_length: usize) -> u64;

@@ -1,14 +1,64 @@
 //! Shape sets and the documents that they let in: a safe wrapper over the verified library's C interface.
 //!
-//! A set is bytes in the stored form, a table is rows of ten 16-bit cells, a run is steps of six, as document 01
-//! lays them out. Every function takes any input and either answers or refuses; a refusal writes to no result
-//! space. Spaces are lent: what comes back is the part at their front that was written, the rest is unchanged.
+//! A set is bytes in the stored form, a document is a table of rows of ten 16-bit cells, a run is steps of six;
+//! `docs/FORMATS.md` in the repository lays them out, and term text and its name lists with them. Every function
+//! takes any input and either answers or refuses; a refusal writes to no result space. Spaces are lent: what comes
+//! back is the part at their front that was written, the rest is unchanged.
+//!
+//! A call needs at most 128 KiB of stack, allocates nothing, and keeps no state, so that several threads may call
+//! at once.
+//!
+//! # Example
+//!
+//! Set E demands a pair of two leaves that are equal, each an `a` or a `b`: both are in state 0, whose tag goes to
+//! one row only.
+//!
+//! ```
+//! use cidhomba::*;
+//!
+//! const SET_E: [u8; 59] = [
+//!     3, 0, 2, 0, 1, 0, 3, 0, // 3 symbols, 2 states, 1 tag, 3 rules
+//!     16, 0, 19, 0, 23, 0, 59, 0, // where symbols, states and rules begin, and the end
+//!     2, 0, 0, // pair has 2 children, a and b have none
+//!     0, 1, 1, 0, // state 0 is not final and has tag 0; state 1 is final and has no tag
+//!     0, 0, 1, 0, 0, 0, 0, 0, 255, 255, 255, 255, // pair(0,0) to 1
+//!     1, 0, 0, 0, 255, 255, 255, 255, 255, 255, 255, 255, // a to 0
+//!     2, 0, 0, 0, 255, 255, 255, 255, 255, 255, 255, 255, // b to 0
+//! ];
+//!
+//! /// Whether set E lets in the document of a text.
+//! fn let_in(text: &str) -> Result<bool, Refusal> {
+//!     const ROOM: usize = 512;
+//!     let names = Names { site: b"pair\na\nb", built_in: b"" };
+//!     let mut rows = vec![0; ROW_CELLS * MAX_ROWS];
+//!     let rows = read_term(&SET_E, names, text.as_bytes(), &mut rows)?;
+//!     let (mut work, mut run) = (vec![0; ANNOTATION_CELLS * ROOM], vec![0; STEP_CELLS * ROOM]);
+//!     let judgement = membership(&SET_E, rows, &mut work, &mut run)?;
+//!     Ok(matches!(judgement, Judgement::Yes(_)))
+//! }
+//!
+//! for text in ["pair(a=7,a=7)", "pair(a=7,a=8)", "pair(a=7,c)"] {
+//!     match let_in(text) {
+//!         Ok(true) => println!("{text}: let in"),
+//!         Ok(false) => println!("{text}: turned away"),
+//!         Err(refusal) => println!("{text}: {refusal}"),
+//!     }
+//! }
+//! assert_eq!(let_in("pair(a=7,a=7)"), Ok(true));
+//! assert_eq!(let_in("pair(a=7,a=8)"), Ok(false));
+//! let refusal = let_in("pair(a=7,c)").unwrap_err();
+//! assert_eq!(refusal.reason, Reason::NameUnknown);
+//! assert_eq!(refusal.to_string(), "refused 65 at 9: the text has an unknown name");
+//! ```
+//!
+//! The shorter examples at the functions take set E from `examples/e.set`; without names, `s0` is pair, `s1` is a
+//! and `s2` is b.
 
 pub mod interface;
 mod refusal;
 pub mod word;
 
-pub use refusal::Refusal;
+pub use refusal::{Reason, Refusal};
 
 /// 16-bit cells of a row: symbol, four child places, kind, four cells of payload.
 pub const ROW_CELLS: usize = 10;
@@ -26,16 +76,51 @@ pub const MAX_STATES: usize = 256;
 pub const MAX_SET_BYTES: usize = 16 + 64 + 2 * 256 + 12 * 1024;
 
 /// Whether bytes are a sound set.
+///
+/// ```
+/// use cidhomba::{check_automaton, Reason};
+///
+/// let set = include_bytes!("../../../examples/e.set");
+/// assert_eq!(check_automaton(set), Ok(()));
+/// let refusal = check_automaton(&set[..58]).unwrap_err();
+/// assert_eq!(refusal.reason, Reason::SetLengths);
+/// ```
 pub fn check_automaton(set: &[u8]) -> Result<(), Refusal> {
     Refusal::or_value(interface::check_automaton(set)).map(|_| ())
 }
 
 /// Whether rows are a sound table over a set's symbols.
+///
+/// ```
+/// use cidhomba::{check_document, Reason};
+///
+/// let set = include_bytes!("../../../examples/e.set");
+/// const U: u16 = 65_535; // a child place that is not used
+/// // s0(s1=7,s1=7): equal leaves are one row, and kind 2 is a count.
+/// let mut rows = [[1, U, U, U, U, 2, 7, 0, 0, 0], [0, 0, 0, U, U, 0, 0, 0, 0, 0]].concat();
+/// assert_eq!(check_document(set, &rows), Ok(()));
+/// rows[10] = 3;
+/// let refusal = check_document(set, &rows).unwrap_err();
+/// assert_eq!(refusal.reason, Reason::RowSymbol);
+/// ```
 pub fn check_document(set: &[u8], rows: &[u16]) -> Result<(), Refusal> {
     Refusal::or_value(interface::check_document(set, rows)).map(|_| ())
 }
 
 /// Whether steps are a run that shows that the set lets the document in.
+///
+/// ```
+/// use cidhomba::{check_run, Reason};
+///
+/// let set = include_bytes!("../../../examples/e.set");
+/// const U: u16 = 65_535; // a child place or a step place that is not used
+/// let rows = [[1, U, U, U, U, 2, 7, 0, 0, 0], [0, 0, 0, U, U, 0, 0, 0, 0, 0]].concat();
+/// // Step 0: rule 1 on row 0. Step 1: rule 0 on row 1, with step 0 for both children.
+/// let run = [[1, 0, U, U, U, U], [0, 1, 0, 0, U, U]].concat();
+/// assert_eq!(check_run(set, &rows, &run), Ok(()));
+/// let refusal = check_run(set, &rows, &run[..6]).unwrap_err();
+/// assert_eq!(refusal.reason, Reason::RunEnd);
+/// ```
 pub fn check_run(set: &[u8], rows: &[u16], run: &[u16]) -> Result<(), Refusal> {
     Refusal::or_value(interface::check_run(set, rows, run)).map(|_| ())
 }
@@ -45,11 +130,32 @@ pub fn check_run(set: &[u8], rows: &[u16], run: &[u16]) -> Result<(), Refusal> {
 pub enum Judgement<'a> {
     /// The set lets the document in, and these steps are a run that shows it.
     Yes(&'a [u16]),
+    /// The set does not let the document in.
     No,
 }
 
 /// Judges whether a set lets a document in. Room for `n` annotations is `32 * n` cells of work space; the run
-/// space must then hold `6 * n` cells. The work space is all zeros afterwards unless set, table or 32 refuse.
+/// space must then hold `6 * n` cells. The work space is all zeros afterwards, but untouched where set, table or
+/// [`Reason::RunSpace`] refuse. No reason is about time: the question is NP-complete, and a set may make it hard.
+///
+/// ```
+/// use cidhomba::*;
+///
+/// let set = include_bytes!("../../../examples/e.set");
+/// let mut rows = [0; 3 * ROW_CELLS];
+/// let (mut work, mut run) = ([0; 8 * ANNOTATION_CELLS], [0; 8 * STEP_CELLS]);
+///
+/// let equal = read_term(set, Names::default(), b"s0(s1=7,s1=7)", &mut rows)?;
+/// let Judgement::Yes(steps) = membership(set, equal, &mut work, &mut run)? else { panic!("the leaves are equal") };
+/// assert_eq!(check_run(set, equal, steps), Ok(()));
+///
+/// let unequal = read_term(set, Names::default(), b"s0(s1=7,s1=8)", &mut rows)?;
+/// assert_eq!(membership(set, unequal, &mut work, &mut run), Ok(Judgement::No));
+///
+/// let refusal = membership(set, unequal, &mut work[..ANNOTATION_CELLS], &mut run).unwrap_err();
+/// assert_eq!(refusal.reason, Reason::NoRoom);
+/// # Ok::<(), Refusal>(())
+/// ```
 pub fn membership<'a>(
     set: &[u8],
     rows: &[u16],
@@ -62,13 +168,42 @@ pub fn membership<'a>(
     })
 }
 
-/// The set that lets in what either of two sets does.
+/// The set that lets in what either of two sets does, in the stored form; a space of [`MAX_SET_BYTES`] holds every
+/// result.
+///
+/// ```
+/// use cidhomba::{check_automaton, union, Reason, MAX_SET_BYTES};
+///
+/// let set = include_bytes!("../../../examples/e.set");
+/// let mut out = [0; MAX_SET_BYTES];
+/// let either = union(set, set, &mut out)?;
+/// assert_eq!(either.len(), 99);
+/// assert_eq!(check_automaton(either), Ok(()));
+/// let refusal = union(set, set, &mut out[..98]).unwrap_err();
+/// assert_eq!(refusal.reason, Reason::ResultSpace);
+/// # Ok::<(), cidhomba::Refusal>(())
+/// ```
 pub fn union<'a>(first: &[u8], second: &[u8], out: &'a mut [u8]) -> Result<&'a [u8], Refusal> {
     let length = Refusal::or_value(interface::union(first, second, out))?;
     Ok(&out[..length])
 }
 
-/// The set that lets in what both of two sets do.
+/// The set that lets in what both of two sets do, in the stored form; a space of [`MAX_SET_BYTES`] holds every
+/// result.
+///
+/// ```
+/// use cidhomba::{check_automaton, product, Reason, MAX_SET_BYTES};
+///
+/// let set = include_bytes!("../../../examples/e.set");
+/// let agreed = include_bytes!("../../../examples/agreed.set");
+/// let mut out = [0; MAX_SET_BYTES];
+/// let both = product(set, set, &mut out)?;
+/// assert_eq!(both.len(), 63);
+/// assert_eq!(check_automaton(both), Ok(()));
+/// let refusal = product(set, agreed, &mut out).unwrap_err();
+/// assert_eq!(refusal.reason, Reason::SetsDiffer);
+/// # Ok::<(), cidhomba::Refusal>(())
+/// ```
 pub fn product<'a>(first: &[u8], second: &[u8], out: &'a mut [u8]) -> Result<&'a [u8], Refusal> {
     let length = Refusal::or_value(interface::product(first, second, out))?;
     Ok(&out[..length])
@@ -80,10 +215,33 @@ pub enum Witness<'a> {
     /// The set lets in no document.
     Dead,
     /// The set lets in this document, and none with fewer levels.
-    Live { rows: &'a [u16], levels: usize },
+    Live {
+        /// The document.
+        rows: &'a [u16],
+        /// Its levels, a leaf alone having one.
+        levels: usize,
+    },
 }
 
-/// Answers dead, or live with a lowest document. The row space must hold as many rows as the set has states.
+/// Answers dead, or live with a lowest document. The row space must hold as many rows as the set has states; one
+/// for [`MAX_STATES`] rows serves every set.
+///
+/// ```
+/// use cidhomba::*;
+///
+/// let set = include_bytes!("../../../examples/e.set");
+/// let (mut rows, mut text) = ([0; ROW_CELLS * MAX_STATES], [0; 40]);
+/// let Witness::Live { rows, levels } = witness(set, &mut rows)? else { panic!("set E lets in a pair") };
+/// assert_eq!(levels, 2);
+/// assert_eq!(write_term(set, Names::default(), rows, &mut text)?, b"s0(s1,s1)");
+///
+/// let dead = include_bytes!("../../../examples/dead.set");
+/// let mut space = [0; ROW_CELLS * MAX_STATES];
+/// assert_eq!(witness(dead, &mut space), Ok(Witness::Dead));
+/// let refusal = witness(dead, &mut space[..ROW_CELLS]).unwrap_err();
+/// assert_eq!(refusal.reason, Reason::RowSpace);
+/// # Ok::<(), Refusal>(())
+/// ```
 pub fn witness<'a>(set: &[u8], rows: &'a mut [u16]) -> Result<Witness<'a>, Refusal> {
     Ok(match Refusal::or_value(interface::witness(set, rows))? {
         0 => Witness::Dead,
@@ -91,14 +249,30 @@ pub fn witness<'a>(set: &[u8], rows: &'a mut [u16]) -> Result<Witness<'a>, Refus
     })
 }
 
-/// The two name lists of term text, line i for symbol i: the site's, and the one built in. Both may be empty.
+/// The two name lists of term text, line i for symbol i: the site's, and the one built in. Both may be empty. A
+/// symbol is shown by its line in the site's list, else by that in the other, else by `s` and its number.
 #[derive(Clone, Copy, Debug, Default)]
 pub struct Names<'a> {
+    /// The site's list.
     pub site: &'a [u8],
+    /// The list built in.
     pub built_in: &'a [u8],
 }
 
-/// Reads term text into rows; space for 1,024 rows serves every text.
+/// Reads term text into rows; space for [`MAX_ROWS`] rows serves every text. A refusal of text has a place.
+///
+/// ```
+/// use cidhomba::{read_term, Names, Reason, Refusal, MAX_ROWS, ROW_CELLS};
+///
+/// let set = include_bytes!("../../../examples/e.set");
+/// let names = Names { site: b"pair\na\nb", built_in: b"" };
+/// let mut rows = [0; ROW_CELLS * MAX_ROWS];
+/// let read = read_term(set, names, b"pair(a=7,a=7)", &mut rows)?;
+/// assert_eq!(read.len(), 2 * ROW_CELLS); // equal leaves are one row
+/// let refusal = read_term(set, names, b"pair(a=7)", &mut rows).unwrap_err();
+/// assert_eq!(refusal, Refusal { reason: Reason::TermChildren, place: Some(0) });
+/// # Ok::<(), Refusal>(())
+/// ```
 pub fn read_term<'a>(
     set: &[u8],
     names: Names,
@@ -109,7 +283,20 @@ pub fn read_term<'a>(
     Ok(&rows[..ROW_CELLS * count])
 }
 
-/// Writes a table's tree as term text.
+/// Writes a table's tree as term text. Reading undoes writing.
+///
+/// ```
+/// use cidhomba::{read_term, write_term, Names, Reason, MAX_ROWS, ROW_CELLS};
+///
+/// let set = include_bytes!("../../../examples/e.set");
+/// let names = Names { site: b"pair\na\nb", built_in: b"" };
+/// let (mut rows, mut text) = ([0; ROW_CELLS * MAX_ROWS], [0; 40]);
+/// let rows = read_term(set, Names::default(), b"s0(s1=7,s2)", &mut rows)?;
+/// assert_eq!(write_term(set, names, rows, &mut text)?, b"pair(a=7,b)");
+/// let refusal = write_term(set, names, rows, &mut text[..10]).unwrap_err();
+/// assert_eq!(refusal.reason, Reason::TextSpace);
+/// # Ok::<(), cidhomba::Refusal>(())
+/// ```
 pub fn write_term<'a>(
     set: &[u8],
     names: Names,

@@ -6,6 +6,13 @@ const REFUSED: u64 = 1 << 63;
 pub const LARGEST_PLACE: u64 = (1 << 55) - 1;
 
 /// The value, or number and place of a refusal: `2^63 + place * 256 + number`, with place 0 where there is none.
+///
+/// ```
+/// use cidhomba::word::parts;
+///
+/// assert_eq!(parts(99), Ok(99));
+/// assert_eq!(parts((1 << 63) + 9 * 256 + 65), Err((65, 9)));
+/// ```
 pub fn parts(word: u64) -> Result<u64, (u8, u64)> {
     if word < REFUSED {
         return Ok(word);

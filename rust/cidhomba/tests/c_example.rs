@@ -1,10 +1,11 @@
-//! The example in C compiles against the header without a warning, links the library, and prints what it should.
+//! The example in C compiles against the header without a warning, links the library, and prints what it should;
+//! and the header has the reasons that the wrapper has.
 
 use std::fs;
 use std::path::{Path, PathBuf};
 use std::process::Command;
 
-use cidhomba::Refusal;
+use cidhomba::Reason;
 
 /// A file of the repository.
 fn file(name: &str) -> PathBuf {
@@ -40,14 +41,24 @@ fn the_example_in_c() {
     assert_eq!(String::from_utf8_lossy(&output.stdout), PRINTED);
 }
 
+/// `SET_TOO_SHORT` as `SetTooShort`.
+fn camel_case(name: &str) -> String {
+    let capitalised = |word: &str| word[..1].to_string() + &word[1..].to_lowercase();
+    name.split('_').map(capitalised).collect()
+}
+
 #[test]
-fn the_header_has_every_number_of_a_refusal_once() {
+fn the_header_and_the_enum_have_the_same_reasons() {
     let header = fs::read_to_string(file("include/cidhomba.h")).expect("the header is there");
-    let numbered = |line: &str| {
-        line.trim().strip_prefix("CIDHOMBA_")?.split_once(" = ")?.1.split([',', ' ']).next()?.parse().ok()
+    let (_, behind) = header.split_once("enum cidhomba_refusal {").expect("the header has the enum");
+    let (enumerators, _) = behind.split_once("};").expect("the enum ends");
+    let named = |line: &str| {
+        let (name, value) = line.trim().strip_prefix("CIDHOMBA_")?.split_once(" = ")?;
+        let number = value.split([',', ' ']).next()?.parse().expect("a number");
+        Some((camel_case(name), number))
     };
-    let found: Vec<u8> = header.lines().filter_map(numbered).collect();
-    let unknown = Refusal { number: 0, place: None }.condition();
-    let known = |number: &u8| Refusal { number: *number, place: None }.condition() != unknown;
-    assert_eq!(found, (0..=255).filter(known).collect::<Vec<u8>>());
+    let in_c: Vec<(String, u8)> = enumerators.lines().filter_map(named).collect();
+    let in_rust: Vec<(String, u8)> =
+        Reason::ALL.iter().map(|reason| (format!("{reason:?}"), reason.number())).collect();
+    assert_eq!(in_c, in_rust);
 }

@@ -10,7 +10,7 @@ fn example(name: &str) -> Vec<u8> {
     fs::read(&path).unwrap_or_else(|error| panic!("{}: {error}", path.display()))
 }
 
-/// Set E of document 01.
+/// Set E: it lets in a pair of two equal leaves.
 fn set_e() -> Vec<u8> {
     example("e.set")
 }
@@ -20,8 +20,8 @@ fn rows(name: &str) -> Vec<u16> {
     example(name).chunks_exact(2).map(|pair| u16::from_le_bytes([pair[0], pair[1]])).collect()
 }
 
-fn refused(number: u8) -> Refusal {
-    Refusal { number, place: None }
+fn refused(reason: Reason) -> Refusal {
+    Refusal { reason, place: None }
 }
 
 /// The run of pair(a=7,a=7): the leaf by rule 1, then the pair by rule 0.
@@ -31,19 +31,19 @@ const RUN: [u16; 12] = [1, 0, 65_535, 65_535, 65_535, 65_535, 0, 1, 0, 0, 65_535
 fn checks() {
     let (set, equal) = (set_e(), rows("pair-7-7.rows"));
     assert_eq!(check_automaton(&set), Ok(()));
-    assert_eq!(check_automaton(&set[..58]), Err(refused(3)));
-    assert_eq!(check_automaton(&[]), Err(refused(1)));
+    assert_eq!(check_automaton(&set[..58]), Err(refused(Reason::SetLengths)));
+    assert_eq!(check_automaton(&[]), Err(refused(Reason::SetTooShort)));
     assert_eq!(check_document(&set, &equal), Ok(()));
-    assert_eq!(check_document(&set, &equal[..19]), Err(refused(11)));
-    assert_eq!(check_document(&set, &[]), Err(refused(11)));
+    assert_eq!(check_document(&set, &equal[..19]), Err(refused(Reason::TableLength)));
+    assert_eq!(check_document(&set, &[]), Err(refused(Reason::TableLength)));
 }
 
 #[test]
 fn runs() {
     let (set, equal) = (set_e(), rows("pair-7-7.rows"));
     assert_eq!(check_run(&set, &equal, &RUN), Ok(()));
-    assert_eq!(check_run(&set, &equal, &RUN[..6]), Err(refused(25)));
-    assert_eq!(check_run(&set, &equal, &[]), Err(refused(21)));
+    assert_eq!(check_run(&set, &equal, &RUN[..6]), Err(refused(Reason::RunEnd)));
+    assert_eq!(check_run(&set, &equal, &[]), Err(refused(Reason::RunLength)));
 }
 
 #[test]
@@ -55,8 +55,8 @@ fn judging() {
     assert_eq!(run[12..], [9; 6]);
     let unequal = rows("pair-7-8.rows");
     assert_eq!(membership(&set_e(), &unequal, &mut work, &mut run), Ok(Judgement::No));
-    assert_eq!(membership(&set_e(), &equal, &mut work[..32], &mut run), Err(refused(31)));
-    assert_eq!(membership(&set_e(), &equal, &mut work, &mut run[..11]), Err(refused(32)));
+    assert_eq!(membership(&set_e(), &equal, &mut work[..32], &mut run), Err(refused(Reason::NoRoom)));
+    assert_eq!(membership(&set_e(), &equal, &mut work, &mut run[..11]), Err(refused(Reason::RunSpace)));
 }
 
 #[test]
@@ -66,8 +66,8 @@ fn two_sets() {
     // 16 + 3 + 2 * 4 + 12 * 6 bytes; of the product's rules each symbol has one.
     assert_eq!(union(&set, &set, &mut out).map(<[u8]>::len), Ok(99));
     assert_eq!(product(&set, &set, &mut out).map(<[u8]>::len), Ok(63));
-    assert_eq!(union(&set, &set, &mut out[..98]), Err(refused(53)));
-    assert_eq!(product(&set, &set[..58], &mut out), Err(refused(3)));
+    assert_eq!(union(&set, &set, &mut out[..98]), Err(refused(Reason::ResultSpace)));
+    assert_eq!(product(&set, &set[..58], &mut out), Err(refused(Reason::SetLengths)));
 }
 
 #[test]
@@ -77,7 +77,7 @@ fn dead_or_live() {
     let pair = [0, 0, 0, 65_535, 65_535, 0, 0, 0, 0, 0];
     let sample = [leaf, pair].concat();
     assert_eq!(witness(&set_e(), &mut space), Ok(Witness::Live { rows: &sample, levels: 2 }));
-    assert_eq!(witness(&set_e(), &mut space[..19]), Err(refused(42)));
+    assert_eq!(witness(&set_e(), &mut space[..19]), Err(refused(Reason::RowSpace)));
 }
 
 #[test]
@@ -86,7 +86,7 @@ fn reading_text() {
     let mut space = [0; 4 * ROW_CELLS];
     let equal = rows("pair-7-7.rows");
     assert_eq!(read_term(&set_e(), names, b"pair(a=7,a=7)", &mut space), Ok(&equal[..]));
-    let at_the_second_child = Refusal { number: 65, place: Some(9) };
+    let at_the_second_child = Refusal { reason: Reason::NameUnknown, place: Some(9) };
     assert_eq!(read_term(&set_e(), names, b"pair(a=7,c=7)", &mut space), Err(at_the_second_child));
 }
 
@@ -97,5 +97,5 @@ fn writing_text() {
     let equal = rows("pair-7-7.rows");
     assert_eq!(write_term(&set_e(), names, &equal, &mut text), Ok(&b"pair(a=7,a=7)"[..]));
     assert_eq!(write_term(&set_e(), Names::default(), &equal, &mut text), Ok(&b"s0(s1=7,s1=7)"[..]));
-    assert_eq!(write_term(&set_e(), names, &equal, &mut text[..12]), Err(refused(68)));
+    assert_eq!(write_term(&set_e(), names, &equal, &mut text[..12]), Err(refused(Reason::TextSpace)));
 }

@@ -3,8 +3,8 @@
 use std::thread;
 
 use cidhomba::{
-    membership, product, read_term, witness, write_term, Judgement, Names, Witness, ANNOTATION_CELLS,
-    MAX_ROWS, MAX_SET_BYTES, MAX_STATES, ROW_CELLS, STEP_CELLS,
+    membership, product, read_term, witness, write_term, Judgement, Names, Reason, Refusal, Witness,
+    ANNOTATION_CELLS, MAX_ROWS, MAX_SET_BYTES, MAX_STATES, ROW_CELLS, STEP_CELLS,
 };
 use reference::examples::{rule, set_g, state};
 use reference::Automaton;
@@ -47,7 +47,7 @@ fn a_text_of_a_million_siblings_is_refused() {
         let text = [b"s0(".to_vec(), b"s1,".repeat(1_000_000), b"s1)".to_vec()].concat();
         let mut space = vec![0; ROW_CELLS * MAX_ROWS];
         let refusal = read_term(&set, Names::default(), &text, &mut space).expect_err("s0 has one child");
-        assert_eq!((refusal.number, refusal.place), (66, Some(0)));
+        assert_eq!(refusal, Refusal { reason: Reason::TermChildren, place: Some(0) });
     });
 }
 

@@ -18,7 +18,7 @@ fn judged(set: &[u8], rows: &[u16]) -> Option<bool> {
         }
         Ok(Judgement::No) => Some(false),
         Err(refusal) => {
-            assert_eq!(refusal.number, 31, "{refusal}");
+            assert_eq!(refusal.reason, Reason::NoRoom, "{refusal}");
             None
         }
     }
@@ -63,7 +63,7 @@ fn tags_keep_the_product_of_e_and_b_exact() {
     assert_eq!(judged(both, &pair(1, 2)), Some(false));
     assert_eq!(judged(both, &pair(1, 1)), Some(true));
     let mut rows = vec![0; ROW_CELLS * MAX_STATES];
-    assert_eq!(witness(both, &mut rows).map_err(|refusal| refusal.number), Err(41));
+    assert_eq!(witness(both, &mut rows).map_err(|refusal| refusal.reason), Err(Reason::TagShared));
 }
 
 #[test]

@@ -2,7 +2,7 @@
 
 use bench::baseline;
 use bench::measure::Table;
-use cidhomba::{membership, Judgement, Refusal, ANNOTATION_CELLS, MAX_ROOM, STEP_CELLS};
+use cidhomba::{membership, Judgement, ANNOTATION_CELLS, MAX_ROOM, STEP_CELLS};
 use generate::export::{agreed_set, export, Columns};
 use generate::{documents, Random};
 use reference::examples::{rule, state};
@@ -34,7 +34,7 @@ fn judged(table: &Table, input: &str, set: &Automaton, document: &Document, room
     let by_library = match membership(&set, &rows, &mut work, &mut run) {
         Ok(Judgement::Yes(run)) => Ok(Some(run.to_vec())),
         Ok(Judgement::No) => Ok(None),
-        Err(Refusal { number, .. }) => Err(number),
+        Err(refusal) => Err(refusal.number()),
     };
     let by_rust = baseline::membership::membership(&set, &rows, room);
     assert_eq!(by_library.as_ref().map(Option::is_some), by_rust.as_ref().map(Option::is_some), "{input}");

@@ -25,7 +25,7 @@ fn sampled(table: &Table, input: &str, set: &Automaton) {
     match witness(&set, &mut rows) {
         Ok(Witness::Live { rows, levels }) => assert_eq!(by_rust, Ok(Some((rows.to_vec(), levels)))),
         Ok(Witness::Dead) => assert_eq!(by_rust, Ok(None)),
-        Err(refusal) => assert_eq!(by_rust, Err(refusal.number)),
+        Err(refusal) => assert_eq!(by_rust, Err(refusal.number())),
     }
     table.row(input, || witness(&set, &mut rows).is_ok(), || baseline::witness::witness(&set, space));
 }
