@@ -82,6 +82,10 @@ static void lowest(void)
 {
     uint16_t rows[CIDHOMBA_WITNESS_CELLS];
     uint64_t answer = cidhomba_witness(set_e, LENGTH(set_e), rows, LENGTH(rows));
+    if (CIDHOMBA_REFUSED(answer) || answer == 0) {
+        told("a lowest document", answer);
+        return;
+    }
     told("levels of a lowest document", answer / 65536);
     told("its rows", answer % 65536);
 }

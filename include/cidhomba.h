@@ -22,7 +22,7 @@
  * levels takes most), allocates nothing, keeps no pointer past its end and has no state. Calls may run at the same
  * time on several threads: they may share what they only read, and each needs spaces of its own.
  *
- * Spaces, in elements: the least that serves, and what is recommended, since no call can use more.
+ * Spaces, in elements: the least that serves, and what is recommended. Of all but the last no call can use more.
  *
  *   work of cidhomba_membership   32 for each annotation of the document   CIDHOMBA_WORK_CELLS
  *   run of cidhomba_membership    6 for each 32 cells of work space        CIDHOMBA_RUN_CELLS
@@ -31,9 +31,10 @@
  *   rows of cidhomba_read_term    10 for each row of the document          CIDHOMBA_TABLE_CELLS
  *   text of cidhomba_write_term   the length of the text                   CIDHOMBA_TEXT_BYTES
  *
- * How many annotations a document has depends on set and document; its rows times the states that each can have is a
- * guide, and 31 says that they were too few. A text alone has no greatest length, since rows may be shared: a table of
- * 1,024 rows can stand for a text longer than any memory, and CIDHOMBA_TEXT_BYTES is what the programs use.
+ * A document has an annotation for each row, each state that the row can have there, and each choice of rows to which
+ * tags went below; 31 says that they were more than the room. Where in doubt, lend CIDHOMBA_WORK_CELLS. A text has no
+ * greatest length, since rows may be shared: a table of 1,024 rows can stand for a text longer than any memory, and
+ * CIDHOMBA_TEXT_BYTES is what the programs have.
  *
  * Link with libcidhomba.a: `./quickstart` builds it in target/staticlib, `./install PREFIX` installs it with this
  * header and a file for pkg-config. It needs the C library and nothing else.
@@ -92,7 +93,7 @@ enum cidhomba_refusal {
     CIDHOMBA_SET_CHILDREN = 4,     /* a symbol with more than 4 children */
     CIDHOMBA_SET_STATE = 5,        /* a final byte above 1, or a tag bit at or above the number of tags */
     CIDHOMBA_SET_RULE = 6,         /* an unknown symbol or state, or an unused place that is not 65535 */
-    CIDHOMBA_SET_ORDER = 7,        /* rules that do not ascend strictly */
+    CIDHOMBA_SET_ORDER = 7,        /* rules that do not ascend strictly by symbol, child places, target */
     /* a table */
     CIDHOMBA_TABLE_LENGTH = 11,    /* 0 or over 1,024 rows, or a row cut short */
     CIDHOMBA_ROW_SYMBOL = 12,      /* an unknown symbol */
@@ -149,7 +150,7 @@ static inline const char *cidhomba_refusal_text(unsigned number)
     case CIDHOMBA_SET_RULE:
         return "a rule of the set names an unknown symbol or state, or an unused place is not 65535";
     case CIDHOMBA_SET_ORDER:
-        return "the rules of the set do not ascend strictly";
+        return "the rules of the set do not ascend strictly by symbol, child places and target";
     case CIDHOMBA_TABLE_LENGTH:
         return "the table has no rows, over 1,024, or a row cut short";
     case CIDHOMBA_ROW_SYMBOL:
@@ -263,7 +264,8 @@ uint64_t cidhomba_read_term(const uint8_t *set, size_t set_length,
                             uint16_t *rows, size_t rows_length);
 
 /* Writes a table's tree as term text, without a byte 0 at its end. Value: the bytes written to the front of text.
- * Refuses: set, names, table, 68. Reading undoes writing. */
+ * Refuses: set, names, table, 68. Reading the text gives a table of the same tree, with rows numbered by first finishing
+ * from the left, so the same rows where they are in that order already. */
 uint64_t cidhomba_write_term(const uint8_t *set, size_t set_length,
                              const uint8_t *site, size_t site_length,
                              const uint8_t *built_in, size_t built_in_length,

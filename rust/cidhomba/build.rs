@@ -21,16 +21,15 @@ fn own_directory() -> PathBuf {
 
 /// Fails the build. Else the linker would, after everything is compiled and in words of its own.
 fn tell_missing(library: &Path, is_other: bool) {
-    println!("cargo::error=the verified library is not built: there is no {}", library.display());
+    let path = library.display();
     if is_other {
-        println!(
-            "cargo::error={OTHER_DIRECTORY} says to look there; unset it to use the repository's own build"
-        );
+        println!("cargo::error=there is no {path}, where {OTHER_DIRECTORY} says to look");
+        println!("cargo::error=unset it to use the library that ./quickstart builds in the repository");
+    } else {
+        println!("cargo::error=the verified library is not built: there is no {path}");
+        println!("cargo::error=run ./quickstart in the repository's root, which proves and builds it");
     }
-    println!("cargo::error=run ./quickstart in the repository's root, which proves and builds the library");
-    println!(
-        "cargo::error=or run ./install there, and set {OTHER_DIRECTORY} to the directory that holds libcidhomba.a"
-    );
+    println!("cargo::error=or run ./install PREFIX there, and set {OTHER_DIRECTORY} to PREFIX/lib");
 }
 
 fn main() {

@@ -76,6 +76,8 @@ pub const MAX_STATES: usize = 256;
 pub const UNUSED: u16 = 65_535;
 /// Length of the longest set: 64 symbols, 256 states and 1,024 rules.
 pub const MAX_SET_BYTES: usize = 16 + 64 + 2 * 256 + 12 * 1024;
+/// Bytes of text space that the programs have; a table whose rows are shared much may stand for a longer text.
+pub const TEXT_BYTES: usize = 32_768;
 
 /// Whether bytes are a sound set.
 ///

@@ -17,7 +17,7 @@ macro_rules! reasons {
         /// let reason = Reason::from_number(7).expect("7 is a reason");
         /// assert_eq!(reason, Reason::SetOrder);
         /// assert_eq!(reason.number(), 7);
-        /// assert_eq!(reason.condition(), "the rules of the set do not ascend strictly");
+        /// assert_eq!(reason.condition(), "the rules of the set do not ascend strictly by symbol, child places and target");
         /// assert_eq!(Reason::from_number(8), None);
         /// ```
         #[non_exhaustive]
@@ -61,7 +61,7 @@ reasons! {
     SetChildren = 4 => "a symbol of the set has more than 4 children";
     SetState = 5 => "a state of the set has a final byte above 1 or a tag that the set does not have";
     SetRule = 6 => "a rule of the set names an unknown symbol or state, or an unused place is not 65535";
-    SetOrder = 7 => "the rules of the set do not ascend strictly";
+    SetOrder = 7 => "the rules of the set do not ascend strictly by symbol, child places and target";
     TableLength = 11 => "the table has no rows, over 1,024, or a row cut short";
     RowSymbol = 12 => "a row has an unknown symbol";
     RowChildren = 13 => "a child of a row is not lower, or an unused place is not 65535";
@@ -187,7 +187,10 @@ mod tests {
     #[test]
     fn refusals_are_shown_with_their_number_place_and_condition() {
         let shown = |number, place| Refusal::or_value(word(number, place)).unwrap_err().to_string();
-        assert_eq!(shown(7, 0), "refused 7: the rules of the set do not ascend strictly");
+        assert_eq!(
+            shown(7, 0),
+            "refused 7: the rules of the set do not ascend strictly by symbol, child places and target"
+        );
         assert_eq!(shown(64, 768), "refused 64 at 768: a letter opens a term at level 257");
         assert_eq!(shown(63, 0), "refused 63 at 0: the text has no legal continuation");
     }
