@@ -1,4 +1,4 @@
-/* Set E of document 01 through the C interface: it lets in a pair of two equal leaves. */
+/* Set E (docs/FORMATS.md) through the C interface: it lets in a pair of two equal leaves. */
 #include "cidhomba.h"
 
 #include <inttypes.h>
@@ -28,15 +28,17 @@ static const uint16_t unequal[] = {
     0, 0, 1, U, U, 0, 0, 0, 0, 0,
 };
 
-/* Prints what a call answered. */
+/* Prints what a call answered: a value, or why it was refused. */
 static void told(const char *what, uint64_t answer)
 {
+    unsigned number = CIDHOMBA_NUMBER(answer);
     if (!CIDHOMBA_REFUSED(answer)) {
         printf("%s: %" PRIu64 "\n", what, answer);
-    } else if (CIDHOMBA_NUMBER(answer) >= CIDHOMBA_TEXT_FAULT && CIDHOMBA_NUMBER(answer) <= CIDHOMBA_TEXT_ROWS) {
-        printf("%s: refused %u at %" PRIu64 "\n", what, CIDHOMBA_NUMBER(answer), CIDHOMBA_PLACE(answer));
+    } else if (number >= CIDHOMBA_TEXT_FAULT && number <= CIDHOMBA_TEXT_ROWS) {
+        printf("%s: refused %u at %" PRIu64 ", %s\n", what, number, CIDHOMBA_PLACE(answer),
+               cidhomba_refusal_text(number));
     } else {
-        printf("%s: refused %u\n", what, CIDHOMBA_NUMBER(answer));
+        printf("%s: refused %u, %s\n", what, number, cidhomba_refusal_text(number));
     }
 }
 
@@ -54,10 +56,10 @@ static void checks(void)
          cidhomba_check_run(set_e, LENGTH(set_e), unequal, LENGTH(unequal), run, LENGTH(run)));
 }
 
-/* Whether E lets a table in: room for eight annotations is plenty. */
+/* Whether E lets a table in: room for eight annotations is plenty. The work space must hold values. */
 static uint64_t judged(const uint16_t *rows, size_t rows_length)
 {
-    uint16_t work[8 * CIDHOMBA_ANNOTATION_CELLS];
+    uint16_t work[8 * CIDHOMBA_ANNOTATION_CELLS] = {0};
     uint16_t run[8 * CIDHOMBA_STEP_CELLS];
     return cidhomba_membership(set_e, LENGTH(set_e), rows, rows_length, work, LENGTH(work), run, LENGTH(run));
 }
@@ -78,7 +80,7 @@ static void two_sets(void)
 
 static void lowest(void)
 {
-    uint16_t rows[CIDHOMBA_MAX_STATES * CIDHOMBA_ROW_CELLS];
+    uint16_t rows[CIDHOMBA_WITNESS_CELLS];
     uint64_t answer = cidhomba_witness(set_e, LENGTH(set_e), rows, LENGTH(rows));
     told("levels of a lowest document", answer / 65536);
     told("its rows", answer % 65536);
@@ -86,13 +88,13 @@ static void lowest(void)
 
 /* The site's names, without the byte 0 that C puts at the end; there is no built-in list. */
 static const uint8_t names[] = "pair\na\nb";
-#define NAMES names, LENGTH(names) - 1, names, 0
+#define NAMES names, LENGTH(names) - 1, NULL, 0
 
 static void reading(void)
 {
     static const uint8_t sound[] = "pair(a=7,b#3)";
     static const uint8_t unknown[] = "pair(a=7,c)";
-    uint16_t rows[CIDHOMBA_MAX_ROWS * CIDHOMBA_ROW_CELLS];
+    uint16_t rows[CIDHOMBA_TABLE_CELLS];
     told("rows of pair(a=7,b#3)",
          cidhomba_read_term(set_e, LENGTH(set_e), NAMES, sound, LENGTH(sound) - 1, rows, LENGTH(rows)));
     told("rows of pair(a=7,c)",

@@ -1,16 +1,42 @@
-/* Cidhomba: shape sets and the documents that they let in. The C interface of the verified library.
+/* Cidhomba: shape sets and the documents that they let in. The C interface of the verified library, for C99 and C++.
  *
- * A set is bytes in the stored form; a document is a table of rows of ten 16-bit cells; a run is steps of six
- * 16-bit cells; all as document 01 lays them out. A slice passes as a pointer and a count of its elements, not of
- * bytes. A pointer is never null, also where the count is 0; a space that is written overlaps nothing else that is
- * lent. No more is asked of a caller: every input is either answered or refused. The library keeps no pointer past
- * a call, allocates nothing, and has no state, so that calls on spaces of their own may run at the same time.
+ * A set is bytes in the stored form; a document is a table of rows of ten 16-bit cells; a run is steps of six 16-bit
+ * cells; names come from two lists, and documents may also be read from term text. docs/FORMATS.md has each form, with
+ * an example worked byte by byte. 16-bit cells are uint16_t in the machine's own order; where rows stand in a file,
+ * their cells are written low byte first.
  *
- * Every function answers one 64-bit word. CIDHOMBA_REFUSED tells a refusal, whose number and place the two macros
- * after it take out; else the word is the value that stands with the function. A refusal writes to no result
- * space. A result fills the front of its space, and the rest is as it was.
+ * Slices. A slice passes as a pointer and a count of its elements, not of bytes. Where the count is 0 the pointer may
+ * be NULL. Every input is either answered or refused: no bytes make a call read or write outside what is lent, run
+ * without end, or wrap a sum. Owed by the caller is only what C's types cannot say:
+ *   - the memory is there, whole and aligned, for as many elements as the count says;
+ *   - a space that is written overlaps nothing else that is lent in the call: overlap is undefined behaviour;
+ *   - nothing that is lent changes during the call, by another thread, a signal handler or a mapped file;
+ *   - inputs hold values, and so does the judge's work space (see cidhomba_membership). Of every other space nothing
+ *     is read before it is written.
  *
- * Link with libcidhomba.a, which `rt staticlib cidhomba` writes to target/staticlib.
+ * Answers. Every function answers one 64-bit word. CIDHOMBA_REFUSED tells a refusal, whose number and place the two
+ * macros after it take out, and cidhomba_refusal_text says it in words; else the word is the value that stands with
+ * the function. A refusal writes to no result space. A result fills the front of its space, and the rest is as it was.
+ *
+ * Stack and threads. A call takes at most 128 KiB of stack (measured on the deepest inputs; reading a text of 256
+ * levels takes most), allocates nothing, keeps no pointer past its end and has no state. Calls may run at the same
+ * time on several threads: they may share what they only read, and each needs spaces of its own.
+ *
+ * Spaces, in elements: the least that serves, and what is recommended, since no call can use more.
+ *
+ *   work of cidhomba_membership   32 for each annotation of the document   CIDHOMBA_WORK_CELLS
+ *   run of cidhomba_membership    6 for each 32 cells of work space        CIDHOMBA_RUN_CELLS
+ *   out of union and product      the length of the result                 CIDHOMBA_MAX_SET_BYTES
+ *   rows of cidhomba_witness      10 for each state of the set             CIDHOMBA_WITNESS_CELLS
+ *   rows of cidhomba_read_term    10 for each row of the document          CIDHOMBA_TABLE_CELLS
+ *   text of cidhomba_write_term   the length of the text                   CIDHOMBA_TEXT_BYTES
+ *
+ * How many annotations a document has depends on set and document; its rows times the states that each can have is a
+ * guide, and 31 says that they were too few. A text alone has no greatest length, since rows may be shared: a table of
+ * 1,024 rows can stand for a text longer than any memory, and CIDHOMBA_TEXT_BYTES is what the programs use.
+ *
+ * Link with libcidhomba.a: `./quickstart` builds it in target/staticlib, `./install PREFIX` installs it with this
+ * header and a file for pkg-config. It needs the C library and nothing else.
  */
 #ifndef CIDHOMBA_H
 #define CIDHOMBA_H
@@ -21,6 +47,12 @@
 #ifdef __cplusplus
 extern "C" {
 #endif
+
+/* The version of this header and of the library that it belongs to. */
+#define CIDHOMBA_VERSION_MAJOR 0
+#define CIDHOMBA_VERSION_MINOR 1
+#define CIDHOMBA_VERSION_PATCH 0
+#define CIDHOMBA_VERSION "0.1.0"
 
 /* Whether an answer is a refusal; its number; and its place in the text for the numbers 63 to 67 (0 is the first
  * byte, else there is none and it reads 0; a place past 2^55 - 1 is told as that). */
@@ -39,6 +71,13 @@ extern "C" {
 #define CIDHOMBA_MAX_ROOM 4096
 #define CIDHOMBA_MAX_STATES 256
 #define CIDHOMBA_MAX_SET_BYTES 12880
+
+/* Recommended sizes of spaces, in elements: cells of 16 bits, and bytes of text. */
+#define CIDHOMBA_WORK_CELLS (CIDHOMBA_MAX_ROOM * CIDHOMBA_ANNOTATION_CELLS)
+#define CIDHOMBA_RUN_CELLS (CIDHOMBA_MAX_ROOM * CIDHOMBA_STEP_CELLS)
+#define CIDHOMBA_TABLE_CELLS (CIDHOMBA_MAX_ROWS * CIDHOMBA_ROW_CELLS)
+#define CIDHOMBA_WITNESS_CELLS (CIDHOMBA_MAX_STATES * CIDHOMBA_ROW_CELLS)
+#define CIDHOMBA_TEXT_BYTES 32768
 
 /* What stands in a child place or a step place that is not used. */
 #define CIDHOMBA_UNUSED 65535
@@ -93,6 +132,87 @@ enum cidhomba_refusal {
     CIDHOMBA_INPUT_LENGTH = 69     /* an input of a program with over 32,768 bytes */
 };
 
+/* The condition that a refusal's number stands for, in words. */
+static inline const char *cidhomba_refusal_text(unsigned number)
+{
+    switch (number) {
+    case CIDHOMBA_SET_TOO_SHORT:
+        return "the set has fewer than 16 bytes";
+    case CIDHOMBA_SET_COUNTS:
+        return "the set's symbols, states, tags or rules are too few or too many";
+    case CIDHOMBA_SET_LENGTHS:
+        return "an offset, the total or the length of the set differs from the formulas";
+    case CIDHOMBA_SET_CHILDREN:
+        return "a symbol of the set has more than 4 children";
+    case CIDHOMBA_SET_STATE:
+        return "a state of the set has a final byte above 1 or a tag that the set does not have";
+    case CIDHOMBA_SET_RULE:
+        return "a rule of the set names an unknown symbol or state, or an unused place is not 65535";
+    case CIDHOMBA_SET_ORDER:
+        return "the rules of the set do not ascend strictly";
+    case CIDHOMBA_TABLE_LENGTH:
+        return "the table has no rows, over 1,024, or a row cut short";
+    case CIDHOMBA_ROW_SYMBOL:
+        return "a row has an unknown symbol";
+    case CIDHOMBA_ROW_CHILDREN:
+        return "a child of a row is not lower, or an unused place is not 65535";
+    case CIDHOMBA_ROW_SCALAR:
+        return "kind and payload of a row are not those of a scalar that it may have";
+    case CIDHOMBA_ROWS_EQUAL:
+        return "two rows are equal";
+    case CIDHOMBA_ROW_UNUSED:
+        return "a row, not the last, is used by no later row";
+    case CIDHOMBA_TABLE_HEIGHT:
+        return "the tree is higher than 256";
+    case CIDHOMBA_RUN_LENGTH:
+        return "the run has no steps, over 4,096, or a step cut short";
+    case CIDHOMBA_STEP_UNKNOWN:
+        return "a step names an unknown rule or row";
+    case CIDHOMBA_STEP_MISFIT:
+        return "the symbols of a step's rule and row differ, or a step place is not as it should be";
+    case CIDHOMBA_RUN_TAG:
+        return "a tag goes to two rows";
+    case CIDHOMBA_RUN_END:
+        return "the last step is not on the last row, or its state is not final";
+    case CIDHOMBA_STEP_UNUSED:
+        return "a step, not the last, is used by no later step";
+    case CIDHOMBA_NO_ROOM:
+        return "there are more distinct annotations than the room";
+    case CIDHOMBA_RUN_SPACE:
+        return "the run space holds fewer steps than the room";
+    case CIDHOMBA_TAG_SHARED:
+        return "two states share a tag";
+    case CIDHOMBA_ROW_SPACE:
+        return "there is space for fewer rows than the set has states";
+    case CIDHOMBA_SETS_DIFFER:
+        return "the symbols of the two sets or their numbers of children differ";
+    case CIDHOMBA_RESULT_LIMITS:
+        return "the result would have over 256 states, 8 tags or 1,024 rules";
+    case CIDHOMBA_RESULT_SPACE:
+        return "the space is shorter than the result";
+    case CIDHOMBA_LIST_LINE:
+        return "a name list has over 64 lines, or a line that is neither empty nor a name";
+    case CIDHOMBA_NAMES_ALIKE:
+        return "two symbols are shown alike";
+    case CIDHOMBA_TEXT_FAULT:
+        return "the text has no legal continuation";
+    case CIDHOMBA_TEXT_LEVEL:
+        return "a letter opens a term at level 257";
+    case CIDHOMBA_NAME_UNKNOWN:
+        return "the text has an unknown name";
+    case CIDHOMBA_TERM_CHILDREN:
+        return "a term has a wrong number of children";
+    case CIDHOMBA_TEXT_ROWS:
+        return "there is a row past the 1,024th or past the row space";
+    case CIDHOMBA_TEXT_SPACE:
+        return "the text is longer than the space";
+    case CIDHOMBA_INPUT_LENGTH:
+        return "the input has over 32,768 bytes";
+    default:
+        return "an unknown number";
+    }
+}
+
 /* Whether bytes are a sound set. Value: 0. Refuses: set. */
 uint64_t cidhomba_check_automaton(const uint8_t *set, size_t set_length);
 
@@ -108,7 +228,9 @@ uint64_t cidhomba_check_run(const uint8_t *set, size_t set_length,
 /* Judges whether the set lets the document in. Value: 0 for no; for yes the number of steps of a run that shows
  * it, written to the front of run. Refuses: set, table, 32, 31.
  * The room is work_length / 32, at most 4,096; the run space must hold as many steps of six cells. The work space
- * is all zeros afterwards, but untouched where set, table or 32 refuse. A no leaves the run space as it was.
+ * must hold values, and zeros will do: of each 32 cells the one with number 24 may be read before it is written.
+ * Neither the answer nor what is promised of the run depends on them. The work space is all zeros afterwards, but
+ * untouched where set, table or 32 refuse. A no leaves the run space as it was.
  * No number refuses for time: the question is NP-complete, and a set may make it hard. */
 uint64_t cidhomba_membership(const uint8_t *set, size_t set_length,
                              const uint16_t *rows, size_t rows_length,

@@ -15,21 +15,21 @@ fn file(name: &str) -> PathBuf {
 /// What the example prints.
 const PRINTED: &str = "\
      set E: 0\n\
-     set E without its last byte: refused 3\n\
+     set E without its last byte: refused 3, an offset, the total or the length of the set differs from the formulas\n\
      pair(a=7,a=7): 0\n\
      its first row: 0\n\
-     half a row: refused 11\n\
+     half a row: refused 11, the table has no rows, over 1,024, or a row cut short\n\
      its run: 0\n\
-     the run on pair(a=7,a=8): refused 23\n\
+     the run on pair(a=7,a=8): refused 23, the symbols of a step's rule and row differ, or a step place is not as it should be\n\
      steps for pair(a=7,a=7): 2\n\
      steps for pair(a=7,a=8), which is turned away: 0\n\
      bytes of E or E: 99\n\
      bytes of E and E: 63\n\
-     no space: refused 53\n\
+     no space: refused 53, the space is shorter than the result\n\
      levels of a lowest document: 2\n\
      its rows: 2\n\
      rows of pair(a=7,b#3): 3\n\
-     rows of pair(a=7,c): refused 65 at 9\n\
+     rows of pair(a=7,c): refused 65 at 9, the text has an unknown name\n\
      bytes of a text: 13\n\
      pair(a=7,a=7)\n";
 

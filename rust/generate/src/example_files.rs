@@ -15,6 +15,9 @@ pub fn all() -> Vec<(&'static str, Vec<u8>)> {
         ("e.set", set_e().encode()),
         ("pair-7-7.rows", bytes(&pair(&[7]))),
         ("pair-7-8.rows", bytes(&pair(&[7, 8]))),
+        ("pair-7-7.run", low_byte_first(&RUN)),
+        ("pair-7-7.term", b"s0(s1=7,s1=7)".to_vec()),
+        ("e.names", b"pair\na\nb\n".to_vec()),
         ("agreed.set", agreed_set().encode()),
         ("agreed.names", name_list().into_bytes()),
         ("export.term", text(Columns::Agreed)),
@@ -32,7 +35,14 @@ fn pair(counts: &[u64]) -> Document {
     Document { rows }
 }
 
-/// A table's cells, low byte first.
+/// The run of E on pair(a=7,a=7): the leaf by rule 1, then the pair by rule 0 over that step twice.
+const RUN: [u16; 12] = [1, 0, 65_535, 65_535, 65_535, 65_535, 0, 1, 0, 0, 65_535, 65_535];
+
+/// A table's cells as a file has them.
 fn bytes(document: &Document) -> Vec<u8> {
-    document.cells().into_iter().flat_map(u16::to_le_bytes).collect()
+    low_byte_first(&document.cells())
+}
+
+fn low_byte_first(cells: &[u16]) -> Vec<u8> {
+    cells.iter().flat_map(|cell| cell.to_le_bytes()).collect()
 }

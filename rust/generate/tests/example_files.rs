@@ -4,7 +4,7 @@ use std::fs;
 use std::path::Path;
 
 use reference::limits::{MAX_ROWS, ROW_CELLS};
-use reference::{check_names, judge_program, sample_program, write_term};
+use reference::{check_names, check_run, judge_program, sample_program, write_term};
 
 fn example(name: &str) -> Vec<u8> {
     let path = Path::new(env!("CARGO_MANIFEST_DIR")).join("../../examples").join(name);
@@ -37,4 +37,19 @@ fn the_texts_are_as_the_writer_has_them_and_the_names_are_names() {
         assert_eq!(write_term(&set, b"", b"", &document.cells(), text.len()), Ok(text));
     }
     assert!(check_names(&example("agreed.names"), b"", usize::from(set[0])).is_ok());
+}
+
+/// The cells of a file, low byte first.
+fn cells(name: &str) -> Vec<u16> {
+    example(name).chunks_exact(2).map(|pair| u16::from_le_bytes([pair[0], pair[1]])).collect()
+}
+
+#[test]
+fn the_files_of_set_e() {
+    let (set, names, rows) = (example("e.set"), example("e.names"), cells("pair-7-7.rows"));
+    assert_eq!(check_run(&set, &rows, &cells("pair-7-7.run")), Ok(()));
+    assert!(check_run(&set, &cells("pair-7-8.rows"), &cells("pair-7-7.run")).is_err());
+    assert_eq!(write_term(&set, b"", b"", &rows, 99), Ok(example("pair-7-7.term")));
+    assert_eq!(write_term(&set, &names, b"", &rows, 99), Ok(b"pair(a=7,a=7)".to_vec()));
+    assert_eq!(judge_program(&[set, example("pair-7-7.term")].concat()), b"yes\n");
 }
