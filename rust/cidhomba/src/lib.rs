@@ -72,6 +72,8 @@ pub const MAX_ROWS: usize = 1024;
 pub const MAX_ROOM: usize = 4096;
 /// Most states of a set: row space for so many serves every witness.
 pub const MAX_STATES: usize = 256;
+/// What stands in a child place or a step place that is not used.
+pub const UNUSED: u16 = 65_535;
 /// Length of the longest set: 64 symbols, 256 states and 1,024 rules.
 pub const MAX_SET_BYTES: usize = 16 + 64 + 2 * 256 + 12 * 1024;
 
@@ -92,10 +94,9 @@ pub fn check_automaton(set: &[u8]) -> Result<(), Refusal> {
 /// Whether rows are a sound table over a set's symbols.
 ///
 /// ```
-/// use cidhomba::{check_document, Reason};
+/// use cidhomba::{check_document, Reason, UNUSED as U};
 ///
 /// let set = include_bytes!("../../../examples/e.set");
-/// const U: u16 = 65_535; // a child place that is not used
 /// // s0(s1=7,s1=7): equal leaves are one row, and kind 2 is a count.
 /// let mut rows = [[1, U, U, U, U, 2, 7, 0, 0, 0], [0, 0, 0, U, U, 0, 0, 0, 0, 0]].concat();
 /// assert_eq!(check_document(set, &rows), Ok(()));
@@ -110,10 +111,9 @@ pub fn check_document(set: &[u8], rows: &[u16]) -> Result<(), Refusal> {
 /// Whether steps are a run that shows that the set lets the document in.
 ///
 /// ```
-/// use cidhomba::{check_run, Reason};
+/// use cidhomba::{check_run, Reason, UNUSED as U};
 ///
 /// let set = include_bytes!("../../../examples/e.set");
-/// const U: u16 = 65_535; // a child place or a step place that is not used
 /// let rows = [[1, U, U, U, U, 2, 7, 0, 0, 0], [0, 0, 0, U, U, 0, 0, 0, 0, 0]].concat();
 /// // Step 0: rule 1 on row 0. Step 1: rule 0 on row 1, with step 0 for both children.
 /// let run = [[1, 0, U, U, U, U], [0, 1, 0, 0, U, U]].concat();
