@@ -47,12 +47,19 @@ fn worked<T>(first: usize, lines: &[String], element: fn(&str) -> Option<T>) -> 
     Ok(found)
 }
 
+/// Where bytes are not those of a file of the examples.
+fn difference(found: &[u8], file: &str) -> Option<String> {
+    let bytes = files::bytes(&format!("examples/{file}"));
+    let shared = found.iter().zip(&bytes).take_while(|(found, byte)| found == byte).count();
+    let (here, there) = (found.len(), bytes.len());
+    (found != bytes).then(|| format!("{here} bytes, and examples/{file} has {there}; byte {shared} differs"))
+}
+
 /// What is wrong with the `bytes` and the `cells` blocks of a document.
 fn faults(page: &Page) -> Vec<String> {
     let mut faults = Vec::new();
     let mut compare = |line: usize, file: &str, found: Result<Vec<u8>, String>| match found {
-        Ok(found) if found == files::bytes(&format!("examples/{file}")) => {}
-        Ok(_) => faults.push(format!("{line}: examples/{file} has other bytes")),
+        Ok(found) => faults.extend(difference(&found, file).map(|fault| format!("{line}: {fault}"))),
         Err(fault) => faults.push(fault),
     };
     for (block, file) in page.of_kind("bytes") {
