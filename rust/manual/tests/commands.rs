@@ -2,7 +2,7 @@
 //!
 //! A `console` block has commands, `$ ` before each and `> ` before its further lines, and below each what it prints.
 //! A `gate` block has commands that the gate runs. Blocks of other kinds have none, and there is no code outside of
-//! blocks, so that no command goes untried.
+//! blocks but words in a sentence, so that no command goes untried.
 
 use std::process::Command;
 use std::sync::{Mutex, PoisonError};
@@ -138,11 +138,28 @@ fn hidden(page: &Page) -> Vec<String> {
     faults
 }
 
+/// Commands in the middle of a sentence that no block of the document has.
+fn in_sentences(page: &Page) -> Vec<String> {
+    let blocks = page.of_kind("console").chain(page.of_kind("gate"));
+    let tried: Vec<&String> = blocks.flat_map(|(block, _)| &block.lines).collect();
+    let mut faults = Vec::new();
+    for (number, line) in &page.prose {
+        for words in line.split('`').skip(1).step_by(2) {
+            let is_command = words.starts_with("cargo ") || words.starts_with("target/bin/");
+            if is_command && !tried.iter().any(|line| line.contains(words)) {
+                faults.push(format!("{number}: no block has the command `{words}`"));
+            }
+        }
+    }
+    faults
+}
+
 /// Tries a document that must have so many `console` blocks or more; all that is wrong stands with its line.
 fn try_page(name: &str, least: usize) {
     let _guard = ONE_AT_A_TIME.lock().unwrap_or_else(PoisonError::into_inner);
     let page = Page::read(name);
     let mut faults = hidden(&page);
+    faults.extend(in_sentences(&page));
     faults.extend(gate_faults(&page, &files::text(".ci/run")));
     let consoles = page.of_kind("console").count();
     if consoles < least {
@@ -209,6 +226,14 @@ fn a_command_that_hides_is_found() {
         assert!(faults.len() == 1 && faults[0].starts_with(line), "{text}{faults:?}");
     }
     assert_eq!(hidden(&page("a\n  b\n```text\n    c\n```\n")), [""; 0]);
+}
+
+#[test]
+fn a_command_in_a_sentence_is_found() {
+    let block = "```console\n$ cd rust && cargo run --quiet\na\n```\n";
+    assert_eq!(in_sentences(&page(&format!("{block}`cargo run` or `cargo`, in `target/bin`\n"))), [""; 0]);
+    let faults = in_sentences(&page(&format!("Say `a`, then `cargo test`.\n{block}")));
+    assert_eq!(faults, ["1: no block has the command `cargo test`"]);
 }
 
 #[test]

@@ -32,47 +32,59 @@ fn the_example_in_c() {
     assert!(clean(&program, b"").ends_with("pair(a=7,a=7)\n"));
 }
 
-/// Inputs that each program takes, sound and not, with what it says at first.
-fn inputs() -> Vec<(Vec<u8>, &'static str, &'static str)> {
+/// Inputs that both programs refuse: empty, the longest, one byte longer, and sets that are damaged.
+fn refused() -> [Vec<u8>; 6] {
     let damaged = |at: usize, byte: u8| {
         let mut set = example("agreed.set");
         set[at] = byte;
         set
     };
-    let on = |set: &str, text: &[u8]| [&example(set)[..], text].concat();
-    vec![
-        (vec![], "refused 1\n", "refused 1\n"),
-        (vec![0; 32_768], "refused 2\n", "refused 1\n"),
-        (vec![0; 32_769], "refused 69\n", "refused 69\n"),
-        (damaged(0, 255), "refused 2\n", "refused 2\n"),
-        (damaged(14, 255), "refused 3\n", "refused 3\n"),
-        (damaged(577, 0), "refused 6\n", "refused 6\n"),
-        (on("e.set", b"s0(s1=7,s1=7)"), "refused 3\n", "yes\n"),
-        (on("e.set", b"s0(s1=7,s1=8)"), "refused 3\n", "no\n"),
-        (on("e.set", b"s0(s1=7,s1"), "refused 3\n", "refused 63 at 10\n"),
-        (on("agreed.set", &example("export.term")), "refused 3\n", "yes\n"),
-        (on("agreed.set", &example("export-queue.term")), "refused 3\n", "no\n"),
-        (on("agreed.set", &example("export-swapped.term")), "refused 3\n", "no\n"),
-    ]
+    [vec![], vec![0; 32_768], vec![0; 32_769], damaged(0, 255), damaged(14, 255), damaged(577, 0)]
 }
 
-#[test]
-fn the_programs_on_sets_and_texts() {
-    for (input, sample, judge) in inputs() {
-        assert_eq!(clean(&files::program("sample"), &input), sample);
-        assert_eq!(clean(&files::program("judge"), &input), judge);
+/// Stops unless a program refuses those with these numbers.
+fn refuses(program: &Path, numbers: [u8; 6]) {
+    for (input, number) in refused().iter().zip(numbers) {
+        assert_eq!(clean(program, input), format!("refused {number}\n"));
     }
 }
 
-#[test]
-fn the_programs_on_every_set_of_the_examples() {
+/// The names of all sets of the examples.
+fn sets() -> Vec<String> {
     let directory = fs::read_dir(files::root().join("examples")).expect("the examples can be listed");
     let names = directory.map(|entry| entry.expect("an example").file_name().into_string().expect("a name"));
     let sets: Vec<String> = names.filter(|name| name.ends_with(".set")).collect();
     assert!(sets.len() >= 3, "{sets:?}");
-    for name in sets {
-        let printed = clean(&files::program("sample"), &example(&name));
+    sets
+}
+
+#[test]
+fn the_sample_program() {
+    let program = files::program("sample");
+    refuses(&program, [1, 2, 69, 2, 3, 6]);
+    for name in sets() {
+        let printed = clean(&program, &example(&name));
         assert!(printed == "dead\n" || printed.starts_with("alive "), "{name}: {printed}");
-        assert_eq!(clean(&files::program("judge"), &example(&name)), "refused 63 at 0\n");
+    }
+}
+
+#[test]
+fn the_judging_program() {
+    let program = files::program("judge");
+    refuses(&program, [1, 1, 69, 2, 3, 6]);
+    for name in sets() {
+        assert_eq!(clean(&program, &example(&name)), "refused 63 at 0\n", "{name} without a text");
+    }
+    for (set, text, expected) in [
+        ("e.set", b"s0(s1=7,s1=7)".to_vec(), "yes\n"),
+        ("e.set", b"s0(s1=7,s1=8)".to_vec(), "no\n"),
+        ("e.set", b"s0(s1=7,s1".to_vec(), "refused 63 at 10\n"),
+        ("dead.set", example("export.term"), "no\n"),
+        ("agreed.set", example("export.term"), "yes\n"),
+        ("agreed.set", example("export-queue.term"), "no\n"),
+        ("agreed.set", example("export-swapped.term"), "no\n"),
+    ] {
+        let input = [example(set), text].concat();
+        assert_eq!(clean(&program, &input), expected, "{set}");
     }
 }
