@@ -72,7 +72,7 @@ impl Program {
         String::from_utf8(found).expect("programs print ASCII")
     }
 
-    /// What the program prints, and what it tells on standard error, with an input and what a shell makes of it.
+    /// What the program prints, and what it tells on standard error, with an input and a redirection by the shell.
     fn redirected(&self, input: Stdio, redirection: &str) -> (String, String) {
         let script = format!("exec \"$0\" {redirection}");
         let output = Command::new("sh").arg("-c").arg(script).arg(self.path()).stdin(input).output();

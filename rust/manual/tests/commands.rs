@@ -84,7 +84,8 @@ fn commands(line: &str) -> Vec<String> {
 fn in_the_gate(gate: &str, line: &str) -> bool {
     let asked = commands(line);
     let has = |line: &str| commands(line).windows(asked.len()).any(|part| part == asked);
-    line == ".ci/run" || gate.lines().filter(|line| !line.starts_with('#')).any(has)
+    let mut run = gate.lines().filter(|line| !line.trim_start().starts_with('#'));
+    line == ".ci/run" || (!asked.is_empty() && run.any(has))
 }
 
 /// The commands of a `gate` block, with the numbers of their lines; a `#` starts a comment.
@@ -243,7 +244,8 @@ fn what_the_gate_does_not_run_is_found() {
     for line in [".ci/run  # all", "two --three", "cd there && two --three", "four", "five\n# six"] {
         assert_eq!(found(line), [""; 0]);
     }
-    for line in ["one", "two", "--three", "two --three --six", "four\nsix", "cd there && five", ".ci/run now"]
+    for line in
+        ["one", "two", "--three", "two --three --six", "four\nsix", "cd there && five", ".ci/run now", "()"]
     {
         assert_eq!(found(line).len(), 1, "{line}");
     }
