@@ -1,8 +1,11 @@
 //! What the sample program and the judging program print, against the reference.
 
 use std::env;
-use std::fs;
+use std::fs::{self, File};
 use std::io::Write;
+use std::net::Shutdown;
+use std::os::fd::OwnedFd;
+use std::os::unix::net::UnixStream;
 use std::path::{Path, PathBuf};
 use std::process::{Command, Stdio};
 use std::thread::sleep;
@@ -68,6 +71,42 @@ impl Program {
         }
         String::from_utf8(found).expect("programs print ASCII")
     }
+
+    /// What the program prints, and what it tells on standard error, with an input and a redirection by the shell.
+    fn redirected(&self, input: Stdio, redirection: &str) -> (String, String) {
+        let script = format!("exec \"$0\" {redirection}");
+        let output = Command::new("sh").arg("-c").arg(script).arg(self.path()).stdin(input).output();
+        let output = output.expect("the shell starts");
+        assert!(output.status.success(), "{} {redirection} ended with {}", self.name, output.status);
+        let words = |bytes| String::from_utf8(bytes).expect("programs print ASCII");
+        (words(output.stdout), words(output.stderr))
+    }
+
+    /// The same on a socket that never waits. Where it is left open, the read after these bytes fails; else the
+    /// input ends there.
+    fn on_a_socket(&self, bytes: &[u8], left_open: bool) -> (String, String) {
+        let (mut ours, theirs) = UnixStream::pair().expect("a pair of sockets");
+        theirs.set_nonblocking(true).expect("the socket need not wait");
+        ours.write_all(bytes).expect("the bytes fit into the socket");
+        if !left_open {
+            ours.shutdown(Shutdown::Write).expect("the input ends");
+        }
+        self.redirected(Stdio::from(OwnedFd::from(theirs)), "")
+    }
+
+    /// The line on standard error, with nothing printed.
+    fn only_tells(&self, what: &str) -> (String, String) {
+        (String::new(), format!("{}: {what}\n", self.name))
+    }
+}
+
+/// What a program tells where a read fails, and where a write does.
+const NOT_READ: &str = "the input could not be read to its end";
+const NOT_WRITTEN: &str = "the answer could not be written";
+
+/// What a program prints, with nothing told.
+fn prints(words: &str) -> (String, String) {
+    (words.to_string(), String::new())
 }
 
 /// Stops unless each of these beginnings of an output came at least ten times.
@@ -367,5 +406,60 @@ fn a_document_of_1024_rows_and_one_of_1025() {
         let text = reference::term_writer::text_within(&document, &names, 30_000).expect("short enough");
         let printed = JUDGE.compare(&[set.encode(), text].concat());
         assert_eq!(printed, expected, "{rows} rows");
+    }
+}
+
+/// `s1` is a whole document, and the front of a text that is none: taken for all, it would be let in.
+#[test]
+fn a_read_that_fails_is_not_the_end_of_a_text() {
+    let (set, text) = (set_g().encode(), b"s1(s1)");
+    let front = [&set[..], &text[..2]].concat();
+    assert_eq!(JUDGE.on_a_socket(&front, true), JUDGE.only_tells(NOT_READ));
+    assert_eq!(JUDGE.on_a_socket(&front, false), prints("yes\n"));
+    let whole = [&set[..], text].concat();
+    assert_eq!(JUDGE.on_a_socket(&whole, true), JUDGE.only_tells(NOT_READ));
+    assert_eq!(JUDGE.on_a_socket(&whole, false), prints("refused 66 at 0\n"));
+}
+
+#[test]
+fn a_read_that_fails_is_not_the_end_of_a_set() {
+    let set = set_g().encode();
+    assert_eq!(SAMPLE.on_a_socket(&set, true), SAMPLE.only_tells(NOT_READ));
+    assert_eq!(SAMPLE.on_a_socket(&set, false), prints("alive 1\ns1\n"));
+    let front = &set[..set.len() - 1];
+    assert_eq!(SAMPLE.on_a_socket(front, true), SAMPLE.only_tells(NOT_READ));
+    assert_eq!(SAMPLE.on_a_socket(front, false), prints("refused 3\n"));
+}
+
+/// The byte past the longest input is the last that a program asks for: what stands behind it is not read.
+#[test]
+fn a_read_that_fails_at_once_and_at_the_longest_input() {
+    for program in [SAMPLE, JUDGE] {
+        assert_eq!(program.on_a_socket(b"", true), program.only_tells(NOT_READ));
+        assert_eq!(program.on_a_socket(b"", false), prints("refused 1\n"));
+        let longest = vec![0; MAX_PROGRAM_INPUT + 1];
+        let input = &longest[..MAX_PROGRAM_INPUT];
+        assert_eq!(program.on_a_socket(input, true), program.only_tells(NOT_READ));
+        assert_eq!(program.on_a_socket(&longest, true), prints("refused 69\n"));
+    }
+}
+
+#[test]
+fn an_input_that_cannot_be_read() {
+    for program in [SAMPLE, JUDGE] {
+        let directory = File::open(env!("CARGO_MANIFEST_DIR")).expect("the directory is there");
+        assert_eq!(program.redirected(directory.into(), ""), program.only_tells(NOT_READ));
+        assert_eq!(program.redirected(Stdio::null(), "<&-"), program.only_tells(NOT_READ));
+        assert_eq!(program.redirected(Stdio::null(), ""), prints("refused 1\n"));
+    }
+}
+
+#[test]
+fn an_answer_that_cannot_be_written() {
+    for program in [SAMPLE, JUDGE] {
+        for redirection in [">&-", ">/dev/full"] {
+            let found = program.redirected(Stdio::null(), redirection);
+            assert_eq!(found, program.only_tells(NOT_WRITTEN), "{redirection}");
+        }
     }
 }
