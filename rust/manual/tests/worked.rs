@@ -125,13 +125,14 @@ fn the_refusals_of_the_readme_are_those_of_the_library() {
     assert_eq!(found, all);
 }
 
-/// The numbers that stand in round brackets with nothing else, as in `(2, 4)`.
+/// The numbers of refusals, which stand in round brackets, as `(16)` or `(else 16)`.
 fn in_brackets(line: &str) -> Vec<u8> {
     let inside = line.split('(').skip(1).filter_map(|rest| rest.split_once(')'));
-    let numbers = |(inside, _): (&str, &str)| {
-        inside.split(", ").map(|number| number.parse().ok()).collect::<Option<Vec<u8>>>()
+    let number = |(inside, _): (&str, &str)| {
+        let number = inside.strip_prefix("else ").unwrap_or(inside);
+        number.strip_prefix("refused with ").unwrap_or(number).parse().ok()
     };
-    inside.filter_map(numbers).flatten().collect()
+    inside.filter_map(number).collect()
 }
 
 /// The forms are told with the refusal for each thing that is not so: those of sets, tables, runs, names and text.
@@ -152,5 +153,6 @@ fn the_refusals_of_the_forms_are_those_of_the_library() {
 fn numbers_of_refusals_are_found() {
     let table = ["| Place | Number | When |", "|---|---|---|", "| set | 1 | short |", "", "| | 2 | long |"];
     assert_eq!(numbers(&table), [1, 2]);
-    assert_eq!(in_brackets("at least (2, 4), `pair(0,0)`, (number 3) or 5 (6)"), [2, 4, 6]);
+    let line = "at least (else refused with 2), `pair(0,0)`, (number 3), (else 4) or 5 (6)";
+    assert_eq!(in_brackets(line), [2, 4, 6]);
 }
