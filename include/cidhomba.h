@@ -25,7 +25,7 @@
  * Spaces, in elements: the least that serves, and what is recommended. Of all but the last no call can use more.
  *
  *   work of cidhomba_membership   32 for each annotation of the document   CIDHOMBA_WORK_CELLS
- *   run of cidhomba_membership    6 for each 32 cells of work space        CIDHOMBA_RUN_CELLS
+ *   run of cidhomba_membership    6 for each annotation of the room        CIDHOMBA_RUN_CELLS
  *   out of union and product      the length of the result                 CIDHOMBA_MAX_SET_BYTES
  *   rows of cidhomba_witness      10 for each state of the set             CIDHOMBA_WITNESS_CELLS
  *   rows of cidhomba_read_term    10 for each row of the document          CIDHOMBA_TABLE_CELLS
@@ -84,7 +84,8 @@ extern "C" {
 #define CIDHOMBA_UNUSED 65535
 
 /* Why a call is refused. Each function tries its inputs in the order in which it names them, and within one input
- * each number over the whole of it before the next; in text the first fault from the left counts. */
+ * each number over the whole of it before the next; the two name lists count as one input, and in text the first
+ * fault from the left counts. */
 enum cidhomba_refusal {
     /* a set */
     CIDHOMBA_SET_TOO_SHORT = 1,    /* fewer than 16 bytes */
@@ -238,13 +239,17 @@ uint64_t cidhomba_membership(const uint8_t *set, size_t set_length,
                              uint16_t *work, size_t work_length,
                              uint16_t *run, size_t run_length);
 
-/* The set that lets in what either set does, in the stored form. Value: the bytes written to the front of out.
- * Refuses: first set, second set, 51, 52, 53. CIDHOMBA_MAX_SET_BYTES hold every result. */
+/* The set that lets in what either set does, in the stored form: the states, tags and rules of both, one after the
+ * other. Value: the bytes written to the front of out. Refuses: first set, second set, 51, 52, 53.
+ * CIDHOMBA_MAX_SET_BYTES hold every result. */
 uint64_t cidhomba_union(const uint8_t *first, size_t first_length,
                         const uint8_t *second, size_t second_length,
                         uint8_t *out, size_t out_length);
 
-/* The set that lets in what both sets do; value and refusals as for the union. */
+/* The set that lets in what both sets do: a state for each pair of states, a rule for each pair of rules with one
+ * symbol, and the tags of both. Value and refusals as for the union. A tag of one set stands on a state for each state
+ * of the other, so that cidhomba_witness refuses a product with 41, but where the other set has one state alone or no
+ * state carries the tag. */
 uint64_t cidhomba_product(const uint8_t *first, size_t first_length,
                           const uint8_t *second, size_t second_length,
                           uint8_t *out, size_t out_length);

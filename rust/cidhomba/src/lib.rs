@@ -3,7 +3,7 @@
 //! A set is bytes in the stored form, a document is a table of rows of ten 16-bit cells, a run is steps of six;
 //! `docs/FORMATS.md` in the repository lays them out, and term text and its name lists with them. Every function
 //! takes any input and either answers or refuses; a refusal writes to no result space. Spaces are lent: what comes
-//! back is the part at their front that was written, the rest is unchanged.
+//! back is the part at their front that was written, the rest is unchanged; only the judge's work space becomes zeros.
 //!
 //! A call needs at most 128 KiB of stack, allocates nothing, and keeps no state, so that several threads may call
 //! at once.
@@ -285,7 +285,8 @@ pub fn read_term<'a>(
     Ok(&rows[..ROW_CELLS * count])
 }
 
-/// Writes a table's tree as term text. Reading undoes writing.
+/// Writes a table's tree as term text. Reading it gives a table of the same tree, with rows numbered by first
+/// finishing from the left; the same rows where they are in that order already.
 ///
 /// ```
 /// use cidhomba::{read_term, write_term, Names, Reason, MAX_ROWS, ROW_CELLS};
