@@ -1,8 +1,15 @@
-// The cases and edges of document 01, section "Examples, with the edges", run: a line for each, and `stdout` has what the paper says.
+// The cases and edges of document 01, section "Examples, with the edges", and the byte classes of document 02, run: a line for each, and `stdout` has what the papers say.
 use automaton::Checked;
 use base::limits::UNUSED;
 use base::space::put;
 use boolean::Combined;
+use classes::class_table;
+use classes::is_control;
+use classes::is_digit;
+use classes::is_hex_digit;
+use classes::is_letter;
+use classes::is_mark;
+use classes::is_space;
 use console::OUTPUT;
 use document::Scalar;
 use document::fields::RowFields;
@@ -196,6 +203,42 @@ fn table(case: &[u8], rows: u16) {
     checked(document::check(&E, &cells[..n]));
 }
 
+// What the test of class k says of a byte.
+fn is_member(table: &[u8; 256], k: u8, b: u8) -> bool {
+    match k {
+        0 => is_letter(table, b),
+        1 => is_digit(table, b),
+        2 => is_hex_digit(table, b),
+        3 => is_space(table, b),
+        4 => is_mark(table, b),
+        _ => is_control(table, b),
+    }
+}
+
+// A class's name, and its bytes.
+fn members(case: &[u8], table: &[u8; 256], k: u8) {
+    say(case);
+    let mut b = 0u16;
+    while b < 256 {
+        if is_member(table, k, b as u8) {
+            say(b" ");
+            io::print_decimal(STDOUT_FILENO, b as u64);
+        }
+        b += 1;
+    }
+    say(b"\n");
+}
+
+fn byte_classes() {
+    let table = class_table();
+    members(b"letters:", &table, 0);
+    members(b"digits:", &table, 1);
+    members(b"hex digits:", &table, 2);
+    members(b"spaces:", &table, 3);
+    members(b"structural marks:", &table, 4);
+    members(b"controls:", &table, 5);
+}
+
 fn main() {
     documents();
     little_room();
@@ -208,4 +251,5 @@ fn main() {
     symbols(b"65 symbols: ", 65);
     table(b"1,024 rows: ", 1024);
     table(b"1,025 rows: ", 1025);
+    byte_classes();
 }

@@ -1,5 +1,4 @@
 pub mod Tests
-pub mod Letters
 pub mod Strings
 pub mod Scan
 pub mod Naming

@@ -6,15 +6,8 @@ use Prim.Native.Nat.{ℕ, zero, suc, _+_, _/_, _%_}
 use lib.Dec.{ltb, leb}
 use lib.ListN.{length, getD}
 use Rattle.model.specs.Lists.{allBelow, eqList, orElse}
+unfoldable pub use Rattle.classes.specs.Classes.{letter?, digit?}
 use Rattle.names.specs.Lines.{lineAt}
-
--- a to z
-unfoldable pub letter? : ℕ → Bool
-letter? b = leb 97 b && leb b 122
-
--- 0 to 9
-unfoldable pub digit? : ℕ → Bool
-digit? b = leb 48 b && leb b 57
 
 -- a byte that may stand in a name
 unfoldable pub nameByte? : ℕ → Bool

@@ -1,9 +1,10 @@
 // The two lent name lists: their check, the lookup of a symbol's name, and a table for finding a symbol by its name.
-pub mod bytes; // bytes.rt: byte classes, and comparing
+pub mod bytes; // bytes.rt: comparing two parts
 pub mod lines; // lines.rt: the lines of a list, and the lookup
 pub mod table; // table.rt: the names shown, in cells of one width
 
 use base::limits::MAX_SYMBOLS;
+use classes::class_table;
 use lines::list_fits;
 use table::Found;
 use table::TABLE;
@@ -75,8 +76,9 @@ fn are_distinct<'a>(t: &mut [u8], symbols: u16, site: &'a [u8], built_in: &'a [u
 pub fn check<'a>(symbols: u16, site: &'a [u8], built_in: &'a [u8]) -> NamesChecked
     ensures { λ r. ⌜ namesAnswer r ≡ unless (namesCheckOf symbols (now (site .entry)) (now («built_in» .entry))) tt ⌝ }
 {
-    if list_fits(site) {
-        if list_fits(built_in) {
+    let classes = class_table();
+    if list_fits(site, &classes) {
+        if list_fits(built_in, &classes) {
             let mut t = [0u8; TABLE];
             if are_distinct(&mut t, symbols, site, built_in) {
                 return NamesChecked::Distinct;

@@ -1,11 +1,12 @@
 // The lines of a name list, what a name is, and the lookup of a symbol's name in the two lists.
-use crate::bytes::is_digit;
-use crate::bytes::is_letter;
 use base::limits::MAX_SYMBOLS;
+use classes::is_digit;
+use classes::is_letter;
 ghost use mathlib.Core.Path.{_≡_};
 ghost use Prim.Native.Nat.{ℕ, _+_, _≤_, min};
 ghost use lib.ListN.{length, getD};
 ghost use Rattle.model.specs.Lists.{allBelow};
+ghost use Rattle.classes.specs.Classes.{classTable};
 ghost use Rattle.names.specs.Lines.{lineAt};
 ghost use Rattle.names.specs.Places.{Ended, Starts};
 ghost use Rattle.names.specs.Names.{nameByte?, name?, nameOf};
@@ -63,20 +64,21 @@ fn line_start(s: &[u8], i: usize) -> usize
 }
 
 // Whether a byte may stand in a name.
-pub fn in_name(b: u8) -> bool
-    ensures { λ r. ⌜ r ≡ nameByte? b ⌝ }
+pub fn in_name(classes: &[u8; 256], b: u8) -> bool
+    ensures { λ r. ⌜ (now (classes .entry) ≡ classTable → r ≡ nameByte? b) ⌝ }
 {
-    is_letter(b) | is_digit(b)
+    is_letter(classes, b) | is_digit(classes, b)
 }
 
 // Whether each byte may stand in a name.
-fn all_in_name(s: &[u8]) -> bool
+fn all_in_name(s: &[u8], classes: &[u8; 256]) -> bool
+    requires lent { ⌜ now classes ≡ classTable ⌝ }
     ensures { λ r. ⌜ r ≡ allBelow (length (now (s .entry))) (λ k. nameByte? (getD (now (s .entry)) k 0)) ⌝ }
 {
     let n = s.len();
     let mut i = 0;
     while i < n {
-        if in_name(s[i]) {
+        if in_name(classes, s[i]) {
             i += 1;
         } else {
             return false;
@@ -86,7 +88,8 @@ fn all_in_name(s: &[u8]) -> bool
 }
 
 // Whether some bytes are a name.
-pub fn is_name(s: &[u8]) -> bool
+fn is_name(s: &[u8], classes: &[u8; 256]) -> bool
+    requires lent { ⌜ now classes ≡ classTable ⌝ }
     ensures { λ r. ⌜ r ≡ name? (now (s .entry)) ⌝ }
 {
     if s.len() == 0 {
@@ -95,24 +98,26 @@ pub fn is_name(s: &[u8]) -> bool
     if s.len() > MAX_NAME {
         return false;
     }
-    if is_letter(s[0]) {
-        return all_in_name(s);
+    if is_letter(classes, s[0]) {
+        return all_in_name(s, classes);
     }
     false
 }
 
 // Whether a line is empty or a name.
-fn line_fits(s: &[u8]) -> bool
+fn line_fits(s: &[u8], classes: &[u8; 256]) -> bool
+    requires lent { ⌜ now classes ≡ classTable ⌝ }
     ensures { λ r. ⌜ r ≡ lineFits? (now (s .entry)) ⌝ }
 {
     if s.len() == 0 {
         return true;
     }
-    is_name(s)
+    is_name(s, classes)
 }
 
 // Whether a list has at most 64 lines, as many as a set has symbols, each empty or a name.
-pub fn list_fits(s: &[u8]) -> bool
+pub(crate) fn list_fits(s: &[u8], classes: &[u8; 256]) -> bool
+    requires lent { ⌜ now classes ≡ classTable ⌝ }
     ensures { λ r. ⌜ r ≡ listFits? (now (s .entry)) ⌝ }
 {
     let mut a = 0;
@@ -122,7 +127,7 @@ pub fn list_fits(s: &[u8]) -> bool
             return false;
         }
         let e = line_end(s, a);
-        if line_fits(&s[a..e]) {
+        if line_fits(&s[a..e], classes) {
             a = after(s, e);
             k += 1;
         } else {

@@ -7,6 +7,7 @@ use base::limits::MAX_ROWS;
 use base::numbers::size;
 use base::numbers::smaller;
 use base::space::put_cells;
+use classes::class_table;
 use document::index::SLOTS;
 use document::rows::ROW_CELLS;
 use document::rows::count;
@@ -52,9 +53,11 @@ fn read_text(set: &[u8], names: &[u8], symbols: u16, text: &[u8], rows: &mut [u1
 {
     let mut cells = [0u16; CELLS];
     let mut slots = [0u16; SLOTS];
+    let classes = class_table();
     let limit = row_limit(&*rows);
     match term(
         text,
+        &classes,
         set,
         names,
         symbols,

@@ -7,13 +7,13 @@ use automaton::arity;
 use base::limits::PLACES;
 use base::limits::UNUSED;
 use base::numbers::size;
+use classes::is_letter;
 use document::Scalar;
 use document::builder::Placed;
 use document::builder::find_or_add;
 use document::fields::RowFields;
 use document::index::SLOTS;
 use document::rows::Row;
-use names::bytes::is_letter;
 use names::lines::MAX_NAME;
 use names::table::Found;
 use names::table::find;
@@ -24,6 +24,7 @@ ghost use mathlib.Core.List.{List};
 ghost use Prim.Native.Nat.{ℕ, _-_};
 ghost use lib.ListN.{length};
 ghost use Rattle.model.specs.Automaton.{arityOf};
+ghost use Rattle.classes.specs.Classes.{classTable};
 ghost use Rattle.automaton.specs.Stored.{decode};
 ghost use Rattle.automaton.specs.Check.{checkOf};
 ghost use Rattle.document.specs.Rows.{rowsBelow};
@@ -47,11 +48,12 @@ pub(crate) enum TermPart {
 }
 
 // The symbol that is named at a place, where a letter stands.
-fn symbol_at(text: &[u8], names: &[u8], symbols: u16, at: usize) -> SymbolRead
+fn symbol_at(text: &[u8], classes: &[u8; 256], names: &[u8], symbols: u16, at: usize) -> SymbolRead
     requires { ⌜ letter? (byteAt (now text) at) ≡ true ⌝ }
+    requires lent { ⌜ now classes ≡ classTable ⌝ }
     ensures { λ r. ⌜ namedOf r ≡ symbolOf (findIn symbols (nameIn (now (names .entry)))) at (nameAt (now (text .entry)) at) ⌝ }
 {
-    let n = name_bytes(text, at);
+    let n = name_bytes(text, classes, at);
     if n > MAX_NAME {
         return SymbolRead::Unnamed(63, at + MAX_NAME);
     }
@@ -119,6 +121,7 @@ fn with_child(fields: RowFields, k: usize, j: Row) -> RowFields
 // A term without children: the scalar behind its name, then its end.
 fn leaf(
     text: &[u8],
+    classes: &[u8; 256],
     set: &[u8],
     rows: &mut [u16],
     slots: &mut [u16; SLOTS],
@@ -130,9 +133,10 @@ fn leaf(
 ) -> TermPart
     requires ready { ⌜ Ready (now rows) (now slots) used limit ⌝ }
     requires sound { ⌜ checkOf (now set) ≡ 0 ⌝ }
+    requires lent { ⌜ now classes ≡ classTable ⌝ }
     ensures { λ r. ⌜ ((find : List ℕ → Option ℕ) → Says (now (rows .exit)) (now (slots .exit)) limit r (afterScalar (record { symbol = find; arity = arityOf (decode (now (set .entry))); limit = limit }) at symbol (rowsBelow (now (rows .entry)) used) (scalarAt (now (text .entry)) end))) ⌝ }
 {
-    match scalar_at(text, end) {
+    match scalar_at(text, classes, end) {
         ScalarRead::Is(s, next) => {
             let fields = no_children(symbol, s);
             end_term(set, rows, slots, used, limit, at, next, 0, fields)
@@ -144,6 +148,7 @@ fn leaf(
 // The term at a place, of at most so many levels.
 pub(crate) fn term(
     text: &[u8],
+    classes: &[u8; 256],
     set: &[u8],
     names: &[u8],
     symbols: u16,
@@ -157,22 +162,24 @@ pub(crate) fn term(
     requires ready { ⌜ Ready (now rows) (now slots) used limit ⌝ }
     requires sound { ⌜ checkOf (now set) ≡ 0 ⌝ }
     requires counted { ⌜ symbols ≡ length ((decode (now set)) .arities) ⌝ }
+    requires lent { ⌜ now classes ≡ classTable ⌝ }
     ensures { λ r. ⌜ Says (now (rows .exit)) (now (slots .exit)) limit r (readTerm (settingOf (now (set .entry)) (now (names .entry)) symbols limit) (now (text .entry)) level at (rowsBelow (now (rows .entry)) used)) ⌝ }
 {
-    if !is_letter(byte_at(text, at)) {
+    if !is_letter(classes, byte_at(text, at)) {
         return TermPart::Refused(63, at);
     }
     if level == 0 {
         return TermPart::Refused(64, at);
     }
-    match symbol_at(text, names, symbols, at) {
+    match symbol_at(text, classes, names, symbols, at) {
         SymbolRead::Unnamed(w, p) => TermPart::Refused(w, p),
         SymbolRead::Symbol(s, end) => {
             if byte_at(text, end) != b'(' {
-                return leaf(text, set, rows, slots, used, limit, at, s, end);
+                return leaf(text, classes, set, rows, slots, used, limit, at, s, end);
             }
             arguments(
                 text,
+                classes,
                 set,
                 names,
                 symbols,
@@ -192,6 +199,7 @@ pub(crate) fn term(
 // An argument list after its bracket, then the end of its term, which began at `first`: one turn of the loop for each child.
 fn arguments(
     text: &[u8],
+    classes: &[u8; 256],
     set: &[u8],
     names: &[u8],
     symbols: u16,
@@ -207,6 +215,7 @@ fn arguments(
     requires ready { ⌜ Ready (now rows) (now slots) used limit ⌝ }
     requires sound { ⌜ checkOf (now set) ≡ 0 ⌝ }
     requires counted { ⌜ symbols ≡ length ((decode (now set)) .arities) ⌝ }
+    requires lent { ⌜ now classes ≡ classTable ⌝ }
     ensures { λ r. ⌜ Says (now (rows .exit)) (now (slots .exit)) limit r (afterArgs (settingOf (now (set .entry)) (now (names .entry)) symbols limit) first symbol (readArgs (readTerm (settingOf (now (set .entry)) (now (names .entry)) symbols limit) (now (text .entry)) level) (now (text .entry)) (length (now (text .entry)) - start) start (rowsBelow (now (rows .entry)) used))) ⌝ }
 {
     let mut at = start;
@@ -216,6 +225,7 @@ fn arguments(
     loop {
         match term(
             text,
+            classes,
             set,
             names,
             symbols,

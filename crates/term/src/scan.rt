@@ -1,13 +1,16 @@
 // Names and scalars at a place of a text; a byte past the end counts as 0, which no rule allows.
+use classes::is_digit;
+use classes::is_hex_digit;
+use classes::is_letter;
 use document::Scalar;
 use document::scalar::rate_of;
-use names::bytes::is_digit;
 use names::lines::MAX_NAME;
 use names::lines::in_name;
 ghost use mathlib.Core.Path.{_≡_};
 ghost use mathlib.Core.Bool.{true, cond};
 ghost use Prim.Native.Nat.{_+_, _-_, _<_, _≤_, _^_};
 ghost use lib.ListN.{length};
+ghost use Rattle.classes.specs.Classes.{classTable};
 ghost use Rattle.names.specs.Names.{digit?};
 ghost use Rattle.term.specs.Scan.{byteAt, nameBytes, wordBytes, wordAt, digitValue, digitsFrom, numberAt, hexDigit?, hexValue, hexFrom, scalar, ofKind, valueAt, scalarAt};
 ghost use Rattle.term.specs.Answer.{numberOf, scalarOf};
@@ -38,13 +41,14 @@ pub(crate) fn byte_at(text: &[u8], i: usize) -> u8
 }
 
 // How many name bytes stand at a place, counted up to one more than a name may have.
-pub(crate) fn name_bytes(text: &[u8], at: usize) -> usize
+pub(crate) fn name_bytes(text: &[u8], classes: &[u8; 256], at: usize) -> usize
+    requires lent { ⌜ now classes ≡ classTable ⌝ }
     ensures { λ r. ⌜ r ≡ nameBytes (now (text .entry)) at ⌝ }
 {
     let mut n = 0;
     let mut i = at;
     while n <= MAX_NAME {
-        if !in_name(byte_at(text, i)) {
+        if !in_name(classes, byte_at(text, i)) {
             return n;
         }
         n += 1;
@@ -88,15 +92,16 @@ fn digit_value(b: u8) -> u64
 }
 
 // The digits at a place, after a number; the whole number is at most `most`.
-fn digits(text: &[u8], at: usize, most: u64, first: u64) -> NumberRead
+fn digits(text: &[u8], classes: &[u8; 256], at: usize, most: u64, first: u64) -> NumberRead
     requires { ⌜ 9 ≤ most ⌝ }
+    requires lent { ⌜ now classes ≡ classTable ⌝ }
     ensures { λ r. ⌜ numberOf r ≡ digitsFrom (length (now (text .entry)) - at) (most + 1) (now (text .entry)) first at ⌝ }
 {
     let mut v = first;
     let mut i = at;
     while i < text.len() {
         let b = text[i];
-        if !is_digit(b) {
+        if !is_digit(classes, b) {
             return NumberRead::Number(v, i);
         }
         let d = digit_value(b);
@@ -110,41 +115,46 @@ fn digits(text: &[u8], at: usize, most: u64, first: u64) -> NumberRead
 }
 
 // The decimal number at a place, at most `most`.
-fn number(text: &[u8], at: usize, most: u64) -> NumberRead
+fn number(text: &[u8], classes: &[u8; 256], at: usize, most: u64) -> NumberRead
     requires { ⌜ 9 ≤ most ⌝ }
+    requires lent { ⌜ now classes ≡ classTable ⌝ }
     ensures { λ r. ⌜ numberOf r ≡ numberAt (most + 1) (now (text .entry)) at ⌝ }
 {
     let b = byte_at(text, at);
-    if !is_digit(b) {
+    if !is_digit(classes, b) {
         return NumberRead::Fault(at);
     }
     if b != b'0' {
-        return digits(text, at + 1, most, digit_value(b));
+        return digits(text, classes, at + 1, most, digit_value(b));
     }
-    if is_digit(byte_at(text, at + 1)) {
+    if is_digit(classes, byte_at(text, at + 1)) {
         return NumberRead::Fault(at + 1);
     }
     NumberRead::Number(0, at + 1)
 }
 
-fn is_hex_digit(b: u8) -> bool
+// Whether a byte is a hex digit in lowercase: a hex digit that is a digit or a letter.
+fn is_lower_hex(classes: &[u8; 256], b: u8) -> bool
+    requires lent { ⌜ now classes ≡ classTable ⌝ }
     ensures { λ r. ⌜ r ≡ hexDigit? b ⌝ }
 {
-    is_digit(b) | ((b'a' <= b) & (b <= b'f'))
+    is_hex_digit(classes, b) & (is_digit(classes, b) | is_letter(classes, b))
 }
 
-fn hex_value(b: u8) -> u64
+fn hex_value(classes: &[u8; 256], b: u8) -> u64
     requires { ⌜ hexDigit? b ≡ true ⌝ }
+    requires lent { ⌜ now classes ≡ classTable ⌝ }
     ensures { λ r. ⌜ (r ≡ hexValue b) × (r < 16) ⌝ }
 {
-    if is_digit(b) {
+    if is_digit(classes, b) {
         return (b - b'0') as u64;
     }
     (b - b'a') as u64 + 10
 }
 
 // The bits that 16 hex digits at a place say.
-fn hex_bits(text: &[u8], at: usize) -> NumberRead
+fn hex_bits(text: &[u8], classes: &[u8; 256], at: usize) -> NumberRead
+    requires lent { ⌜ now classes ≡ classTable ⌝ }
     ensures { λ r. ⌜ numberOf r ≡ hexFrom 16 (now (text .entry)) 0 at ⌝ }
 {
     let mut v = 0;
@@ -152,36 +162,39 @@ fn hex_bits(text: &[u8], at: usize) -> NumberRead
     let mut i = at;
     while n < HEX_DIGITS {
         let b = byte_at(text, i);
-        if !is_hex_digit(b) {
+        if !is_lower_hex(classes, b) {
             return NumberRead::Fault(i);
         }
-        v = v * 16 + hex_value(b);
+        v = v * 16 + hex_value(classes, b);
         n += 1;
         i += 1;
     }
     NumberRead::Number(v, i)
 }
 
-fn rate(text: &[u8], at: usize) -> ScalarRead
+fn rate(text: &[u8], classes: &[u8; 256], at: usize) -> ScalarRead
+    requires lent { ⌜ now classes ≡ classTable ⌝ }
     ensures { λ r. ⌜ scalarOf r ≡ ofKind 3 (hexFrom 16 (now (text .entry)) 0 at) ⌝ }
 {
-    match hex_bits(text, at) {
+    match hex_bits(text, classes, at) {
         NumberRead::Number(n, e) => ScalarRead::Is(rate_of(n), e),
         NumberRead::Fault(p) => ScalarRead::Fault(p),
     }
 }
 
-fn name_number(text: &[u8], at: usize) -> ScalarRead
+fn name_number(text: &[u8], classes: &[u8; 256], at: usize) -> ScalarRead
+    requires lent { ⌜ now classes ≡ classTable ⌝ }
     ensures { λ r. ⌜ scalarOf r ≡ ofKind 4 (numberAt (2 ^ 32) (now (text .entry)) at) ⌝ }
 {
-    match number(text, at, MAX_NAME_NUMBER) {
+    match number(text, classes, at, MAX_NAME_NUMBER) {
         NumberRead::Number(n, e) => ScalarRead::Is(Scalar::Name(n as u32), e),
         NumberRead::Fault(p) => ScalarRead::Fault(p),
     }
 }
 
 // What stands after `=`.
-fn value(text: &[u8], at: usize) -> ScalarRead
+fn value(text: &[u8], classes: &[u8; 256], at: usize) -> ScalarRead
+    requires lent { ⌜ now classes ≡ classTable ⌝ }
     ensures { λ r. ⌜ scalarOf r ≡ valueAt (now (text .entry)) at ⌝ }
 {
     let b = byte_at(text, at);
@@ -191,25 +204,26 @@ fn value(text: &[u8], at: usize) -> ScalarRead
     if b == b'f' {
         return flag(text, at, b"false", false);
     }
-    match number(text, at, MAX_COUNT) {
+    match number(text, classes, at, MAX_COUNT) {
         NumberRead::Number(n, e) => ScalarRead::Is(Scalar::Count(n), e),
         NumberRead::Fault(p) => ScalarRead::Fault(p),
     }
 }
 
 // The scalar behind a name; a bare one where there is none.
-pub(crate) fn scalar_at(text: &[u8], at: usize) -> ScalarRead
+pub(crate) fn scalar_at(text: &[u8], classes: &[u8; 256], at: usize) -> ScalarRead
+    requires lent { ⌜ now classes ≡ classTable ⌝ }
     ensures { λ r. ⌜ scalarOf r ≡ scalarAt (now (text .entry)) at ⌝ }
 {
     let b = byte_at(text, at);
     if b == b'=' {
-        return value(text, at + 1);
+        return value(text, classes, at + 1);
     }
     if b == b'~' {
-        return rate(text, at + 1);
+        return rate(text, classes, at + 1);
     }
     if b == b'#' {
-        return name_number(text, at + 1);
+        return name_number(text, classes, at + 1);
     }
     ScalarRead::Is(Scalar::Bare, at)
 }

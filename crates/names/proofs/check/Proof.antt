@@ -7,7 +7,7 @@ use Rattle.names.proofs.check.Tie as tie
 
 distinct-requires : tie.Need-are-distinct-requires
 distinct-requires c κs =
-    let site = sym (c .before .before .before .before .list-fits .ensures) ∙ c .before .before .before .if1 .taken in
+    let site = sym (c .before .before .before .before .before .list-fits .ensures) ∙ c .before .before .before .before .if1 .taken in
     let built-in = sym (c .before .before .list-fits2 .ensures) ∙ c .before .if2 .taken in
     (search needs, (site, built-in))
 
@@ -15,6 +15,7 @@ pub check-spec : {M : Type 1} → statement M
 check-spec =
     tie.close
     (tie.spec
+    (λ c κs. search needs)
     (λ c κs. search needs)
     (λ c κs. search needs)
     (λ c. search needs)

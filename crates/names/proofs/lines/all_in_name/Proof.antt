@@ -7,10 +7,10 @@ use Rattle.names.proofs.lines.all_in_name.Statement.{statement}
 use Rattle.names.proofs.lines.all_in_name.Tie as tie
 
 abbrev Inv-loop : tie.InvT-loop
-Inv-loop s n i₀ i = Passed (λ k. nameByte? (getD s k 0)) (length s) n i
+Inv-loop s classes n i₀ i = Passed (λ k. nameByte? (getD s k 0)) (length s) n i
 
 abbrev μ-loop : tie.MeasureT-loop
-μ-loop s n i₀ i = n - i
+μ-loop s classes n i₀ i = n - i
 
 pub all-in-name-spec : {M : Type 1} → statement M
 all-in-name-spec =
@@ -23,6 +23,6 @@ all-in-name-spec =
     (λ c κs. search loops)
     (λ c. search loops)
     (λ c. search loops)
-    (λ c. search loops)
-    (λ c. search loops)
+    (λ c. let e = c .before .in-name .ensures (c .before .before .before .before .before .before .pre) in search loops)
+    (λ c. let e = c .before .in-name .ensures (c .before .before .before .before .before .before .pre) in search loops)
     (λ c. search loops))

@@ -6,7 +6,10 @@ use Rattle.names.proofs.lines.in_name.Tie as tie
 
 returns : tie.Need-returns
 unfolding nameByte?
-returns c = cc
+returns c lent =
+    let letter = c .before .is-letter .ensures .1 lent in
+    let digit = c .is-digit .ensures .1 lent in
+    cc
 
 pub in-name-spec : {M : Type 1} → statement M
 in-name-spec =

@@ -14,5 +14,5 @@ is-name-spec =
     (λ c. search needs)
     (λ c κs. search needs)
     (λ c κs. search needs)
-    (λ c. search naming)
-    (λ c. search naming))
+    (λ c. let e = c .before .before .is-letter .ensures .1 (c .before .before .before .before .before .before .before .pre) in search naming)
+    (λ c. let e = c .before .is-letter .ensures .1 (c .before .before .before .before .before .before .pre) in search naming))

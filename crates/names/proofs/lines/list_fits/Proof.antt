@@ -6,10 +6,10 @@ use Rattle.names.proofs.lines.list_fits.Statement.{statement}
 use Rattle.names.proofs.lines.list_fits.Tie as tie
 
 abbrev Inv-loop : tie.InvT-loop
-Inv-loop s a₀ k₀ a k = LinesPassed s k a
+Inv-loop s classes a₀ k₀ a k = LinesPassed s k a
 
 abbrev μ-loop : tie.MeasureT-loop
-μ-loop s a₀ k₀ a k = length s - a
+μ-loop s classes a₀ k₀ a k = length s - a
 
 pub list-fits-spec : {M : Type 1} → statement M
 list-fits-spec =

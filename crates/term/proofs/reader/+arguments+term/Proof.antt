@@ -26,7 +26,7 @@ use Rattle.term.proofs.reader.+arguments+term.Lts-arguments as argument
 use Rattle.term.proofs.reader.term.Reads as term
 use Rattle.term.proofs.reader.term.Kinds as term-kinds
 use Rattle.term.proofs.reader.+arguments+term.Lts-term as term-lts
-use Rattle.names.proofs.bytes.is_letter.Reads as is-letter-reads
+use Rattle.classes.proofs.is_letter.Reads as is-letter-reads
 use Rattle.term.proofs.reader.end_term.Reads as end-term-reads
 use Rattle.term.proofs.reader.leaf.Reads as leaf-reads
 use Rattle.term.proofs.reader.no_children.Reads as no-children-reads
@@ -36,30 +36,30 @@ use Rattle.term.proofs.scan.byte_at.Reads as byte-at-reads
 use Rattle.term.proofs.reader.+arguments+term.{statement}
 use Rattle.term.proofs.reader.+arguments+term.Tie.{close}
 
-abbrev μ-arguments : Measures 5 arguments-kinds.ps ℕ
-μ-arguments κs a = 2 * a .1 .1 .1 .1 .1 .1 .1 .1 .0 + 1
+abbrev μ-arguments : Measures 6 arguments-kinds.ps ℕ
+μ-arguments κs a = 2 * a .1 .1 .1 .1 .1 .1 .1 .1 .1 .0 + 1
 
-abbrev μ-term : Measures 5 term-kinds.ps ℕ
-μ-term κs a = 2 * a .1 .1 .1 .1 .1 .1 .1 .1 .0
+abbrev μ-term : Measures 6 term-kinds.ps ℕ
+μ-term κs a = 2 * a .1 .1 .1 .1 .1 .1 .1 .1 .1 .0
 
-abbrev arguments-at : ℕ → In 5 arguments-kinds.ps
-arguments-at t = and 5 arguments-kinds.ps (is 5 arguments-kinds.ps μ-arguments t) arguments.Pre
+abbrev arguments-at : ℕ → In 6 arguments-kinds.ps
+arguments-at t = and 6 arguments-kinds.ps (is 6 arguments-kinds.ps μ-arguments t) arguments.Pre
 
-abbrev arguments-below : ℕ → In 5 arguments-kinds.ps
-arguments-below t = and 5 arguments-kinds.ps (falls 5 arguments-kinds.ps _<_ μ-arguments t) arguments.Pre
+abbrev arguments-below : ℕ → In 6 arguments-kinds.ps
+arguments-below t = and 6 arguments-kinds.ps (falls 6 arguments-kinds.ps _<_ μ-arguments t) arguments.Pre
 
-abbrev term-at : ℕ → In 5 term-kinds.ps
-term-at t = and 5 term-kinds.ps (is 5 term-kinds.ps μ-term t) term.Pre
+abbrev term-at : ℕ → In 6 term-kinds.ps
+term-at t = and 6 term-kinds.ps (is 6 term-kinds.ps μ-term t) term.Pre
 
-abbrev term-below : ℕ → In 5 term-kinds.ps
-term-below t = and 5 term-kinds.ps (falls 5 term-kinds.ps _<_ μ-term t) term.Pre
+abbrev term-below : ℕ → In 6 term-kinds.ps
+term-below t = and 6 term-kinds.ps (falls 6 term-kinds.ps _<_ μ-term t) term.Pre
 
 abbrev Inv-loop : arguments-lts.InvT-loop
-Inv-loop text set names symbols limit rows₀ slots₀ used level start first symbol at₀ known₀ count₀ fields₀ rows slots at known count fields =
+Inv-loop text classes set names symbols limit rows₀ slots₀ used level start first symbol at₀ known₀ count₀ fields₀ rows slots at known count fields =
     Listing (readTerm (settingOf set names symbols limit) text level) text start (rowsBelow rows₀ used) limit rows slots at known count (fields .places) × (length rows ≡ length rows₀) × (fields .symbol ≡ symbol) × (fields .scalar ≡ Bare)
 
 abbrev μ-loop : arguments-lts.MeasureT-loop
-μ-loop text set names symbols limit rows₀ slots₀ used level start first symbol at₀ known₀ count₀ fields₀ rows slots at known count fields = length text - at
+μ-loop text classes set names symbols limit rows₀ slots₀ used level start first symbol at₀ known₀ count₀ fields₀ rows slots at known count fields = length text - at
 
 -- what the calls of the list reader and of the term reader ask and tell
 abbrev list : ℕ → arguments-lts.Claims
@@ -106,7 +106,7 @@ arguments-returns : (t : ℕ) → arguments-lts.Need-returns (list t) (arguments
 arguments-returns t c =
     says-by _ _ _ _
     (ap (afterArgs _ (c .before .before .before .before .before .before .before .before .before .before .before .before .before .before .args .first) (c .before .before .before .before .before .before .before .before .before .before .before .before .before .before .args .symbol))
-    (list-refused _ _ _ _ _ (term-ends _ _ _) (term-ahead _ _ _ _ (c .before .before .before .before .before .before .before .before .before .before .before .before .before .before .pre .1 .1 .1) _ _) _ _ _ _ _ (c .before .before .before .before .before .before .before .before .loop .fields) (c .before .before .before .before .before .before .before .before .loop .inv .0) _ _ _ (c .before .before .before .before .before .term .ensures) _ _ (c .before .w .given .1)))
+    (list-refused _ _ _ _ _ (term-ends _ _ _) (term-ahead _ _ _ _ (c .before .before .before .before .before .before .before .before .before .before .before .before .before .before .pre .1 .1 .1 .0) _ _) _ _ _ _ _ (c .before .before .before .before .before .before .before .before .loop .fields) (c .before .before .before .before .before .before .before .before .loop .inv .0) _ _ _ (c .before .before .before .before .before .term .ensures) _ _ (c .before .w .given .1)))
     refl
 
 -- a term of the list was read
@@ -116,7 +116,7 @@ arguments-add-count t c =
       arith,
       c .before .before .before .before .before .before .before .before .before .loop .inv .0 .few,
       c .before .before .before .before .before .before .before .before .before .before .before .before .before .before .before .good .0,
-      list-ahead _ _ _ _ _ (term-ends _ _ _) (term-ahead _ _ _ _ (c .before .before .before .before .before .before .before .before .before .before .before .before .before .before .before .pre .1 .1 .1) _ _) _ _ _ _ _ (c .before .before .before .before .before .before .before .before .before .loop .fields) (c .before .before .before .before .before .before .before .before .before .loop .inv .0) _ _ _ (c .before .before .before .before .before .before .term .ensures) _ _ _ (c .before .before .j .given .1),
+      list-ahead _ _ _ _ _ (term-ends _ _ _) (term-ahead _ _ _ _ (c .before .before .before .before .before .before .before .before .before .before .before .before .before .before .before .pre .1 .1 .1 .0) _ _) _ _ _ _ _ (c .before .before .before .before .before .before .before .before .before .loop .fields) (c .before .before .before .before .before .before .before .before .before .loop .inv .0) _ _ _ (c .before .before .before .before .before .before .term .ensures) _ _ _ (c .before .before .j .given .1),
     )
 
 arguments-add-end-term : (t : ℕ) → arguments-lts.Need-add-end-term (list t) (arguments-at t) arguments.Post Inv-loop μ-loop
@@ -125,7 +125,7 @@ arguments-add-end-term t c =
 
 arguments-end-term-requires : (t : ℕ) → arguments-lts.Need-end-term-requires (list t) (arguments-at t) arguments.Post Inv-loop μ-loop
 arguments-end-term-requires t c κs = (
-  list-ready _ _ _ _ _ (term-ends _ _ _) (term-ahead _ _ _ _ (c .before .before .before .before .before .before .before .before .before .before .before .before .before .before .before .before .before .before .before .pre .1 .1 .1) _ _) _ _ _ _ _ (c .before .before .before .before .before .before .before .before .before .before .before .before .before .loop .fields) (c .before .before .before .before .before .before .before .before .before .before .before .before .before .loop .inv .0) _ _ _ (c .before .before .before .before .before .before .before .before .before .before .term .ensures) _ _ _ (c .before .before .before .before .before .before .j .given .1),
+  list-ready _ _ _ _ _ (term-ends _ _ _) (term-ahead _ _ _ _ (c .before .before .before .before .before .before .before .before .before .before .before .before .before .before .before .before .before .before .before .pre .1 .1 .1 .0) _ _) _ _ _ _ _ (c .before .before .before .before .before .before .before .before .before .before .before .before .before .loop .fields) (c .before .before .before .before .before .before .before .before .before .before .before .before .before .loop .inv .0) _ _ _ (c .before .before .before .before .before .before .before .before .before .before .term .ensures) _ _ _ (c .before .before .before .before .before .before .j .given .1),
   c .before .before .before .before .before .before .before .before .before .before .before .before .before .before .before .before .before .before .before .pre .1 .1 .0,
 )
 
@@ -133,17 +133,17 @@ arguments-returns-2 : (t : ℕ) → arguments-lts.Need-returns-2 (list t) (argum
 arguments-returns-2 t c =
     says-by _ _ _ _
     (ap (afterArgs _ (c .before .before .before .before .before .before .before .before .before .before .before .before .before .before .before .before .before .before .before .before .before .before .args .first) (c .before .before .before .before .before .before .before .before .before .before .before .before .before .before .before .before .before .before .before .before .before .before .args .symbol))
-    (list-last _ _ _ _ _ (term-ends _ _ _) (term-ahead _ _ _ _ (c .before .before .before .before .before .before .before .before .before .before .before .before .before .before .before .before .before .before .before .before .before .before .pre .1 .1 .1) _ _) _ _ _ _ _ (c .before .before .before .before .before .before .before .before .before .before .before .before .before .before .before .before .loop .fields) (c .before .before .before .before .before .before .before .before .before .before .before .before .before .before .before .before .loop .inv .0) _ _ _ (c .before .before .before .before .before .before .before .before .before .before .before .before .before .term .ensures) _ _ _ (c .before .before .before .before .before .before .before .before .before .j .given .1)
+    (list-last _ _ _ _ _ (term-ends _ _ _) (term-ahead _ _ _ _ (c .before .before .before .before .before .before .before .before .before .before .before .before .before .before .before .before .before .before .before .before .before .before .pre .1 .1 .1 .0) _ _) _ _ _ _ _ (c .before .before .before .before .before .before .before .before .before .before .before .before .before .before .before .before .loop .fields) (c .before .before .before .before .before .before .before .before .before .before .before .before .before .before .before .before .loop .inv .0) _ _ _ (c .before .before .before .before .before .before .before .before .before .before .before .before .before .term .ensures) _ _ _ (c .before .before .before .before .before .before .before .before .before .j .given .1)
     (sym (c .before .before .before .before .before .before .byte-at .ensures) ∙ c .before .before .before .before .before .if1 .taken)))
     (says-bare _ _ _ _ _ _ _ _ _ _ (c .before .before .before .before .before .before .before .with-child .result) (ap (λ f. f .symbol) (c .before .before .before .before .before .before .before .with-child .ensures) ∙ c .before .before .before .before .before .before .before .before .before .before .before .before .before .before .before .before .loop .inv .2) (ap (λ f. f .scalar) (c .before .before .before .before .before .before .before .with-child .ensures) ∙ c .before .before .before .before .before .before .before .before .before .before .before .before .before .before .before .before .loop .inv .3)
     (c .before .before .end-term .ensures _
-    (list-held _ _ _ _ _ (term-ends _ _ _) (term-ahead _ _ _ _ (c .before .before .before .before .before .before .before .before .before .before .before .before .before .before .before .before .before .before .before .before .before .before .pre .1 .1 .1) _ _) _ _ _ _ _ (c .before .before .before .before .before .before .before .before .before .before .before .before .before .before .before .before .loop .fields) (c .before .before .before .before .before .before .before .before .before .before .before .before .before .before .before .before .loop .inv .0) _ _ _ (c .before .before .before .before .before .before .before .before .before .before .before .before .before .term .ensures) _ _ _ (c .before .before .before .before .before .before .before .before .before .j .given .1) _ (c .before .before .before .before .before .before .before .with-child .ensures))))
+    (list-held _ _ _ _ _ (term-ends _ _ _) (term-ahead _ _ _ _ (c .before .before .before .before .before .before .before .before .before .before .before .before .before .before .before .before .before .before .before .before .before .before .pre .1 .1 .1 .0) _ _) _ _ _ _ _ (c .before .before .before .before .before .before .before .before .before .before .before .before .before .before .before .before .loop .fields) (c .before .before .before .before .before .before .before .before .before .before .before .before .before .before .before .before .loop .inv .0) _ _ _ (c .before .before .before .before .before .before .before .before .before .before .before .before .before .term .ensures) _ _ _ (c .before .before .before .before .before .before .before .before .before .j .given .1) _ (c .before .before .before .before .before .before .before .with-child .ensures))))
 
 arguments-returns-3 : (t : ℕ) → arguments-lts.Need-returns-3 (list t) (arguments-at t) arguments.Post Inv-loop μ-loop
 arguments-returns-3 t c =
     says-by _ _ _ _
     (ap (afterArgs _ (c .before .before .before .before .before .before .before .before .before .before .before .before .before .before .before .before .before .before .args .first) (c .before .before .before .before .before .before .before .before .before .before .before .before .before .before .before .before .before .before .args .symbol))
-    (list-other _ _ _ _ _ (term-ends _ _ _) (term-ahead _ _ _ _ (c .before .before .before .before .before .before .before .before .before .before .before .before .before .before .before .before .before .before .pre .1 .1 .1) _ _) _ _ _ _ _ (c .before .before .before .before .before .before .before .before .before .before .before .before .loop .fields) (c .before .before .before .before .before .before .before .before .before .before .before .before .loop .inv .0) _ _ _ (c .before .before .before .before .before .before .before .before .before .term .ensures) _ _ _ (c .before .before .before .before .before .j .given .1)
+    (list-other _ _ _ _ _ (term-ends _ _ _) (term-ahead _ _ _ _ (c .before .before .before .before .before .before .before .before .before .before .before .before .before .before .before .before .before .before .pre .1 .1 .1 .0) _ _) _ _ _ _ _ (c .before .before .before .before .before .before .before .before .before .before .before .before .loop .fields) (c .before .before .before .before .before .before .before .before .before .before .before .before .loop .inv .0) _ _ _ (c .before .before .before .before .before .before .before .before .before .term .ensures) _ _ _ (c .before .before .before .before .before .j .given .1)
     (λ e. c .if2 .taken (c .before .before .byte-at .ensures ∙ e)) (λ e. c .before .if1 .left (c .before .before .byte-at .ensures ∙ e))))
     refl
 
@@ -155,12 +155,12 @@ arguments-loop-less : (t : ℕ) → arguments-lts.Need-loop-less (list t) (argum
 arguments-loop-less t c =
     omega (
       arith,
-      list-ahead _ _ _ _ _ (term-ends _ _ _) (term-ahead _ _ _ _ (c .before .before .before .before .before .before .before .before .before .before .before .before .before .before .before .before .before .before .pre .1 .1 .1) _ _) _ _ _ _ _ (c .before .before .before .before .before .before .before .before .before .before .before .before .loop .fields) (c .before .before .before .before .before .before .before .before .before .before .before .before .loop .inv .0) _ _ _ (c .before .before .before .before .before .before .before .before .before .term .ensures) _ _ _ (c .before .before .before .before .before .j .given .1),
+      list-ahead _ _ _ _ _ (term-ends _ _ _) (term-ahead _ _ _ _ (c .before .before .before .before .before .before .before .before .before .before .before .before .before .before .before .before .before .before .pre .1 .1 .1 .0) _ _) _ _ _ _ _ (c .before .before .before .before .before .before .before .before .before .before .before .before .loop .fields) (c .before .before .before .before .before .before .before .before .before .before .before .before .loop .inv .0) _ _ _ (c .before .before .before .before .before .before .before .before .before .term .ensures) _ _ _ (c .before .before .before .before .before .j .given .1),
     )
 
 arguments-loop-again : (t : ℕ) → arguments-lts.Need-loop-again (list t) (arguments-at t) arguments.Post Inv-loop μ-loop
 arguments-loop-again t c = (
-  list-more _ _ _ _ _ (term-ends _ _ _) (term-ahead _ _ _ _ (c .before .before .before .before .before .before .before .before .before .before .before .before .before .before .before .before .before .before .pre .1 .1 .1) _ _) _ _ _ _ _ (c .before .before .before .before .before .before .before .before .before .before .before .before .loop .fields) (c .before .before .before .before .before .before .before .before .before .before .before .before .loop .inv .0) _ _ _ (c .before .before .before .before .before .before .before .before .before .term .ensures) _ _ _ (c .before .before .before .before .before .j .given .1) _ (c .before .before .before .with-child .ensures)
+  list-more _ _ _ _ _ (term-ends _ _ _) (term-ahead _ _ _ _ (c .before .before .before .before .before .before .before .before .before .before .before .before .before .before .before .before .before .before .pre .1 .1 .1 .0) _ _) _ _ _ _ _ (c .before .before .before .before .before .before .before .before .before .before .before .before .loop .fields) (c .before .before .before .before .before .before .before .before .before .before .before .before .loop .inv .0) _ _ _ (c .before .before .before .before .before .before .before .before .before .term .ensures) _ _ _ (c .before .before .before .before .before .j .given .1) _ (c .before .before .before .with-child .ensures)
       (sym (c .before .before .byte-at .ensures) ∙ c .if2 .left),
   search needs,
   ap (λ f. f .symbol) (c .before .before .before .with-child .ensures) ∙ c .before .before .before .before .before .before .before .before .before .before .before .before .loop .inv .2,
@@ -169,19 +169,19 @@ arguments-loop-again t c = (
 
 -- the term reader: what stands at the place
 term-letter : (t : ℕ) (c : term-lts.Else1 (one t) (term-at t) term.Post) → letter? (getD (now (c .before .before .before .before .before .before .before .args .text)) (c .before .before .before .before .before .before .before .args .at) 0) ≡ true
-term-letter t c = ap letter? (sym (c .before .before .byte-at .ensures)) ∙ sym (c .before .is-letter .ensures) ∙ not-false (c .before .is-letter .result) (c .if1 .left)
+term-letter t c = ap letter? (sym (c .before .before .byte-at .ensures)) ∙ sym (c .before .is-letter .ensures .1 (c .before .before .before .before .before .before .before .pre .1 .1 .1 .1)) ∙ not-false (c .before .is-letter .result) (c .if1 .left)
 
 term-returns : (t : ℕ) → term-lts.Need-returns (one t) (term-at t) term.Post
 term-returns t c =
     says-by _ _ _ _
-    (no-letter _ _ _ _ _ (ap letter? (sym (c .before .before .byte-at .ensures)) ∙ sym (c .before .is-letter .ensures) ∙ not-true (c .before .is-letter .result) (c .if1 .taken)))
+    (no-letter _ _ _ _ _ (ap letter? (sym (c .before .before .byte-at .ensures)) ∙ sym (c .before .is-letter .ensures .1 (c .before .before .before .before .before .before .before .pre .1 .1 .1 .1)) ∙ not-true (c .before .is-letter .result) (c .if1 .taken)))
     refl
 
 term-returns-2 : (t : ℕ) → term-lts.Need-returns-2 (one t) (term-at t) term.Post
 term-returns-2 t c = says-by _ _ _ _ (too-deep _ _ _ _ (term-letter t (c .before)) _ (c .if2 .taken)) refl
 
 term-symbol-at-requires : (t : ℕ) → term-lts.Need-symbol-at-requires (one t) (term-at t) term.Post
-term-symbol-at-requires t c κs = term-letter t (c .before)
+term-symbol-at-requires t c κs = (term-letter t (c .before), search needs)
 
 term-returns-3 : (t : ℕ) → term-lts.Need-returns-3 (one t) (term-at t) term.Post
 term-returns-3 t c =

@@ -14,23 +14,23 @@ use Rattle.term.proofs.scan.digits.Statement.{statement}
 use Rattle.term.proofs.scan.digits.Tie as tie
 
 abbrev Inv-loop : tie.InvT-loop
-Inv-loop text at most first v₀ i₀ v i = Digits (most + 1) text first at v i
+Inv-loop text classes at most first v₀ i₀ v i = Digits (most + 1) text first at v i
 
 abbrev μ-loop : tie.MeasureT-loop
-μ-loop text at most first v₀ i₀ v i = length text - i
+μ-loop text classes at most first v₀ i₀ v i = length text - i
 
 returns : tie.Need-returns Inv-loop μ-loop
 returns c =
     digits-stop _ _ _ _ _ _ (c .before .before .before .before .loop .inv) (c .before .before .before .loop-test .taken)
-    (sym (c .before .is-digit .ensures) ∙ not-true (c .before .is-digit .result) (c .if1 .taken))
+    (sym (c .before .is-digit .ensures .1 (c .before .before .before .before .before .before .pre .1)) ∙ not-true (c .before .is-digit .result) (c .if1 .taken))
 
 digit-value-requires : tie.Need-digit-value-requires Inv-loop μ-loop
-digit-value-requires c κs = sym (c .before .is-digit .ensures) ∙ not-false (c .before .is-digit .result) (c .if1 .left)
+digit-value-requires c κs = sym (c .before .is-digit .ensures .1 (c .before .before .before .before .before .before .pre .1)) ∙ not-false (c .before .is-digit .result) (c .if1 .left)
 
 -- a digit was read
 module _ (c : tie.After-digit-value Inv-loop μ-loop) where
   digit : digit? (byteAt (now (c .before .before .before .before .before .before .before .args .text)) (c .before .before .before .before .before .loop .i)) ≡ true
-  digit = sym (c .before .before .is-digit .ensures) ∙ not-false (c .before .before .is-digit .result) (c .before .if1 .left)
+  digit = sym (c .before .before .is-digit .ensures .1 (c .before .before .before .before .before .before .before .pre .1)) ∙ not-false (c .before .before .is-digit .result) (c .before .if1 .left)
 
 returns-2 : tie.Need-returns-2 Inv-loop μ-loop
 returns-2 c =

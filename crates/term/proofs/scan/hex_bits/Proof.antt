@@ -13,21 +13,21 @@ use Rattle.term.proofs.scan.hex_bits.Statement.{statement}
 use Rattle.term.proofs.scan.hex_bits.Tie as tie
 
 abbrev Inv-loop : tie.InvT-loop
-Inv-loop text at v₀ n₀ i₀ v n i = Hex text at v n i
+Inv-loop text classes at v₀ n₀ i₀ v n i = Hex text at v n i
 
 abbrev μ-loop : tie.MeasureT-loop
-μ-loop text at v₀ n₀ i₀ v n i = 16 - n
+μ-loop text classes at v₀ n₀ i₀ v n i = 16 - n
 
 returns : tie.Need-returns Inv-loop μ-loop
 returns c =
     hex-stop _ _ _ _ _ (c .before .before .before .before .loop .inv) (c .before .before .before .loop-test .taken)
-    (ap hexDigit? (sym (c .before .before .byte-at .ensures)) ∙ sym (c .before .is-hex-digit .ensures) ∙ not-true (c .before .is-hex-digit .result) (c .if1 .taken))
+    (ap hexDigit? (sym (c .before .before .byte-at .ensures)) ∙ sym (c .before .is-lower-hex .ensures) ∙ not-true (c .before .is-lower-hex .result) (c .if1 .taken))
 
 mul-v : tie.Need-mul-v Inv-loop μ-loop
 mul-v c = omega (arith, hex-room _ _ _ _ _ (c .before .before .before .before .loop .inv) (c .before .before .before .loop-test .taken))
 
 hex-value-requires : tie.Need-hex-value-requires Inv-loop μ-loop
-hex-value-requires c κs = sym (c .before .is-hex-digit .ensures) ∙ not-false (c .before .is-hex-digit .result) (c .if1 .left)
+hex-value-requires c κs = (sym (c .before .is-lower-hex .ensures) ∙ not-false (c .before .is-lower-hex .result) (c .if1 .left), search needs)
 
 add-v : tie.Need-add-v Inv-loop μ-loop
 add-v c = omega (arith, hex-room _ _ _ _ _ (c .before .before .before .before .before .loop .inv) (c .before .before .before .before .loop-test .taken))
@@ -36,8 +36,8 @@ add-v c = omega (arith, hex-room _ _ _ _ _ (c .before .before .before .before .b
 module _ (c : tie.After-hex-value Inv-loop μ-loop) where
   digit : hexDigit? (byteAt (now (c .before .before .before .before .before .before .before .args .text)) (c .before .before .before .before .before .loop .i)) ≡ true
   digit =
-      ap hexDigit? (sym (c .before .before .before .byte-at .ensures)) ∙ sym (c .before .before .is-hex-digit .ensures)
-      ∙ not-false (c .before .before .is-hex-digit .result) (c .before .if1 .left)
+      ap hexDigit? (sym (c .before .before .before .byte-at .ensures)) ∙ sym (c .before .before .is-lower-hex .ensures)
+      ∙ not-false (c .before .before .is-lower-hex .result) (c .before .if1 .left)
 
 add-i : tie.Need-add-i Inv-loop μ-loop
 add-i c = omega (arith, hex-inside (now (c .before .before .before .before .before .before .before .args .text)) (c .before .before .before .before .before .loop .i) (digit c))

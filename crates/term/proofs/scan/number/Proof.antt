@@ -14,12 +14,12 @@ use Rattle.term.proofs.scan.number.Statement.{statement}
 use Rattle.term.proofs.scan.number.Tie as tie
 
 returns : tie.Need-returns
-returns c = number-none _ _ _ _ (c .before .before .byte-at .ensures) (sym (c .before .is-digit .ensures) ∙ not-true (c .before .is-digit .result) (c .if1 .taken))
+returns c = number-none _ _ _ _ (c .before .before .byte-at .ensures) (sym (c .before .is-digit .ensures .1 (c .before .before .before .before .pre .1)) ∙ not-true (c .before .is-digit .result) (c .if1 .taken))
 
 -- a digit stands there, inside the text
 module _ (c : tie.Else1) where
   digit : digit? (c .before .before .byte-at .result) ≡ true
-  digit = sym (c .before .is-digit .ensures) ∙ not-false (c .before .is-digit .result) (c .if1 .left)
+  digit = sym (c .before .is-digit .ensures .1 (c .before .before .before .before .pre .1)) ∙ not-false (c .before .is-digit .result) (c .if1 .left)
 
   inside : c .before .before .before .before .args .at < length (now (c .before .before .before .before .args .text))
   inside = digit-inside (now (c .before .before .before .before .args .text)) (c .before .before .before .before .args .at) (ap digit? (sym (c .before .before .byte-at .ensures)) ∙ digit)
@@ -32,12 +32,12 @@ returns-2 c =
 returns-3 : tie.Need-returns-3
 returns-3 c =
     number-more _ _ _ _ (c .before .before .before .before .before .before .byte-at .ensures) (digit (c .before .before .before .before)) (c .before .before .before .if2 .left)
-    (ap digit? (sym (c .before .before .byte-at2 .ensures)) ∙ sym (c .before .is-digit2 .ensures) ∙ c .if3 .taken)
+    (ap digit? (sym (c .before .before .byte-at2 .ensures)) ∙ sym (c .before .is-digit2 .ensures .1 (c .before .before .before .before .before .before .before .before .pre .1)) ∙ c .if3 .taken)
 
 returns-4 : tie.Need-returns-4
 returns-4 c =
     number-zero _ _ _ _ (c .before .before .before .before .before .before .byte-at .ensures) (digit (c .before .before .before .before)) (c .before .before .before .if2 .left)
-    (ap digit? (sym (c .before .before .byte-at2 .ensures)) ∙ sym (c .before .is-digit2 .ensures) ∙ c .if3 .left)
+    (ap digit? (sym (c .before .before .byte-at2 .ensures)) ∙ sym (c .before .is-digit2 .ensures .1 (c .before .before .before .before .before .before .before .before .pre .1)) ∙ c .if3 .left)
 
 pub number-spec : {M : Type 1} → statement M
 number-spec =
