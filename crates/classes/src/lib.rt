@@ -1,5 +1,5 @@
 // The classes of a byte, in a table of 256 entries: bit k of an entry says whether its byte is in class k.
-// An entry point makes the table once and lends it to its readers, since a constant array is built anew at each use.
+// An entry point makes the table once and lends it to its readers, since a constant array is built anew at each use. The tests answer from whatever table is lent; from this one they say what comparing the byte says.
 mod entries; // entries.rt: the table
 
 use entries::CLASSES;
@@ -9,6 +9,7 @@ ghost use lib.ListN.{getD};
 ghost use Rattle.model.specs.Automaton.{bit?};
 ghost use Rattle.classes.specs.Classes.{letter?, digit?, eitherHexDigit?, space?, mark?, control?, inClass?, classTable};
 
+// The bit of each class in an entry.
 const LETTER: u8 = 0;
 
 const DIGIT: u8 = 1;
@@ -21,7 +22,7 @@ const MARK: u8 = 4;
 
 const CONTROL: u8 = 5;
 
-// The table.
+// The table, built anew at each call: an entry point calls once.
 pub fn class_table() -> [u8; 256]
     ensures { λ r. ⌜ r ≡ classTable ⌝ }
 {

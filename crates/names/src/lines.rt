@@ -63,7 +63,7 @@ fn line_start(s: &[u8], i: usize) -> usize
     a
 }
 
-// Whether a byte may stand in a name.
+// Whether a byte may stand in a name, by the class table.
 pub fn in_name(classes: &[u8; 256], b: u8) -> bool
     ensures { λ r. ⌜ (now (classes .entry) ≡ classTable → r ≡ nameByte? b) ⌝ }
 {

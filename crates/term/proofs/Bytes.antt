@@ -1,15 +1,15 @@
 -- Bytes at places of a text: what a byte that some rule allows says of its place, and the classes of bytes. Assumes nothing.
-use mathlib.Core.Path.{_≡_, refl, sym}
-use mathlib.Core.Bool.{Bool, true, false, _&&_, _||_, Bool·beq}
+use mathlib.Core.Path.{_≡_, refl, sym, ap, _∙_}
+use mathlib.Core.Bool.{Bool, true, false, _&&_, _||_}
 use mathlib.Core.List.{List, [], _∷_}
 use Prim.Native.Nat.{ℕ, zero, suc, _+_, _-_, _<_, _≤_}
 use native.Mathlib.Omega.{arith}
 use lib.Dec.{leb}
-use lib.ListN.{length, List·getD-eq-default}
+use lib.ListN.{length, getD, List·getD-eq-default}
 use borrow.Author.Tests.{leb-true}
 use Rattle.classes.specs.Classes.{eitherHexDigit?}
-use Rattle.model.specs.Lists.{allBelow}
-use Rattle.model.proofs.Below.{at}
+use Rattle.model.specs.Lists.{tab}
+use Rattle.model.proofs.Tab.{tab-at}
 use Rattle.names.specs.Names.{letter?, digit?, nameByte?}
 use Rattle.term.specs.Scan.{byteAt, hexDigit?, hexValue}
 
@@ -47,18 +47,13 @@ unfolding nameByte?
 name-byte-above b = either (letter? b) (digit? b) (λ e. let r = letter-range b e in omega arith) (λ e. let r = digit-range b e in omega arith)
 
 -- of bytes, a hex digit of either case that is a digit or a letter is a lowercase one: computed over every byte
-lower-hex? : ℕ → Bool
-lower-hex? b = Bool·beq (eitherHexDigit? b && (digit? b || letter? b)) (hexDigit? b)
-
-beq-is : (a b : Bool) → Bool·beq a b ≡ true → a ≡ b
-beq-is true true e = refl
-beq-is true false e = sym e
-beq-is false true e = e
-beq-is false false e = refl
+lowercase : tab 256 (λ b. eitherHexDigit? b && (digit? b || letter? b)) ≡ tab 256 hexDigit?
+unfolding eitherHexDigit? digit? letter? hexDigit?
+lowercase = refl
 
 pub lower-hex : (b : ℕ) → b < 256 → (hex digit letter : Bool) → hex ≡ eitherHexDigit? b → digit ≡ digit? b → letter ≡ letter? b → (hex && (digit || letter)) ≡ hexDigit? b
-unfolding lower-hex? eitherHexDigit? digit? letter? hexDigit? allBelow
-lower-hex b h hex digit letter eh ed el = rw (eh, ed, el) (beq-is _ _ (at lower-hex? 256 b refl h))
+lower-hex b h hex digit letter eh ed el =
+    rw (eh, ed, el) (sym (tab-at false 256 (λ n. eitherHexDigit? n && (digit? n || letter? n)) b h) ∙ ap (λ (l : List Bool). getD l b false) lowercase ∙ tab-at false 256 hexDigit? b h)
 
 pub hex-above : (b : ℕ) → hexDigit? b ≡ true → 48 ≤ b
 unfolding hexDigit?
