@@ -4,7 +4,7 @@ use mathlib.Core.Bool.{Bool}
 use mathlib.Core.List.{List, [], _∷_}
 use Prim.Native.Nat.{ℕ}
 use Rattle.model.specs.Lists.{concatMap, only, tab}
-use Rattle.classes.specs.Classes.{letter?, digit?, eitherHexDigit?, space?, mark?, control?, sixClasses, inClass?}
+use Rattle.classes.specs.Classes.{letter?, digit?, eitherHexDigit?, space?, mark?, control?, inClass?}
 
 -- the bytes that pass a test, in order
 abbrev pub bytesWith : (ℕ → Bool) → List ℕ
