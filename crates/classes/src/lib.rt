@@ -4,6 +4,7 @@ mod entries; // entries.rt: the table
 
 use entries::CLASSES;
 ghost use mathlib.Core.Path.{_≡_};
+ghost use mathlib.Core.Bool.{_||_};
 ghost use Prim.Native.Nat.{_<_};
 ghost use lib.ListN.{getD};
 ghost use Rattle.model.specs.Automaton.{bit?};
@@ -84,4 +85,12 @@ pub fn is_control(table: &[u8; 256], b: u8) -> bool
     ensures compared { λ r. ⌜ (now (table .entry) ≡ classTable → r ≡ control? b) ⌝ }
 {
     is_in(table, b, CONTROL)
+}
+
+// Whether a byte is a letter a to z or a digit.
+pub fn is_letter_or_digit(table: &[u8; 256], b: u8) -> bool
+    ensures told { λ r. ⌜ r ≡ (bit? (getD (now (table .entry)) b 0) 0 || bit? (getD (now (table .entry)) b 0) 1) ⌝ }
+    ensures compared { λ r. ⌜ (now (table .entry) ≡ classTable → r ≡ (letter? b || digit? b)) ⌝ }
+{
+    is_letter(table, b) | is_digit(table, b)
 }

@@ -1,7 +1,7 @@
 // The lines of a name list, what a name is, and the lookup of a symbol's name in the two lists.
 use base::limits::MAX_SYMBOLS;
-use classes::is_digit;
 use classes::is_letter;
+use classes::is_letter_or_digit;
 ghost use mathlib.Core.Path.{_≡_};
 ghost use Prim.Native.Nat.{ℕ, _+_, _≤_, min};
 ghost use lib.ListN.{length, getD};
@@ -63,11 +63,12 @@ fn line_start(s: &[u8], i: usize) -> usize
     a
 }
 
-// Whether a byte may stand in a name, by the class table.
-pub fn in_name(classes: &[u8; 256], b: u8) -> bool
-    ensures { λ r. ⌜ (now (classes .entry) ≡ classTable → r ≡ nameByte? b) ⌝ }
+// Whether a byte may stand in a name.
+fn in_name(classes: &[u8; 256], b: u8) -> bool
+    requires lent { ⌜ now classes ≡ classTable ⌝ }
+    ensures { λ r. ⌜ r ≡ nameByte? b ⌝ }
 {
-    is_letter(classes, b) | is_digit(classes, b)
+    is_letter_or_digit(classes, b)
 }
 
 // Whether each byte may stand in a name.

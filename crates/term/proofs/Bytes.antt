@@ -47,13 +47,13 @@ unfolding nameByte?
 name-byte-above b = either (letter? b) (digit? b) (λ e. let r = letter-range b e in omega arith) (λ e. let r = digit-range b e in omega arith)
 
 -- of bytes, a hex digit of either case that is a digit or a letter is a lowercase one: computed over every byte
-lowercase : tab 256 (λ b. eitherHexDigit? b && (digit? b || letter? b)) ≡ tab 256 hexDigit?
+lowercase : tab 256 (λ b. eitherHexDigit? b && (letter? b || digit? b)) ≡ tab 256 hexDigit?
 unfolding eitherHexDigit? digit? letter? hexDigit?
 lowercase = refl
 
-pub lower-hex : (b : ℕ) → b < 256 → (hex digit letter : Bool) → hex ≡ eitherHexDigit? b → digit ≡ digit? b → letter ≡ letter? b → (hex && (digit || letter)) ≡ hexDigit? b
-lower-hex b h hex digit letter eh ed el =
-    rw (eh, ed, el) (sym (tab-at false 256 (λ n. eitherHexDigit? n && (digit? n || letter? n)) b h) ∙ ap (λ (l : List Bool). getD l b false) lowercase ∙ tab-at false 256 hexDigit? b h)
+pub lower-hex : (b : ℕ) → b < 256 → (hex either : Bool) → hex ≡ eitherHexDigit? b → either ≡ (letter? b || digit? b) → (hex && either) ≡ hexDigit? b
+lower-hex b h hex either eh ee =
+    rw (eh, ee) (sym (tab-at false 256 (λ n. eitherHexDigit? n && (letter? n || digit? n)) b h) ∙ ap (λ (l : List Bool). getD l b false) lowercase ∙ tab-at false 256 hexDigit? b h)
 
 pub hex-above : (b : ℕ) → hexDigit? b ≡ true → 48 ≤ b
 unfolding hexDigit?

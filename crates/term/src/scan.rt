@@ -1,11 +1,10 @@
 // Names and scalars at a place of a text; a byte past the end counts as 0, which no rule allows.
 use classes::is_digit;
 use classes::is_hex_digit;
-use classes::is_letter;
+use classes::is_letter_or_digit;
 use document::Scalar;
 use document::scalar::rate_of;
 use names::lines::MAX_NAME;
-use names::lines::in_name;
 ghost use mathlib.Core.Path.{_≡_};
 ghost use mathlib.Core.Bool.{true, cond};
 ghost use Prim.Native.Nat.{_+_, _-_, _<_, _≤_, _^_};
@@ -48,7 +47,7 @@ pub(crate) fn name_bytes(text: &[u8], classes: &[u8; 256], at: usize) -> usize
     let mut n = 0;
     let mut i = at;
     while n <= MAX_NAME {
-        if !in_name(classes, byte_at(text, i)) {
+        if !is_letter_or_digit(classes, byte_at(text, i)) {
             return n;
         }
         n += 1;
@@ -138,7 +137,7 @@ fn is_lower_hex(classes: &[u8; 256], b: u8) -> bool
     requires lent { ⌜ now classes ≡ classTable ⌝ }
     ensures { λ r. ⌜ r ≡ hexDigit? b ⌝ }
 {
-    is_hex_digit(classes, b) & (is_digit(classes, b) | is_letter(classes, b))
+    is_hex_digit(classes, b) & is_letter_or_digit(classes, b)
 }
 
 fn hex_value(classes: &[u8; 256], b: u8) -> u64

@@ -23,6 +23,6 @@ all-in-name-spec =
     (λ c κs. search loops)
     (λ c. search loops)
     (λ c. search loops)
-    (λ c. let e = c .before .in-name .ensures (c .before .before .before .before .before .before .pre) in search loops)
-    (λ c. let e = c .before .in-name .ensures (c .before .before .before .before .before .before .pre) in search loops)
+    (λ c. search loops)
+    (λ c. search loops)
     (λ c. search loops))

@@ -6,15 +6,11 @@ use Rattle.names.proofs.lines.in_name.Tie as tie
 
 returns : tie.Need-returns
 unfolding nameByte?
-returns c lent =
-    let letter = c .before .is-letter .ensures .1 lent in
-    let digit = c .is-digit .ensures .1 lent in
-    cc
+returns c = c .is-letter-or-digit .ensures .1 (c .before .pre)
 
 pub in-name-spec : {M : Type 1} → statement M
 in-name-spec =
     tie.close
     (tie.spec
-    (λ c κs. search needs)
     (λ c κs. search needs)
     returns)

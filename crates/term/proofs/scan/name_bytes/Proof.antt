@@ -19,15 +19,17 @@ abbrev μ-loop : tie.MeasureT-loop
 μ-loop text classes at n₀ i₀ n i = 17 - n
 
 returns : tie.Need-returns Inv-loop μ-loop
-unfolding nameBytes
-returns c = led-stop _ _ _ (c .before .before .before .before .loop .inv .1) (omega arith) (let e = c .before .in-name .ensures (c .before .before .before .before .before .before .pre) in cc (not-true (c .before .in-name .result) (c .if1 .taken)))
+unfolding nameBytes nameByte?
+returns c = led-stop _ _ _ (c .before .before .before .before .loop .inv .1) (omega arith) (let e = c .before .is-letter-or-digit .ensures .1 (c .before .before .before .before .before .before .pre) in cc (not-true (c .before .is-letter-or-digit .result) (c .if1 .taken)))
 
 add-i : tie.Need-add-i Inv-loop μ-loop
-add-i c = omega (arith, name-inside (now (c .before .before .before .before .before .before .args .text)) (c .before .before .before .before .loop .i) (let e = c .before .in-name .ensures (c .before .before .before .before .before .before .pre) in cc (not-false (c .before .in-name .result) (c .if1 .left))))
+unfolding nameByte?
+add-i c = omega (arith, name-inside (now (c .before .before .before .before .before .before .args .text)) (c .before .before .before .before .loop .i) (let e = c .before .is-letter-or-digit .ensures .1 (c .before .before .before .before .before .before .pre) in cc (not-false (c .before .is-letter-or-digit .result) (c .if1 .left))))
 
 loop-again : tie.Need-loop-again Inv-loop μ-loop
+unfolding nameByte?
 loop-again c =
-    (omega arith, led-more _ _ _ (c .before .before .before .before .loop .inv .1) (omega arith) (let e = c .before .in-name .ensures (c .before .before .before .before .before .before .pre) in cc (not-false (c .before .in-name .result) (c .if1 .left))))
+    (omega arith, led-more _ _ _ (c .before .before .before .before .loop .inv .1) (omega arith) (let e = c .before .is-letter-or-digit .ensures .1 (c .before .before .before .before .before .before .pre) in cc (not-false (c .before .is-letter-or-digit .result) (c .if1 .left))))
 
 returns-2 : tie.Need-returns-2 Inv-loop μ-loop
 unfolding nameBytes
