@@ -1,4 +1,5 @@
 pub mod Decimal
+pub mod HexDigits
 pub mod Pieces
 pub mod Texts
 pub mod Summing

@@ -1,24 +1,17 @@
 -- A scalar's text, made from its last byte to its first: what the loops know at their heads, and each kind of scalar. Assumes nothing.
 use mathlib.Core.Path.{_≡_, refl, sym, ap, subst, _∙_}
-use mathlib.Core.Bool.{true, cond}
+use mathlib.Core.Bool.{Bool, true, false, cond}
 use mathlib.Core.List.{List, [], _∷_, _++_, append-assoc, append-nil}
 use Prim.Native.Nat.{ℕ, zero, suc, _+_, _-_, _/_, _%_, _^_, _<_, _≤_}
 use native.Mathlib.Omega.{arith}
 use borrow.Author.Needs.{needs}
-use borrow.Author.Tests.{lt-ltb, le-ltb}
-use lib.Dec.{T}
+use lib.Dec.{eqb}
 use lib.ListN.{length, take, drop, set, length-append, length-drop, length-set}
 use lib.Seq.{set-split, drop-at, length-take-le, take-all}
 use Rattle.model.specs.Space.{putAt}
-use Rattle.model.specs.Table.{scalar?}
-use Rattle.model.proofs.Members.{T-true}
 use Rattle.names.specs.Names.{decimal}
-use Rattle.document.specs.declared.scalar.Scalar.{Scalar}
-use Rattle.document.specs.declared.scalar.Scalar.the-variants.{Bare, Count, Name}
-use Rattle.document.specs.declared.scalar.Decoded.the-variants.{Is, Not}
-use Rattle.document.specs.Scalars.{kindOf, payloadOf, scalarAt, decodeScalar}
-use Rattle.document.specs.Fields.{orBare}
-use Rattle.document.proofs.Scalars.{there-and-back}
+use Rattle.document.specs.declared.scalar.Scalar.the-variants.{Flag}
+use Rattle.document.specs.Scalars.{payloadOf}
 use Rattle.spelling.specs.declared.piece.Piece.{Piece}
 use Rattle.spelling.specs.Text.{hexDigit, hexDigits, scalarText}
 use Rattle.spelling.specs.Parts.{pieceBytes, textOf, Holds}
@@ -88,14 +81,6 @@ module _ (n rest : ℕ) (p : Piece) (j : Digits n rest p) where
         (h, omega (arith, h .size, decimal-few n m))
 
 -- hex digits
-pub hex-low : (n b : ℕ) → n < 10 → b ≡ 48 + n → b ≡ hexDigit n
-unfolding hexDigit
-hex-low n b l e = rw (lt-ltb _ _ l) e
-
-pub hex-high : (n b : ℕ) → 10 ≤ n → b ≡ 97 + (n - 10) → b ≡ hexDigit n
-unfolding hexDigit
-hex-high n b l e = rw (le-ltb _ _ l) (omega arith)
-
 pub record Hex (n left rest : ℕ) (p : Piece) : Type 0 where
   pub joined : Joined (hexDigits left rest) (hexDigits 16 n) p
   pub place : p .start ≡ 5 + left
@@ -129,34 +114,36 @@ module _ (n : ℕ) where
     hex-all l = let z : left ≡ 0 = omega arith in joined-all (hexDigits 16 n) p (subst (λ x. Joined (hexDigits x rest) (hexDigits 16 n) p) z (j .joined))
 
 -- one kind of scalar each
-pub by-scalar : {s t : Scalar} (p : Piece) → s ≡ t → Holds p (scalarText (kindOf t) (payloadOf t)) → Holds p (scalarText (kindOf s) (payloadOf s))
-by-scalar p e h = rw e h
-
-module _ (p : Piece) where
-  pub bare-holds : Holds p [] → Holds p (scalarText (kindOf Bare) (payloadOf Bare))
+module _ (p : Piece) (n : ℕ) where
+  pub bare-holds : Holds p [] → Holds p (scalarText 0 n)
   unfolding scalarText
   bare-holds h = h
 
-  module _ (n : ℕ) (q : Piece) where
-    pub count-holds : Before 61 q p → Holds q (decimal n) → Holds p (scalarText (kindOf (Count n)) (payloadOf (Count n)))
+  -- of a flag's payload only whether it is 1 counts
+  pub flag-holds : Holds p (scalarText 1 (payloadOf (Flag (eqb n 1)))) → Holds p (scalarText 1 n)
+  unfolding scalarText
+  flag-holds h = go (eqb n 1) h
+    where
+      go : (b : Bool) → Holds p (scalarText 1 (payloadOf (Flag b))) → Holds p (cond b (61 ∷ 116 ∷ 114 ∷ 117 ∷ 101 ∷ []) (61 ∷ 102 ∷ 97 ∷ 108 ∷ 115 ∷ 101 ∷ []))
+      go true g = g
+      go false g = g
+
+  module _ (q : Piece) where
+    pub count-holds : Before 61 q p → Holds q (decimal n) → Holds p (scalarText 2 n)
     unfolding scalarText
     count-holds f h = f (decimal n) h
 
-    pub rate-holds : (bits : ℕ) → bits ≡ n → Before 126 q p → Holds q (hexDigits 16 bits) → Holds p (scalarText 3 n)
+    pub rate-holds : Before 126 q p → Holds q (hexDigits 16 n) → Holds p (scalarText 3 n)
     unfolding scalarText
-    rate-holds bits e f h = subst (λ m. Holds p (126 ∷ hexDigits 16 m)) e (f (hexDigits 16 bits) h)
+    rate-holds f h = f (hexDigits 16 n) h
 
-    pub name-holds : Before 35 q p → Holds q (decimal n) → Holds p (scalarText (kindOf (Name n)) (payloadOf (Name n)))
+    pub name-holds : (k : ℕ) → (k ≡ 0 → ⊥) → (k ≡ 1 → ⊥) → (k ≡ 2 → ⊥) → (k ≡ 3 → ⊥) → Before 35 q p → Holds q (decimal n) → Holds p (scalarText k n)
     unfolding scalarText
-    name-holds f h = f (decimal n) h
-
--- the scalar of a row that has one
-pub row-scalar : (k n : ℕ) (s : Scalar) (p : Piece) → T (scalar? k n) → s ≡ orBare (decodeScalar k n) → Holds p (scalarText (kindOf s) (payloadOf s)) → Holds p (scalarText k n)
-row-scalar k n s p t e h =
-    let is : scalar? k n ≡ true = T-true (scalar? k n) .0 t in
-    let q : s ≡ scalarAt k n = e ∙ ap (λ b. orBare (cond b (Is (scalarAt k n)) Not)) is in
-    let b = there-and-back k n t in
-    subst (Holds p) (λ i. scalarText ((ap kindOf q ∙ b .kind) i) ((ap payloadOf q ∙ b .payload) i)) h
+    name-holds zero a b c d f h = absurd (a refl)
+    name-holds (suc zero) a b c d f h = absurd (b refl)
+    name-holds (suc (suc zero)) a b c d f h = absurd (c refl)
+    name-holds (suc (suc (suc zero))) a b c d f h = absurd (d refl)
+    name-holds (suc (suc (suc (suc k)))) a b c d f h = f (decimal n) h
 
 -- a piece put at a place of a space: all of its bytes from its start on, which are the text that it holds
 module _ (d : List ℕ) (at : ℕ) (p : Piece) (after : List ℕ) where

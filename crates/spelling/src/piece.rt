@@ -1,10 +1,9 @@
 // The text of a scalar, made from its last byte to its first, and put into a space.
 use base::numbers::digit;
 use base::space::put;
-use document::Scalar;
 use document::rows::Row;
-use document::rows::fields_at;
-use document::scalar::bits_of;
+use document::rows::kind;
+use document::rows::payload;
 ghost use mathlib.Core.Path.{_≡_};
 ghost use mathlib.Core.List.{List, [], _∷_};
 ghost use Prim.Native.Nat.{ℕ, _<_, _≤_};
@@ -14,7 +13,7 @@ ghost use Rattle.model.specs.Space.{putAt};
 ghost use Rattle.model.specs.Table.{scalar?};
 ghost use Rattle.names.specs.Names.{decimal};
 ghost use Rattle.document.specs.Rows.{rowIn};
-ghost use Rattle.document.specs.Scalars.{kindOf, payloadOf};
+ghost use Rattle.document.specs.Scalars.{payloadOf};
 ghost use Rattle.document.specs.declared.scalar.Scalar.the-variants.{Flag};
 ghost use Rattle.spelling.specs.Text.{hexDigit, hexDigits, scalarText};
 ghost use Rattle.spelling.specs.Parts.{pieceBytes, textOf, Holds};
@@ -50,15 +49,13 @@ fn before(b: u8, p: Piece) -> Piece
     Piece { bytes, start }
 }
 
-// The hex digit of a number below sixteen.
+// The hex digit of a number below sixteen, by a sum and without a choice: `a` stands 39 bytes behind the byte after `9`, and from ten on a tenth is 1.
 fn hex_digit(n: u64) -> u8
     requires { ⌜ n < 16 ⌝ }
     ensures { λ r. ⌜ r ≡ hexDigit n ⌝ }
 {
-    if n < 10 {
-        return b'0' + n as u8;
-    }
-    b'a' + (n as u8 - 10)
+    let d = n as u8;
+    d + 48 + 39 * (d / 10)
 }
 
 // A number in decimal, which leaves room for a byte before it.
@@ -104,17 +101,16 @@ fn flag_of(b: bool) -> Piece
     }
 }
 
-// The text of a scalar.
-fn scalar_text(s: Scalar) -> Piece
-    ensures { λ r. ⌜ Holds r (scalarText (kindOf s) (payloadOf s)) ⌝ }
+// The text of a scalar of a kind (0 bare, 1 flag, 2 count, 3 rate, 4 name) and a payload. Nothing on the way of a rate's bits into its digits asks what they are.
+fn scalar_text(kind: u16, payload: u64) -> Piece
+    ensures { λ r. ⌜ Holds r (scalarText kind payload) ⌝ }
 {
-    match s {
-        Scalar::Bare => nothing(),
-        Scalar::Flag(b) => flag_of(b),
-        Scalar::Count(n) => before(b'=', decimal_of(n)),
-        Scalar::Rate(x) => before(b'~', hex_of(bits_of(x))),
-        Scalar::NanRate(bits) => before(b'~', hex_of(bits)),
-        Scalar::Name(n) => before(b'#', decimal_of(n as u64)),
+    match kind {
+        0 => nothing(),
+        1 => flag_of(payload == 1),
+        2 => before(b'=', decimal_of(payload)),
+        3 => before(b'~', hex_of(payload)),
+        _ => before(b'#', decimal_of(payload)),
     }
 }
 
@@ -123,9 +119,7 @@ pub(crate) fn scalar_at(rows: &[u16], i: Row) -> Piece
     requires { ⌜ T (scalar? ((rowIn (now rows) (i .0)) .kind) ((rowIn (now rows) (i .0)) .payload)) ⌝ }
     ensures { λ r. ⌜ Holds r (scalarText ((rowIn (now (rows .entry)) (i .0)) .kind) ((rowIn (now (rows .entry)) (i .0)) .payload)) ⌝ }
 {
-    let f = fields_at(rows, i);
-    let s = f.scalar;
-    scalar_text(s)
+    scalar_text(kind(rows, i), payload(rows, i))
 }
 
 // The text of a piece, put at a place of a space, where it fits whole; its length comes back.

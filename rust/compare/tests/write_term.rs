@@ -73,6 +73,22 @@ fn every_scalar_at_its_limits_with_every_space() {
     }
 }
 
+/// Each hex digit alone at each of the 16 places, and beside digits that are all others; then the bits around
+/// infinities and NaNs, of both signs, which are written as any others.
+#[test]
+fn every_hex_digit_at_every_place_of_a_rate() {
+    let alone = (0..16).flat_map(|digit| (0..16).map(move |place| digit << (4 * place)));
+    let all_digits = (0..16).map(|turn| 0x0123_4567_89ab_cdef_u64.rotate_left(4 * turn));
+    let infinity = f64::INFINITY.to_bits();
+    let edges = [1, infinity - 1, infinity, infinity + 1, f64::NAN.to_bits(), u64::MAX >> 1];
+    let edges = edges.into_iter().flat_map(|bits| [bits, bits | 1 << 63]);
+    for bits in alone.chain(all_digits).chain(edges) {
+        let row = Row { symbol: 1, children: vec![], scalar: Scalar::Rate(bits) };
+        let answer = compare(&set_e().encode(), b"\na", b"", &row.cells(), 18);
+        assert_eq!(answer, Answer::Value(18), "{bits:016x}");
+    }
+}
+
 #[test]
 fn texts_too_long_for_any_space() {
     for set in [set_e(), set_g()] {

@@ -1,7 +1,9 @@
-//! Export texts of about 3 KB, 30 KB and 3 MB.
+//! Export texts of about 3 KB, 30 KB and 3 MB, and one of about 30 KB whose leaves are all rates.
 
 use cidhomba::{Names, ROW_CELLS};
 use generate::export::{agreed_set, export, Columns};
+use generate::Random;
+use reference::{Document, Row, Scalar};
 
 /// A text with its rows.
 pub struct Text {
@@ -39,5 +41,27 @@ fn a_hundred_times(rows: &[u16]) -> Vec<u16> {
     rows
 }
 
+/// A text of 1,024 rates of any bits, over five levels of rows with four children. 683 of the rates differ, which
+/// with the 341 rows over them is as many rows as a table can have.
+pub fn of_rates(names: Names) -> Text {
+    const DIFFERENT: usize = 683;
+    let random = &mut Random::new(4);
+    let rate = |_| Row { symbol: LEAF, children: vec![], scalar: Scalar::Rate(random.word()) };
+    let mut rows: Vec<Row> = (0..DIFFERENT).map(rate).collect();
+    let mut level: Vec<usize> = (0..1024).map(|place| place % DIFFERENT).collect();
+    while level.len() > 1 {
+        let first = rows.len();
+        rows.extend(level.chunks(4).map(|children| Row {
+            symbol: usize::from(WITH_FOUR_CHILDREN),
+            children: children.to_vec(),
+            scalar: Scalar::Bare,
+        }));
+        level = (first..rows.len()).collect();
+    }
+    Text::of(Document { rows }.cells(), names)
+}
+
 /// The symbol `fields`.
 const WITH_FOUR_CHILDREN: u16 = 5;
+/// The symbol `downtime`.
+const LEAF: usize = 19;

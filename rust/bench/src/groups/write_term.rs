@@ -12,13 +12,15 @@ pub fn measure() {
     let list = name_list();
     let names = Names { site: list.as_bytes(), built_in: b"" };
     let table = Table::open("Writing term text");
-    for text in texts::all(names) {
+    let texts = texts::all(names).map(|text| (format!("text of {}", text.size()), text));
+    let rates = texts::of_rates(names);
+    for (input, text) in texts.into_iter().chain([(format!("{} of rates", rates.size()), rates)]) {
         let space = text.bytes.len();
         let mut out = vec![0; space];
         let rust = || baseline::term::write(&set, names.site, names.built_in, &text.rows, space);
         assert_eq!(write_term(&set, names, &text.rows, &mut out), Ok(&text.bytes[..]));
         assert_eq!(rust().as_ref(), Ok(&text.bytes));
         let library = || write_term(&set, names, &text.rows, &mut out).map(<[u8]>::len);
-        table.row(&format!("text of {}", text.size()), library, rust);
+        table.row(&input, library, rust);
     }
 }

@@ -1,6 +1,6 @@
--- `spelling::piece::hex_digit` meets its contract. Assumes nothing.
+-- `spelling::piece::hex_digit` meets its contract: the sum is the digit's byte. Assumes nothing.
 use borrow.Author.Needs.{needs}
-use Rattle.spelling.proofs.Pieces.{hex-low, hex-high}
+use Rattle.spelling.proofs.HexDigits.{hex-sum}
 use Rattle.spelling.proofs.piece.hex_digit.Statement.{statement}
 use Rattle.spelling.proofs.piece.hex_digit.Tie as tie
 
@@ -10,8 +10,6 @@ hex-digit-spec =
     (tie.spec
     (λ c. search needs)
     (λ c. search needs)
-    (λ c. hex-low _ _ (search needs) (search needs))
     (λ c. search needs)
     (λ c. search needs)
-    (λ c. search needs)
-    (λ c. hex-high _ _ (search needs) (search needs)))
+    (λ c. hex-sum _ (search needs)))
