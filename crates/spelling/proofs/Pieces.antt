@@ -1,6 +1,6 @@
 -- A scalar's text, made from its last byte to its first: what the loops know at their heads, and each kind of scalar. Assumes nothing.
 use mathlib.Core.Path.{_≡_, refl, sym, ap, subst, _∙_}
-use mathlib.Core.Bool.{Bool, true, false, cond}
+use mathlib.Core.Bool.{Bool, true, false}
 use mathlib.Core.List.{List, [], _∷_, _++_, append-assoc, append-nil}
 use Prim.Native.Nat.{ℕ, zero, suc, _+_, _-_, _/_, _%_, _^_, _<_, _≤_}
 use native.Mathlib.Omega.{arith}
@@ -113,20 +113,20 @@ module _ (n : ℕ) where
     unfolding hexDigits
     hex-all l = let z : left ≡ 0 = omega arith in joined-all (hexDigits 16 n) p (subst (λ x. Joined (hexDigits x rest) (hexDigits 16 n) p) z (j .joined))
 
+-- of a flag's payload only whether it is 1 counts
+is-one : (b : Bool) → eqb (payloadOf (Flag b)) 1 ≡ b
+is-one true = refl
+is-one false = refl
+
 -- one kind of scalar each
 module _ (p : Piece) (n : ℕ) where
   pub bare-holds : Holds p [] → Holds p (scalarText 0 n)
   unfolding scalarText
   bare-holds h = h
 
-  -- of a flag's payload only whether it is 1 counts
   pub flag-holds : Holds p (scalarText 1 (payloadOf (Flag (eqb n 1)))) → Holds p (scalarText 1 n)
   unfolding scalarText
-  flag-holds h = go (eqb n 1) h
-    where
-      go : (b : Bool) → Holds p (scalarText 1 (payloadOf (Flag b))) → Holds p (cond b (61 ∷ 116 ∷ 114 ∷ 117 ∷ 101 ∷ []) (61 ∷ 102 ∷ 97 ∷ 108 ∷ 115 ∷ 101 ∷ []))
-      go true g = g
-      go false g = g
+  flag-holds h = rw (is-one (eqb n 1)) at h
 
   module _ (q : Piece) where
     pub count-holds : Before 61 q p → Holds q (decimal n) → Holds p (scalarText 2 n)

@@ -49,7 +49,7 @@ fn before(b: u8, p: Piece) -> Piece
     Piece { bytes, start }
 }
 
-// The hex digit of a number below sixteen, by a sum and without a choice: `a` stands 39 bytes behind the byte after `9`, and from ten on a tenth is 1.
+// The hex digit of a number below sixteen, by a sum and without a choice: the whole part of a tenth is 1 from ten on, and `a` stands 39 bytes behind the byte after `9`.
 fn hex_digit(n: u64) -> u8
     requires { ⌜ n < 16 ⌝ }
     ensures { λ r. ⌜ r ≡ hexDigit n ⌝ }
