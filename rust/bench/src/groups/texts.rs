@@ -46,13 +46,13 @@ fn a_hundred_times(rows: &[u16]) -> Vec<u16> {
 pub fn of_rates(names: Names) -> Text {
     const DIFFERENT: usize = 683;
     let random = &mut Random::new(4);
-    let rate = |_| Row { symbol: LEAF, children: vec![], scalar: Scalar::Rate(random.word()) };
+    let rate = |_| Row { symbol: DOWNTIME, children: vec![], scalar: Scalar::Rate(random.word()) };
     let mut rows: Vec<Row> = (0..DIFFERENT).map(rate).collect();
     let mut level: Vec<usize> = (0..1024).map(|place| place % DIFFERENT).collect();
     while level.len() > 1 {
         let first = rows.len();
         rows.extend(level.chunks(4).map(|children| Row {
-            symbol: usize::from(WITH_FOUR_CHILDREN),
+            symbol: COLUMNS,
             children: children.to_vec(),
             scalar: Scalar::Bare,
         }));
@@ -63,5 +63,7 @@ pub fn of_rates(names: Names) -> Text {
 
 /// The symbol `fields`.
 const WITH_FOUR_CHILDREN: u16 = 5;
-/// The symbol `downtime`.
-const LEAF: usize = 19;
+/// The symbol `columns`, with four children too; its name and the next one are long, for a text of 30 KB.
+const COLUMNS: usize = 4;
+/// The symbol `downtime`, without children.
+const DOWNTIME: usize = 19;

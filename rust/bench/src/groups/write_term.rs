@@ -12,9 +12,10 @@ pub fn measure() {
     let list = name_list();
     let names = Names { site: list.as_bytes(), built_in: b"" };
     let table = Table::open("Writing term text");
-    let texts = texts::all(names).map(|text| (format!("text of {}", text.size()), text));
+    let exports = texts::all(names).map(|text| (format!("text of {}", text.size()), text));
     let rates = texts::of_rates(names);
-    for (input, text) in texts.into_iter().chain([(format!("{} of rates", rates.size()), rates)]) {
+    let rates = (format!("{} of rates", rates.size()), rates);
+    for (input, text) in exports.into_iter().chain([rates]) {
         let space = text.bytes.len();
         let mut out = vec![0; space];
         let rust = || baseline::term::write(&set, names.site, names.built_in, &text.rows, space);
