@@ -7,17 +7,18 @@ use Rattle.model.specs.Lists.{tab}
 use Rattle.model.proofs.Tab.{tab-at}
 use Rattle.spelling.specs.Text.{hexDigit}
 
-abbrev sum : ℕ → ℕ
-sum n = n + 48 + 39 * (n / 10)
+-- the digit, plus 48, plus 39 times the whole part of the digit divided by ten
+abbrev pub digitSum : ℕ → ℕ
+digitSum n = n + 48 + 39 * (n / 10)
 
 -- computed over all digits from 0 to 15
-computed : tab 16 sum ≡ tab 16 hexDigit
+computed : tab 16 digitSum ≡ tab 16 hexDigit
 unfolding hexDigit
 computed = refl
 
--- the digit, plus 48, plus 39 times the whole part of the digit divided by ten, is the digit's byte
-pub hex-sum : (n : ℕ) → n < 16 → n + 48 + 39 * (n / 10) ≡ hexDigit n
-hex-sum n h = sym (tab-at 0 16 sum n h) ∙ ap (λ (bytes : List ℕ). getD bytes n 0) computed ∙ tab-at 0 16 hexDigit n h
+-- for each of them this sum is its byte
+pub hex-sum : (n : ℕ) → n < 16 → digitSum n ≡ hexDigit n
+hex-sum n h = sym (tab-at 0 16 digitSum n h) ∙ ap (λ (bytes : List ℕ). getD bytes n 0) computed ∙ tab-at 0 16 hexDigit n h
 
 -- which bytes these are: 0123456789abcdef
 pub hex-bytes : tab 16 hexDigit ≡ 48 ∷ 49 ∷ 50 ∷ 51 ∷ 52 ∷ 53 ∷ 54 ∷ 55 ∷ 56 ∷ 57 ∷ 97 ∷ 98 ∷ 99 ∷ 100 ∷ 101 ∷ 102 ∷ []

@@ -113,7 +113,7 @@ module _ (n : ℕ) where
     unfolding hexDigits
     hex-all l = let z : left ≡ 0 = omega arith in joined-all (hexDigits 16 n) p (subst (λ x. Joined (hexDigits x rest) (hexDigits 16 n) p) z (j .joined))
 
--- of a flag's payload only whether it is 1 counts
+-- a flag's payload is 1 exactly where the flag is true
 is-one : (b : Bool) → eqb (payloadOf (Flag b)) 1 ≡ b
 is-one true = refl
 is-one false = refl
@@ -124,6 +124,7 @@ module _ (p : Piece) (n : ℕ) where
   unfolding scalarText
   bare-holds h = h
 
+  -- of a flag's payload only whether it is 1 counts
   pub flag-holds : Holds p (scalarText 1 (payloadOf (Flag (eqb n 1)))) → Holds p (scalarText 1 n)
   unfolding scalarText
   flag-holds h = rw (is-one (eqb n 1)) at h

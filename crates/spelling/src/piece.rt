@@ -101,7 +101,7 @@ fn flag_of(b: bool) -> Piece
     }
 }
 
-// The text of a scalar of a kind (0 bare, 1 flag, 2 count, 3 rate, 4 name) and a payload. Nothing on the way of a rate's bits into its digits asks what they are.
+// The text of a scalar of a kind (0 bare, 1 flag, 2 count, 3 rate, 4 name) and a payload. A rate's bits become its digits without a choice on their values.
 fn scalar_text(kind: u16, payload: u64) -> Piece
     ensures { λ r. ⌜ Holds r (scalarText kind payload) ⌝ }
 {

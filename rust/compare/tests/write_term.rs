@@ -73,8 +73,8 @@ fn every_scalar_at_its_limits_with_every_space() {
     }
 }
 
-/// Each hex digit alone at each of the 16 places, and among all the others there; then bits around the infinities
-/// and of NaNs, which are written as any others.
+/// Each hex digit alone at each of the 16 places, and among all the others there; then the smallest rate, bits
+/// around the infinities, and those of NaNs, each with either sign, which are written as any others.
 #[test]
 fn every_hex_digit_at_every_place_of_a_rate() {
     let alone = (0..16).flat_map(|digit| (0..16).map(move |place| digit << (4 * place)));

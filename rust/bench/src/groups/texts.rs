@@ -63,7 +63,7 @@ pub fn of_rates(names: Names) -> Text {
 
 /// The symbol `fields`.
 const WITH_FOUR_CHILDREN: u16 = 5;
-/// The symbol `columns`, with four children too; its name and the next one are long, for a text of 30 KB.
+/// The symbol `columns`, with four children. Its name and that of `downtime` are long enough for a text of 30 KB.
 const COLUMNS: usize = 4;
 /// The symbol `downtime`, without children.
 const DOWNTIME: usize = 19;
