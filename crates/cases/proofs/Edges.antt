@@ -17,7 +17,7 @@ use Rattle.model.proofs.Tab.{length-tab}
 use Rattle.runs.specs.Steps.{stepCells, stepIn}
 use Rattle.runs.specs.Check.{counted? as steps?}
 use Rattle.membership.specs.Cells.{roomOf}
-use Rattle.names.specs.Lines.{lines, lineAt, lineCount}
+use Rattle.names.specs.Lines.{lines, blank?, trimmed, lineAt, lineCount}
 use Rattle.names.specs.Names.{letter?, digit?, nameByte?, name?}
 use Rattle.names.specs.Check.{lineFits?, listFits?}
 use Rattle.cases.specs.Edges.{Edges}
@@ -28,7 +28,7 @@ unfolding steps?
 by-length cells = ap (λ n. leb 1 n && (leb n maxSteps && eqb (length cells % stepCells) 0)) (length-tab (length cells / stepCells) (stepIn cells))
 
 pub edges : Edges
-unfolding allBelow levels demand word symbolByte stateByte ruleWord encodeHeader countsOk offsetsOk symbolOk stateOk placeOk ruleOk keyWord ascendsAt checkOf counted? levelsCheckOf roomOf lines lineAt lineCount letter? digit? nameByte? name? lineFits? listFits?
+unfolding allBelow levels demand word symbolByte stateByte ruleWord encodeHeader countsOk offsetsOk symbolOk stateOk placeOk ruleOk keyWord ascendsAt checkOf counted? levelsCheckOf roomOf lines blank? trimmed lineAt lineCount letter? digit? nameByte? name? lineFits? listFits?
 edges =
     record {
       symbols = (refl, refl, refl);
@@ -40,6 +40,7 @@ edges =
       levels = (refl, refl);
       steps = (by-length (replicate (4096 * stepCells) 0) ∙ refl, by-length (replicate (4097 * stepCells) 0) ∙ refl, by-length [] ∙ refl);
       room = (refl, refl);
-      lines = (refl, refl);
+      lines = (refl, refl, refl, refl);
       names = (refl, refl, refl);
+      line-ends = (refl, refl, refl, refl, refl, refl);
     }

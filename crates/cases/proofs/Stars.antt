@@ -10,7 +10,7 @@ use Rattle.automaton.specs.Check.{countsOk, offsetsOk, symbolOk, stateOk, place
 use Rattle.document.specs.Rows.{cellIn}
 use Rattle.document.specs.Check.{counted?, known?, placeIn, child?, children?, scalarFits?, formCheckOf, fresh?, distinctCheckOf, used?, usedCheckOf, levelsCheckOf, tableCheckOf}
 use Rattle.emptiness.specs.Answer.{sampleCheckOf, witnessCheckOf}
-use Rattle.names.specs.Lines.{lines, lineAt, lineCount}
+use Rattle.names.specs.Lines.{lines, blank?, trimmed, lineAt, lineCount}
 use Rattle.names.specs.Names.{letter?, digit?, nameByte?, name?, nameOf, digits, defaultName, shownName, firstBelow, findIn}
 use Rattle.names.specs.Check.{lineFits?, listFits?, new?, distinct?, namesCheckOf}
 use Rattle.term.specs.Scan.{leading, nameBytes, nameAt, wordBytes, wordAt, digitsFrom, numberAt, hexDigit?, hexValue, hexFrom, valueAt, scalarAt}
@@ -23,6 +23,6 @@ use Rattle.cases.specs.Cases.{cases, AllHold}
 use Rattle.cases.proofs.Twice.{two-on-first}
 
 pub stars : AllHold cases
-unfolding allBelow anyBelow placeOf levels highest demand andAfter unless addTree addForest rowsOf word symbolByte stateByte ruleWord decode encodeHeader encodeSymbol encodeState encodePlaces encode countsOk offsetsOk symbolOk stateOk placeOk ruleOk keyWord ascendsAt checkOf cellIn counted? known? placeIn child? children? scalarFits? formCheckOf fresh? distinctCheckOf uses? used? usedCheckOf levelsCheckOf tableCheckOf sampleCheckOf witnessCheckOf lines lineAt lineCount letter? digit? nameByte? name? nameOf digits defaultName shownName firstBelow findIn lineFits? listFits? new? distinct? namesCheckOf leading nameBytes nameAt wordBytes wordAt digitsFrom numberAt hexDigit? hexValue hexFrom valueAt scalarAt endTerm readArgs readTerm readText readOf roomOf judgeCheckOf sameSymbols withinLimits resultCheckOf combineCheckOf
+unfolding allBelow anyBelow placeOf levels highest demand andAfter unless addTree addForest rowsOf word symbolByte stateByte ruleWord decode encodeHeader encodeSymbol encodeState encodePlaces encode countsOk offsetsOk symbolOk stateOk placeOk ruleOk keyWord ascendsAt checkOf cellIn counted? known? placeIn child? children? scalarFits? formCheckOf fresh? distinctCheckOf uses? used? usedCheckOf levelsCheckOf tableCheckOf sampleCheckOf witnessCheckOf lines blank? trimmed lineAt lineCount letter? digit? nameByte? name? nameOf digits defaultName shownName firstBelow findIn lineFits? listFits? new? distinct? namesCheckOf leading nameBytes nameAt wordBytes wordAt digitsFrom numberAt hexDigit? hexValue hexFrom valueAt scalarAt endTerm readArgs readTerm readText readOf roomOf judgeCheckOf sameSymbols withinLimits resultCheckOf combineCheckOf
 stars =
     ((refl, refl, refl), (refl, ((refl, refl, refl), ((refl, refl, refl), ((refl, refl, refl), ((refl, refl, refl), ((refl, refl, refl), ((refl, refl, refl), (two-on-first, ((refl, refl), ((refl, refl, refl), ((refl, refl, refl), ((refl, refl), ((refl, refl), ((refl, refl), tt)))))))))))))))

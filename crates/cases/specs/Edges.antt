@@ -37,5 +37,9 @@ pub record Edges : Type 0 where
   pub levels : (levelsCheckOf (chain 256) ≡ 0) × (levelsCheckOf (chain 257) ≡ 17)
   pub steps : (steps? (replicate (4096 * stepCells) 0) ≡ true) × (steps? (replicate (4097 * stepCells) 0) ≡ false) × (steps? [] ≡ false)
   pub room : (roomOf (4096 * annotationCells) ≡ 4096) × (roomOf (4097 * annotationCells) ≡ 4096)
-  pub lines : (listFits? (replicate 64 10) ≡ true) × (listFits? (replicate 65 10) ≡ false)
+  pub lines : (listFits? (replicate 64 10) ≡ true) × (listFits? (replicate 65 10) ≡ false) × (listFits? (replicate 63 10 ++ 32 ∷ []) ≡ true) × (listFits? (replicate 64 10 ++ 32 ∷ []) ≡ false)
   pub names : (name? (replicate 16 97) ≡ true) × (name? (replicate 17 97) ≡ false) × (name? [] ≡ false)
+  -- document 02, Wish 5: spaces and bytes 13 may stand behind a name, not in it nor before it; no other byte may
+  pub line-ends :
+      (listFits? (replicate 16 97 ++ 32 ∷ 13 ∷ 32 ∷ []) ≡ true) × (listFits? (replicate 17 97 ++ 13 ∷ []) ≡ false) × (listFits? (13 ∷ 32 ∷ 10 ∷ []) ≡ true)
+      × (listFits? (97 ∷ 13 ∷ 97 ∷ 10 ∷ []) ≡ false) × (listFits? (32 ∷ 97 ∷ 10 ∷ []) ≡ false) × (listFits? (97 ∷ 9 ∷ 10 ∷ []) ≡ false)

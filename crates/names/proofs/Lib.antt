@@ -1,5 +1,6 @@
 pub mod Tests
 pub mod Strings
+pub mod Trim
 pub mod Scan
 pub mod Naming
 pub mod Listed
@@ -7,3 +8,4 @@ pub mod Cells
 pub mod First
 pub mod Shown
 pub mod Checked
+pub mod Saved

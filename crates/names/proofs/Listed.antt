@@ -2,7 +2,7 @@
 use mathlib.Core.Path.{_≡_, refl, sym, ap, _∙_}
 use mathlib.Core.Bool.{Bool, true, false, _&&_}
 use mathlib.Core.List.{List}
-use Prim.Native.Nat.{ℕ, _+_, _-_, _<_, _≤_, min}
+use Prim.Native.Nat.{ℕ, _+_, _-_, _<_, _≤_}
 use native.Mathlib.Numerals.{add-one}
 use native.Mathlib.Omega.{arith}
 use borrow.Author.Needs.{needs}
@@ -13,10 +13,10 @@ use Rattle.model.specs.Limits.{maxSymbols}
 use Rattle.model.specs.Lists.{allBelow}
 use Rattle.model.proofs.Below.{fails}
 use Rattle.names.specs.Lines.{lineAt, lineCount}
-use Rattle.names.specs.Places.{Ended, Starts}
+use Rattle.names.specs.Places.{Starts}
 use Rattle.names.specs.Check.{lineFits?, listFits?}
 use Rattle.names.proofs.Tests.{and-false, shorter}
-use Rattle.names.proofs.Scan.{starts-first, starts-next, line-is, none-left, one-left}
+use Rattle.names.proofs.Scan.{starts-first, line-left, none-left, one-left}
 
 -- k lines are passed, and the next one starts at a
 pub record LinesPassed (s : List ℕ) (k a : ℕ) : Type 0 where
@@ -34,19 +34,19 @@ module _ (s : List ℕ) where
     unfolding listFits?
     too-many h e = let l : maxSymbols < lineCount s = omega (arith, one-left s k a (v .starts) h) in simp (lt-leb _ _ l)
 
-    pub bad-line : (e : ℕ) (r : Bool) → a < length s → Ended s a e → r ≡ lineFits? (take (e - a) (drop a s)) → r ≡ false → false ≡ listFits? s
+    pub bad-line : (l : List ℕ) (r : Bool) → a < length s → l ≡ lineAt (take (length s - a) (drop a s)) 0 → r ≡ lineFits? l → r ≡ false → false ≡ listFits? s
     unfolding listFits?
-    bad-line e r h w is f =
-        let b : lineFits? (lineAt s k) ≡ false = ap lineFits? (sym (line-is s k a (v .starts) e w)) ∙ sym is ∙ f in
+    bad-line l r h here is f =
+        let b : lineFits? (lineAt s k) ≡ false = ap lineFits? (sym (here ∙ line-left s k a (v .starts))) ∙ sym is ∙ f in
         let f′ = fails (λ i. lineFits? (lineAt s i)) (lineCount s) k (one-left s k a (v .starts) h) b in
         sym (and-false (leb (lineCount s) maxSymbols)) ∙ ap (λ t. leb (lineCount s) maxSymbols && t) (sym f′)
 
-    pub line-passed : (e : ℕ) (r : Bool) (n : ℕ) → (k ≡ maxSymbols → ⊥) → Ended s a e → r ≡ lineFits? (take (e - a) (drop a s)) → r ≡ true → n ≡ min (e + 1) (length s)
-        → LinesPassed s (k + 1) n
+    pub line-passed : (l : List ℕ) (r : Bool) (n : ℕ) → (k ≡ maxSymbols → ⊥) → l ≡ lineAt (take (length s - a) (drop a s)) 0 → r ≡ lineFits? l → r ≡ true
+        → Starts s (k + 1) n → LinesPassed s (k + 1) n
     unfolding allBelow
-    line-passed e r n ne w is t next =
-        let b : lineFits? (lineAt s k) ≡ true = ap lineFits? (sym (line-is s k a (v .starts) e w)) ∙ sym is ∙ t in
-        record { few = omega (arith, v .few); starts = starts-next s k a (v .starts) e n w next; passed = rw (add-one, v .passed, b) }
+    line-passed l r n ne here is t next =
+        let b : lineFits? (lineAt s k) ≡ true = ap lineFits? (sym (here ∙ line-left s k a (v .starts))) ∙ sym is ∙ t in
+        record { few = omega (arith, v .few); starts = next; passed = rw (add-one, v .passed, b) }
 
     pub all-passed : length s ≤ a → true ≡ listFits? s
     unfolding listFits?

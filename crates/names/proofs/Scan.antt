@@ -10,7 +10,7 @@ use borrow.Author.Tests.{eq-eqb, ne-eqb}
 use lib.Dec.{eqb}
 use lib.ListN.{length, getD, take, drop, length-drop, drop-of-length-le}
 use lib.Seq.{take-suc, getD-drop, append-snoc, drop-drop, drop-nil, take-all}
-use Rattle.names.specs.Lines.{lines, lengthen, lineAt, lineCount, newline}
+use Rattle.names.specs.Lines.{lines, lengthen, trimmed, lineAt, lineCount, newline}
 use Rattle.names.specs.Places.{Ended, Starts}
 use Rattle.names.specs.Names.{unlessEmpty, nameOf}
 use Rattle.names.proofs.Strings.{cut}
@@ -128,12 +128,15 @@ module _ (s : List ℕ) (i a : ℕ) (v : Starts s i a) where
   -- the first line of what is left is line i
   pub line-from : lineAt (drop a s) 0 ≡ lineAt s i
   unfolding lineAt
-  line-from = ap (λ ls. getD ls 0 []) (v .lines-from) ∙ getD-drop i (lines s) 0 [] ∙ ap (λ n. getD (lines s) n []) (add-zero i)
+  line-from = ap trimmed (ap (λ ls. getD ls 0 []) (v .lines-from) ∙ getD-drop i (lines s) 0 [] ∙ ap (λ n. getD (lines s) n []) (add-zero i))
 
-  -- the line that ends at e is line i
-  pub line-is : (e : ℕ) → Ended s a e → take (e - a) (drop a s) ≡ lineAt s i
+  pub line-left : lineAt (take (length s - a) (drop a s)) 0 ≡ lineAt s i
+  line-left = ap (λ l. lineAt l 0) (take-all (length s - a) (drop a s) (rw length-drop (omega arith))) ∙ line-from
+
+  -- the line that ends at e, trimmed, is line i
+  pub line-is : (e : ℕ) → Ended s a e → trimmed (take (e - a) (drop a s)) ≡ lineAt s i
   unfolding lineAt
-  line-is e w = w .line ∙ line-from
+  line-is e w = ap trimmed (w .line) ∙ line-from
 
   left-over : length (lines (drop a s)) ≡ length (lines s) - i
   left-over = ap length (v .lines-from) ∙ length-drop i (lines s)
@@ -159,13 +162,10 @@ module _ (s : List ℕ) (i a : ℕ) (v : Starts s i a) where
       record { inside = v .inside; lines-from = ap lines (drop-of-length-le s h) ∙ sym (drop-of-length-le (lines s) n) }
 
 -- what is left of two lists where line i starts has for symbol 0 the name of symbol i
-to-end : (s : List ℕ) (a : ℕ) → take (length s - a) (drop a s) ≡ drop a s
-to-end s a = take-all (length s - a) (drop a s) (rw length-drop (omega arith))
-
 pub name-from : (site builtIn : List ℕ) (i a b : ℕ) → Starts site i a → Starts builtIn i b
     → nameOf (take (length site - a) (drop a site)) (take (length builtIn - b) (drop b builtIn)) 0 ≡ nameOf site builtIn i
 unfolding nameOf
-name-from site builtIn i a b v w = cc (to-end site a, to-end builtIn b, line-from site i a v, line-from builtIn i b w)
+name-from site builtIn i a b v w = cc (line-left site i a v, line-left builtIn i b w)
 
 -- a line with bytes is taken from the first list, one without from the second
 module _ (site builtIn own : List ℕ) (i : ℕ) (is : own ≡ lineAt site i) where

@@ -16,7 +16,7 @@ use Rattle.model.specs.Lists.{allBelow, eqList}
 use Rattle.model.specs.Refusal.{demand}
 use Rattle.model.proofs.Below.{at}
 use Rattle.model.proofs.Members.{T-true, eqList→eq, eqList-refl}
-use Rattle.names.specs.Lines.{lines, lineAt, lineCount}
+use Rattle.names.specs.Lines.{lines, trimmed, lineAt, lineCount}
 use Rattle.names.specs.Names.{letter?, digit?, nameByte?, maxName, name?, unlessEmpty, nameOf, digits, defaultName, shownName, findIn, findName}
 use Rattle.names.specs.Table.{nameIn, cellBytes, tableOf}
 use Rattle.names.specs.Check.{lineFits?, listFits?, new?, distinct?, namesCheckOf}
@@ -26,10 +26,10 @@ use Rattle.names.proofs.Cells.{holds}
 
 -- each line is empty or a name
 line-fits : (s : List ℕ) (i : ℕ) → listFits? s ≡ true → lineFits? (lineAt s i) ≡ true
-unfolding listFits? lineAt lineCount lineFits?
+unfolding listFits? trimmed lineAt lineCount lineFits?
 line-fits s i h =
     ⊎-elim (λ l. at (λ k. lineFits? (lineAt s k)) (lineCount s) i (and-true (leb (lineCount s) maxSymbols) _ h .1) l)
-    (λ l. ap lineFits? (List·getD-eq-default (lines s) [] l)) (split i (lineCount s))
+    (λ l. ap (λ r. lineFits? (trimmed r)) (List·getD-eq-default (lines s) [] l)) (split i (lineCount s))
 
 -- the first of two is a name where it is not empty, else the second is
 or-line : (l o : List ℕ) → lineFits? l ≡ true → lineFits? o ≡ true → lineFits? (unlessEmpty l o) ≡ true

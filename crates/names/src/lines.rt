@@ -7,7 +7,7 @@ ghost use Prim.Native.Nat.{ℕ, _+_, _≤_, min};
 ghost use lib.ListN.{length, getD};
 ghost use Rattle.model.specs.Lists.{allBelow};
 ghost use Rattle.classes.specs.Classes.{classTable};
-ghost use Rattle.names.specs.Lines.{lineAt};
+ghost use Rattle.names.specs.Lines.{blank?, trimmed, lineAt};
 ghost use Rattle.names.specs.Places.{Ended, Starts};
 ghost use Rattle.names.specs.Names.{nameByte?, name?, nameOf};
 ghost use Rattle.names.specs.Check.{lineFits?, listFits?};
@@ -63,6 +63,37 @@ fn line_start(s: &[u8], i: usize) -> usize
     a
 }
 
+// Whether a byte is cut off at the end of a line: a space, or the byte 13 that some editors put before each byte 10.
+fn is_blank(b: u8) -> bool
+    ensures { λ r. ⌜ r ≡ blank? b ⌝ }
+{
+    (b == 32) | (b == 13)
+}
+
+// A line without the spaces and bytes 13 at its end.
+fn trim<'a>(line: &'a [u8]) -> &'a [u8]
+    ensures { λ r. ⌜ now r ≡ trimmed (now (line .entry)) ⌝ }
+{
+    let mut e = line.len();
+    while e > 0 {
+        if is_blank(line[e - 1]) {
+            e -= 1;
+        } else {
+            return &line[..e];
+        }
+    }
+    &line[..e]
+}
+
+// Line `i` of a list, trimmed; empty where there is none. No other function reads a line, so this one alone trims.
+fn line<'a>(s: &'a [u8], i: usize) -> &'a [u8]
+    ensures { λ r. ⌜ now r ≡ lineAt (now (s .entry)) i ⌝ }
+{
+    let a = line_start(s, i);
+    let e = line_end(s, a);
+    trim(&s[a..e])
+}
+
 // Whether a byte may stand in a name.
 fn in_name(classes: &[u8; 256], b: u8) -> bool
     requires lent { ⌜ now classes ≡ classTable ⌝ }
@@ -116,7 +147,7 @@ fn line_fits(s: &[u8], classes: &[u8; 256]) -> bool
     is_name(s, classes)
 }
 
-// Whether a list has at most 64 lines, as many as a set has symbols, each empty or a name.
+// Whether a list has at most 64 lines, as many as a set has symbols, each empty or a name. Line 0 of what is left of the list is asked for, so that it is not scanned from its start again.
 pub(crate) fn list_fits(s: &[u8], classes: &[u8; 256]) -> bool
     requires lent { ⌜ now classes ≡ classTable ⌝ }
     ensures { λ r. ⌜ r ≡ listFits? (now (s .entry)) ⌝ }
@@ -127,24 +158,14 @@ pub(crate) fn list_fits(s: &[u8], classes: &[u8; 256]) -> bool
         if k == MAX_SYMBOLS {
             return false;
         }
-        let e = line_end(s, a);
-        if line_fits(&s[a..e], classes) {
-            a = after(s, e);
+        if line_fits(line(&s[a..], 0), classes) {
+            a = next_line(s, a);
             k += 1;
         } else {
             return false;
         }
     }
     true
-}
-
-// Line `i` of a list; empty where there is none.
-fn line<'a>(s: &'a [u8], i: usize) -> &'a [u8]
-    ensures { λ r. ⌜ now r ≡ lineAt (now (s .entry)) i ⌝ }
-{
-    let a = line_start(s, i);
-    let e = line_end(s, a);
-    &s[a..e]
 }
 
 // The name that the lists have for symbol `i`: the part of the site's list, else of the built-in list; empty where neither has one.

@@ -10,3 +10,4 @@ pub mod Rereading
 pub mod Terms
 pub mod SameCells
 pub mod RoundTrip
+pub mod Saved

@@ -11,4 +11,5 @@ pub mod Texts
 pub mod Whole
 pub mod TextTable
 pub mod Spelled
+pub mod Saved
 pub mod Refusals

@@ -1,11 +1,12 @@
--- The line ends where the scan from its start ends. Assumes nothing.
+-- The line ends where the scan from its start ends, and is trimmed. Assumes nothing.
+use mathlib.Core.Path.{_∙_}
 use borrow.Author.Needs.{needs}
 use Rattle.names.proofs.Scan.{line-is}
 use Rattle.names.proofs.lines.line.Statement.{statement}
 use Rattle.names.proofs.lines.line.Tie as tie
 
 returns : tie.Need-returns
-returns c = line-is _ _ _ (c .before .before .line-start .ensures) _ (c .before .line-end .ensures)
+returns c = c .trim .ensures ∙ line-is _ _ _ (c .before .before .before .line-start .ensures) _ (c .before .before .line-end .ensures)
 
 pub line-spec : {M : Type 1} → statement M
 line-spec =
@@ -16,4 +17,5 @@ line-spec =
     (λ c. search needs)
     (λ c. search needs)
     (λ c. search needs)
+    (λ c κs. search needs)
     returns)

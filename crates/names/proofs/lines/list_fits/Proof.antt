@@ -1,6 +1,6 @@
 -- At the loop's head k lines are passed and the next starts at a. Assumes nothing.
 use Prim.Native.Nat.{_-_}
-use lib.ListN.{length}
+use Rattle.model.specs.Limits.{maxSymbols}
 use Rattle.names.proofs.Listed.{LinesPassed, listing}
 use Rattle.names.proofs.lines.list_fits.Statement.{statement}
 use Rattle.names.proofs.lines.list_fits.Tie as tie
@@ -9,7 +9,7 @@ abbrev Inv-loop : tie.InvT-loop
 Inv-loop s classes a₀ k₀ a k = LinesPassed s k a
 
 abbrev μ-loop : tie.MeasureT-loop
-μ-loop s classes a₀ k₀ a k = length s - a
+μ-loop s classes a₀ k₀ a k = maxSymbols - k
 
 pub list-fits-spec : {M : Type 1} → statement M
 list-fits-spec =
@@ -19,14 +19,14 @@ list-fits-spec =
     μ-loop
     (λ c. search listing)
     (λ c. search listing)
-    (λ c κs. search listing)
     (λ c. search listing)
     (λ c. search listing)
     (λ c. search listing)
     (λ c κs. search listing)
     (λ c κs. search listing)
+    (λ c κs. search listing)
     (λ c. search listing)
     (λ c. search listing)
-    (λ c. search listing)
+    (λ c. let next = c .next-line .ensures .1 _ (c .before .before .before .before .before .before .before .loop .inv .starts) in search listing)
     (λ c. search listing)
     (λ c. search listing))

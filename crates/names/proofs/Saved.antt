@@ -1,0 +1,91 @@
+-- Two lists that differ only in the spaces and bytes 13 at the ends of their lines show the same names, and pass or fail the check alike; and a list is so whether it is saved with Windows' line ends or not. Assumes nothing.
+use mathlib.Core.Path.{_≡_, refl, sym, ap, subst, _∙_, fun-ext}
+use mathlib.Core.Bool.{Bool, true, false, _&&_}
+use mathlib.Core.List.{List, [], _∷_, append-nil}
+use Prim.Native.Nat.{ℕ, zero, suc}
+use lib.Dec.{eqb, leb}
+use lib.ListN.{length, getD}
+use Rattle.model.specs.Limits.{maxSymbols}
+use Rattle.model.specs.Lists.{allBelow}
+use Rattle.names.specs.Lines.{newline, lengthen, lines, blank?, trimmed, lineAt, lineCount}
+use Rattle.names.specs.Names.{unlessEmpty, nameOf, defaultName, shownName}
+use Rattle.names.specs.Check.{lineFits?, listFits?, namesCheckOf}
+use Rattle.names.specs.Saved.{SameLine, SameLines, SavedAlike, onWindows}
+use Rattle.names.proofs.Trim.{all-cut-off}
+
+same-trimmed : (l l′ : List ℕ) → SameLine l l′ → trimmed l ≡ trimmed l′
+same-trimmed l l′ v =
+    ap trimmed (v .first) ∙ all-cut-off (v .stem) (v .end) (v .blank) ∙ sym (all-cut-off (v .stem) (v .end′) (v .blank′)) ∙ sym (ap trimmed (v .second))
+
+same-line : (ls ls′ : List (List ℕ)) → SameLines ls ls′ → (i : ℕ) → trimmed (getD ls i []) ≡ trimmed (getD ls′ i [])
+same-line [] [] v i = refl
+same-line [] (l′ ∷ ls′) v i = absurd v
+same-line (l ∷ ls) [] v i = absurd v
+same-line (l ∷ ls) (l′ ∷ ls′) v zero = same-trimmed l l′ (v .0)
+same-line (l ∷ ls) (l′ ∷ ls′) v (suc i) = same-line ls ls′ (v .1) i
+
+same-count : (ls ls′ : List (List ℕ)) → SameLines ls ls′ → length ls ≡ length ls′
+same-count [] [] v = refl
+same-count [] (l′ ∷ ls′) v = absurd v
+same-count (l ∷ ls) [] v = absurd v
+same-count (l ∷ ls) (l′ ∷ ls′) v = ap suc (same-count ls ls′ (v .1))
+
+module _ (s s′ : List ℕ) (v : SavedAlike s s′) where
+  pub lines-alike : lineAt s ≡ lineAt s′
+  unfolding lineAt
+  lines-alike = fun-ext (same-line (lines s) (lines s′) v)
+
+  pub fits-alike : listFits? s ≡ listFits? s′
+  unfolding listFits? lineCount
+  fits-alike =
+      ap (λ n. leb n maxSymbols && allBelow n (λ i. lineFits? (lineAt s i))) (same-count (lines s) (lines s′) v)
+      ∙ ap (λ line. leb (lineCount s′) maxSymbols && allBelow (lineCount s′) (λ i. lineFits? (line i))) lines-alike
+
+-- both lists saved in two ways
+module _ (site site′ builtIn builtIn′ : List ℕ) (v : SavedAlike site site′) (w : SavedAlike builtIn builtIn′) where
+  -- the same name for each symbol
+  pub shown-alike : shownName site builtIn ≡ shownName site′ builtIn′
+  unfolding shownName nameOf
+  shown-alike =
+      ap (λ own i. unlessEmpty (unlessEmpty (own i) (lineAt builtIn i)) (defaultName i)) (lines-alike site site′ v)
+      ∙ ap (λ other i. unlessEmpty (unlessEmpty (lineAt site′ i) (other i)) (defaultName i)) (lines-alike builtIn builtIn′ w)
+
+  -- the same answer of the check
+  pub check-alike : (symbols : ℕ) → namesCheckOf symbols site builtIn ≡ namesCheckOf symbols site′ builtIn′
+  unfolding namesCheckOf
+  check-alike symbols = cc (fits-alike site site′ v, fits-alike builtIn builtIn′ w, shown-alike)
+
+-- a line is like itself, and two that are alike stay so with one more byte in front
+line-refl : (l : List ℕ) → SameLine l l
+line-refl l = let e = sym (append-nil l) in record { stem = l; end = []; end′ = []; first = e; second = e; blank = refl; blank′ = refl }
+
+pub alike-refl : (s : List ℕ) → SavedAlike s s
+alike-refl s = go (lines s)
+  where
+    go : (ls : List (List ℕ)) → SameLines ls ls
+    go [] = tt
+    go (l ∷ ls) = (line-refl l, go ls)
+
+alike-longer : (x : ℕ) (ls ls′ : List (List ℕ)) → SameLines ls ls′ → SameLines (lengthen x ls) (lengthen x ls′)
+alike-longer x [] [] v = (line-refl (x ∷ []), tt)
+alike-longer x [] (l′ ∷ ls′) v = absurd v
+alike-longer x (l ∷ ls) [] v = absurd v
+alike-longer x (l ∷ ls) (l′ ∷ ls′) v =
+    let w = v .0 in
+    (record { stem = x ∷ w .stem; end = w .end; end′ = w .end′; first = ap (λ r. x ∷ r) (w .first); second = ap (λ r. x ∷ r) (w .second); blank = w .blank; blank′ = w .blank′ }, v .1)
+
+-- with Windows' line ends a list is the same but for the ends of its lines
+pub windows-alike : (s : List ℕ) → SavedAlike s (onWindows s)
+unfolding blank? lines onWindows
+windows-alike [] = tt
+windows-alike (x ∷ xs) = go (eqb x newline) refl (windows-alike xs)
+  where
+    ended : SameLine [] (13 ∷ [])
+    ended = record { stem = []; end = []; end′ = 13 ∷ []; first = refl; second = refl; blank = refl; blank′ = refl }
+
+    go : (t : Bool) → eqb x newline ≡ t → SavedAlike xs (onWindows xs)
+        → SameLines (elim t [ true ↦ [] ∷ lines xs | false ↦ lengthen x (lines xs) ]) (lines (elim t [ true ↦ 13 ∷ newline ∷ onWindows xs | false ↦ x ∷ onWindows xs ]))
+    go true e v = (ended, v)
+    go false e v =
+        subst (λ t. SameLines (lengthen x (lines xs)) (elim t [ true ↦ [] ∷ lines (onWindows xs) | false ↦ lengthen x (lines (onWindows xs)) ])) (sym e)
+        (alike-longer x (lines xs) (lines (onWindows xs)) v)
