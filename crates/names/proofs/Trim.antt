@@ -7,9 +7,15 @@ use native.Mathlib.Omega.{arith}
 use borrow.Author.Needs.{needs}
 use lib.ListN.{length, getD, take}
 use lib.Seq.{take-suc, take-all, append-snoc, length-take-le}
+use Rattle.classes.proofs.Members.{bytesWith}
 use Rattle.names.specs.Lines.{blank?, keep, trimmed}
 use Rattle.names.specs.Saved.{blanks?}
 use Rattle.names.proofs.Tests.{and-true}
+
+-- which bytes are cut off, of all bytes
+pub blank-bytes : bytesWith blank? ≡ 13 ∷ 32 ∷ []
+unfolding blank?
+blank-bytes = refl
 
 keep-some : (y : ℕ) (l : List ℕ) (x : ℕ) → keep y (l ++ x ∷ []) ≡ y ∷ l ++ x ∷ []
 keep-some y [] x = refl
