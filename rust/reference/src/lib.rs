@@ -1,7 +1,8 @@
-//! Document 01 a second time, in plain Rust, written from the paper alone.
+//! Document 01, with the wishes of document 02 that have landed, a second time: in plain Rust, written from the
+//! papers alone.
 //!
 //! Nothing here is shared with the verified library. The methods are the simplest that follow the
-//! paper's sentences, so that a reader can hold each function against its section. Every entry
+//! papers' sentences, so that a reader can hold each function against its section. Every entry
 //! point takes the lent inputs and the lengths of the lent spaces, and answers with a value or a
 //! refusal; what a call leaves in the spaces follows from that answer.
 

@@ -1,4 +1,4 @@
-//! The two name lists and the names shown (document 01, "Term text"), refusals 61 and 62.
+//! The two name lists and the names shown (document 01, "Term text", and document 02, Wish 5), refusals 61 and 62.
 
 use std::collections::HashSet;
 
@@ -14,13 +14,22 @@ pub fn check_names(site: &[u8], built_in: &[u8], symbols: usize) -> Result<Vec<V
     Ok(shown)
 }
 
-/// The lines of a list: byte 10 ends a line, and bytes after the last one are a line too.
+/// The lines of a list, trimmed: byte 10 ends a line, and bytes after the last one are a line too, also where
+/// nothing is left of them.
 pub fn lines(list: &[u8]) -> Vec<&[u8]> {
     let mut lines: Vec<&[u8]> = list.split(|&byte| byte == 10).collect();
     if lines.last().is_some_and(|after_last| after_last.is_empty()) {
         lines.pop();
     }
-    lines
+    lines.into_iter().map(trimmed).collect()
+}
+
+/// A line without the spaces and bytes 13 at its end, where editors on Windows leave them.
+fn trimmed(mut line: &[u8]) -> &[u8] {
+    while let [before @ .., b' ' | 13] = line {
+        line = before;
+    }
+    line
 }
 
 fn list_is_wrong(list: &[u8]) -> bool {

@@ -1,4 +1,4 @@
-//! The settled readings of document 01: texts, lists, spaces and programs where a sentence needed one.
+//! The settled readings of documents 01 and 02: texts, lists, spaces and programs where a sentence needed one.
 
 mod common;
 
@@ -98,11 +98,15 @@ fn shown(site: &[u8], built_in: &[u8]) -> Result<Vec<String>, u8> {
     Ok(names.into_iter().map(|name| String::from_utf8(name).expect("letters")).collect())
 }
 
+/// Three names, as `shown` has them.
+fn names(three: [&str; 3]) -> Result<Vec<String>, u8> {
+    Ok(three.map(String::from).to_vec())
+}
+
 #[test]
 fn lists_against_e() {
     assert_eq!(shown(b"s1", b""), Err(62));
-    assert_eq!(shown(b"s1", b"\nt"), Ok(vec!["s1".into(), "t".into(), "s2".into()]));
-    assert_eq!(shown(b"p\r\n", b""), Err(61));
+    assert_eq!(shown(b"s1", b"\nt"), names(["s1", "t", "s2"]));
 }
 
 #[test]
@@ -112,8 +116,11 @@ fn lines_of_a_list() {
     assert_eq!(lines(b"a").len(), 1);
     assert_eq!(lines(b"a\n").len(), 1);
     assert_eq!(lines(b"a\nb").len(), 2);
+    assert_eq!(lines(b" ").len(), 1);
+    assert_eq!(lines(b" \n").len(), 1);
+    assert_eq!(lines(b"\n\r").len(), 2);
     assert_eq!(lines(&[10; 64]).len(), 64);
-    assert_eq!(shown(&[10; 64], b""), Ok(vec!["s0".into(), "s1".into(), "s2".into()]));
+    assert_eq!(shown(&[10; 64], b""), names(["s0", "s1", "s2"]));
     assert_eq!(shown(&[10; 65], b""), Err(61));
     assert_eq!(shown(b"", &[&[10; 64][..], b"a"].concat()), Err(61));
 }
@@ -121,15 +128,68 @@ fn lines_of_a_list() {
 #[test]
 fn lines_past_the_last_symbol_must_be_names_but_are_not_shown() {
     assert_eq!(shown(b"\n\n\nA", b""), Err(61));
-    assert_eq!(shown(b"\n\n\ns0", b""), Ok(vec!["s0".into(), "s1".into(), "s2".into()]));
-    assert_eq!(
-        shown(b"thisnamehas16byt", b"x"),
-        Ok(vec!["thisnamehas16byt".into(), "s1".into(), "s2".into()])
-    );
+    assert_eq!(shown(b"\n\n\ns0", b""), names(["s0", "s1", "s2"]));
+    assert_eq!(shown(b"thisnamehas16byt", b"x"), names(["thisnamehas16byt", "s1", "s2"]));
     assert_eq!(shown(b"thisnamehas17byte", b""), Err(61));
     assert_eq!(shown(b"9a", b""), Err(61));
-    assert_eq!(shown(b"p", b"q\nq\n"), Ok(vec!["p".into(), "q".into(), "s2".into()]));
+    assert_eq!(shown(b"p", b"q\nq\n"), names(["p", "q", "s2"]));
     assert_eq!(shown(b"p\np", b""), Err(62));
+}
+
+/// What editors may leave at the end of a line: nothing, spaces, bytes 13, and both in any mix.
+const LINE_ENDS: [&str; 8] = ["", " ", "\r", "  ", "\r\r", " \r", "\r ", "\r  \r\r "];
+
+#[test]
+fn spaces_and_bytes_13_at_the_end_of_a_line_are_no_part_of_it() {
+    for end in LINE_ENDS {
+        let list = format!("pair{end}\n{end}\nb{end}");
+        let past = format!("{list}\nx{end}\n{end}");
+        for list in [list.as_bytes(), past.as_bytes()] {
+            assert_eq!(shown(list, b""), names(["pair", "s1", "b"]), "{end:?}");
+            assert_eq!(shown(b"", list), names(["pair", "s1", "b"]), "{end:?}");
+            assert_eq!(shown(b"p\r\n \r\n", list), names(["p", "s1", "b"]), "{end:?}");
+            assert_eq!(shown(list, b"p\r\na \r\n"), names(["pair", "a", "b"]), "{end:?}");
+        }
+    }
+}
+
+#[test]
+fn a_name_of_16_bytes_stays_one_with_spaces_and_bytes_13_behind_it() {
+    for end in LINE_ENDS {
+        let list = |name: &str| format!("{name}{end}\n").into_bytes();
+        assert_eq!(shown(&list("thisnamehas16byt"), b""), names(["thisnamehas16byt", "s1", "s2"]), "{end:?}");
+        assert_eq!(shown(&list("thisnamehas17byte"), b""), Err(61), "{end:?}");
+    }
+}
+
+#[test]
+fn other_bytes_at_the_end_and_these_bytes_elsewhere_are_61() {
+    for end in LINE_ENDS {
+        for line in ["a b", "a\rb", " a", "\ra", "a\t", "a \t", "a\x0b", "a\x0c", "a\0", "\t", " \t"] {
+            for before in ["", "\n", "\n\n\n"] {
+                let list = format!("{before}{line}{end}\n");
+                assert_eq!(shown(list.as_bytes(), b""), Err(61), "{list:?}");
+                assert_eq!(shown(b"", list.as_bytes()), Err(61), "{list:?}");
+            }
+        }
+    }
+}
+
+#[test]
+fn a_line_of_spaces_and_bytes_13_alone_is_empty_but_is_a_line() {
+    let shown_after = |line_ends: usize, rest: &str| {
+        let list = "\n".repeat(line_ends) + rest;
+        shown(list.as_bytes(), b"p\r")
+    };
+    assert_eq!(shown_after(64, ""), names(["p", "s1", "s2"]));
+    for blank in &LINE_ENDS[1..] {
+        assert_eq!(shown_after(0, blank), names(["p", "s1", "s2"]), "{blank:?}");
+        assert_eq!(shown_after(63, blank), names(["p", "s1", "s2"]), "{blank:?}");
+        assert_eq!(shown_after(64, blank), Err(61), "{blank:?}");
+        let lines = |count: usize| format!("{blank}\n").repeat(count);
+        assert_eq!(shown_after(0, &lines(64)), names(["p", "s1", "s2"]), "{blank:?}");
+        assert_eq!(shown_after(0, &lines(65)), Err(61), "{blank:?}");
+    }
 }
 
 #[test]

@@ -1,4 +1,5 @@
-//! One case or more for every number of document 01, "Turned away, by place", in the table's order.
+//! One case or more for every number of document 01, "Turned away, by place", in the table's order, as the wishes of
+//! document 02 that have landed leave it.
 
 mod common;
 
@@ -245,6 +246,23 @@ fn a_wrong_list_is_61_before_two_symbols_shown_alike_are_62() {
     assert_eq!(check_names(b"a\na", b"A", 2), Err(Refusal::plain(61)));
     assert_eq!(check_names(b"a\na", b"", 2), Err(Refusal::plain(62)));
     assert_eq!(check_names(b"a\na", b"", 1), Ok(vec![b"a".to_vec()]));
+}
+
+#[test]
+fn lines_are_judged_by_61_and_62_without_spaces_and_bytes_13_at_their_ends() {
+    let number = |site: &[u8], built_in: &[u8], symbols| {
+        check_names(site, built_in, symbols).err().map(|refusal| refusal.number)
+    };
+    assert_eq!(number(b"a\r\nb \n", b"", 2), None);
+    assert_eq!(number(b"a\r\nb b\n", b"", 2), Some(61));
+    assert_eq!(number(b"a\na\r\n", b"", 2), Some(62), "alike in one list");
+    assert_eq!(number(b"a\na\r\n", b"", 1), None);
+    assert_eq!(number(b"a ", b"\r\na", 2), Some(62), "alike in the two lists");
+    assert_eq!(number(b"a ", b"a\r\n", 2), None, "the same symbol's");
+    assert_eq!(number(b"s1\r\n", b"", 2), Some(62), "what symbol 1 is shown by without a name");
+    assert_eq!(number(b"s1\r\n \r\n", b"", 2), Some(62), "the same with an empty line for symbol 1");
+    assert_eq!(number(b"s1\r\nb\r\n", b"", 2), None);
+    assert_eq!(number(b"a\r\na\r\n", b" b", 2), Some(61), "before 62");
 }
 
 #[test]

@@ -49,10 +49,14 @@ fn shown_names(site: &[u8], built_in: &[u8], symbols: usize) -> Result<Vec<Vec<u
     Ok(names)
 }
 
-/// The lines of a list, or 61.
+/// The lines of a list without the spaces and bytes 13 at their ends, or 61.
 fn lines(list: &[u8]) -> Result<Vec<&[u8]>, Refusal> {
     let mut lines: Vec<&[u8]> = list.split(|&byte| byte == 10).collect();
     lines.pop_if(|after_last| after_last.is_empty());
+    for line in &mut lines {
+        let last = line.iter().rposition(|byte| !matches!(byte, b' ' | b'\r'));
+        *line = &line[..last.map_or(0, |last| last + 1)];
+    }
     if lines.len() > 64 || !lines.iter().all(|line| line.is_empty() || is_name(line)) {
         return Err((61, 0));
     }
