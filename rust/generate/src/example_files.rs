@@ -4,6 +4,7 @@ use reference::examples::set_e;
 use reference::{Document, Row, Scalar};
 
 use crate::export::{agreed_set, dead_set, export_text, name_list, Columns};
+use crate::lists::saved_on_windows;
 
 /// Servers in the exports: their rows are fewer than the annotations that the judging program has room for.
 const SERVERS: usize = 8;
@@ -20,11 +21,18 @@ pub fn all() -> Vec<(&'static str, Vec<u8>)> {
         ("e.names", b"pair\na\nb\n".to_vec()),
         ("agreed.set", agreed_set().encode()),
         ("agreed.names", name_list().into_bytes()),
+        ("agreed-windows.names", saved_on_windows(name_list().as_bytes())),
         ("export.term", text(Columns::Agreed)),
         ("export-queue.term", text(Columns::WithQueue)),
         ("export-swapped.term", text(Columns::SwappedOnce)),
         ("dead.set", dead_set().encode()),
     ]
+}
+
+/// The bytes of one file.
+pub fn file(name: &str) -> Vec<u8> {
+    let found = all().into_iter().find(|(other, _)| *other == name);
+    found.expect("a file of the examples").1
 }
 
 /// The document pair(a=..,a=..) over E, with one row for each different count.

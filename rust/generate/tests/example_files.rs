@@ -4,7 +4,7 @@ use std::fs;
 use std::path::Path;
 
 use reference::limits::{MAX_ROWS, ROW_CELLS};
-use reference::{check_names, check_run, judge_program, sample_program, write_term};
+use reference::{check_names, check_run, judge_program, read_term, sample_program, write_term};
 
 fn example(name: &str) -> Vec<u8> {
     let path = Path::new(env!("CARGO_MANIFEST_DIR")).join("../../examples").join(name);
@@ -33,10 +33,26 @@ fn the_texts_are_as_the_writer_has_them_and_the_names_are_names() {
     let set = example("agreed.set");
     for name in ["export.term", "export-queue.term", "export-swapped.term"] {
         let text = example(name);
-        let document = reference::read_term(&set, b"", b"", &text, ROW_CELLS * MAX_ROWS).expect("sound");
+        let document = read_term(&set, b"", b"", &text, ROW_CELLS * MAX_ROWS).expect("sound");
         assert_eq!(write_term(&set, b"", b"", &document.cells(), text.len()), Ok(text));
     }
     assert!(check_names(&example("agreed.names"), b"", usize::from(set[0])).is_ok());
+}
+
+#[test]
+fn the_list_saved_on_windows_serves_as_the_plain_one() {
+    let (plain, windows) = (example("agreed.names"), example("agreed-windows.names"));
+    assert_eq!(String::from_utf8_lossy(&windows), String::from_utf8_lossy(&plain).replace('\n', "\r\n"));
+    let (set, text) = (example("agreed.set"), example("export.term"));
+    let names = check_names(&plain, b"", usize::from(set[0]));
+    assert!(names.as_ref().is_ok_and(|names| names[0] == b"export"));
+    assert_eq!(check_names(&windows, b"", usize::from(set[0])), names);
+    let document = read_term(&set, b"", b"", &text, ROW_CELLS * MAX_ROWS).expect("sound");
+    let named = write_term(&set, &plain, b"", &document.cells(), usize::MAX).expect("sound");
+    for (site, built_in) in [(&windows[..], &b""[..]), (b"", &windows)] {
+        assert_eq!(write_term(&set, site, built_in, &document.cells(), named.len()), Ok(named.clone()));
+        assert_eq!(read_term(&set, site, built_in, &named, ROW_CELLS * MAX_ROWS), Ok(document.clone()));
+    }
 }
 
 /// The cells of a file, low byte first.
