@@ -5,6 +5,7 @@ use compare::answer::Answer;
 use compare::case::{Case, Expected, Input};
 use compare::lent::Lent;
 use compare::tally::{Tally, NAMES, SET, TEXT};
+use generate::example_files::file;
 use generate::{documents, lists, set_bytes, sets, texts, Random};
 use reference::check_names;
 use reference::examples::{set_e, set_g};
@@ -13,6 +14,15 @@ use reference::term_writer::text_within;
 
 /// Compares one call with a row space of so many cells, and answers what both answered.
 fn compare(set: &[u8], site: &[u8], built_in: &[u8], text: &[u8], row_cells: usize) -> Answer {
+    compare_saved(set, (site, built_in), (site, built_in), text, row_cells)
+}
+
+/// The site's list and the built-in one.
+type Lists<'a> = (&'a [u8], &'a [u8]);
+
+/// Compares where the library is lent the lists as an editor saved them, and the reference as they were before.
+fn compare_saved(set: &[u8], saved: Lists, before: Lists, text: &[u8], row_cells: usize) -> Answer {
+    let (site, built_in) = saved;
     let inputs = [
         ("set", Input::Set(set)),
         ("site", Input::Text(site)),
@@ -22,7 +32,7 @@ fn compare(set: &[u8], site: &[u8], built_in: &[u8], text: &[u8], row_cells: usi
     ];
     let mut rows = Lent::of_length(row_cells);
     let library = Answer::of_library(read_term(set, site, built_in, text, rows.space()));
-    let result = reference::read_term(set, site, built_in, text, row_cells);
+    let result = reference::read_term(set, before.0, before.1, text, row_cells);
     let written = result.as_ref().map_or(Vec::new(), |document| document.cells());
     let reference = Answer::of_reference(result.map(|document| document.rows.len()));
     let expected = Expected::Exactly(reference);
@@ -37,25 +47,66 @@ fn compare_plain(text: &[u8]) -> Answer {
     compare(&set_e().encode(), b"", b"", text, ROW_CELLS * 9)
 }
 
+/// What a call is lent.
+struct Call {
+    set: Vec<u8>,
+    site: Vec<u8>,
+    built_in: Vec<u8>,
+    text: Vec<u8>,
+    row_cells: usize,
+}
+
+fn seeded(random: &mut Random) -> Call {
+    let sizes = sets::any_sizes(random);
+    let automaton = sets::automaton(random, &sizes);
+    let symbols = automaton.arities.len();
+    let (site, built_in) = lists::both(random, symbols, 15);
+    let names = check_names(&site, &built_in, symbols)
+        .unwrap_or_else(|_| check_names(b"", b"", symbols).expect("empty lists are sound"));
+    let text = texts::text(random, &automaton, &names, 60);
+    let plenty = ROW_CELLS * random.pick(&[MAX_ROWS, MAX_ROWS, MAX_ROWS + 5, 60]);
+    let row_cells = if random.percent(15) { random.below(120) } else { plenty };
+    let set = set_bytes::stored(random, &automaton, 10);
+    Call { set, site, built_in, text, row_cells }
+}
+
 #[test]
 fn seeded_texts() {
     let mut tally = Tally::of("read_term");
     for seed in 0..30_000 {
-        let random = &mut Random::new(seed);
-        let sizes = sets::any_sizes(random);
-        let automaton = sets::automaton(random, &sizes);
-        let (site, built_in) = lists::both(random, automaton.arities.len(), 15);
-        let symbols = automaton.arities.len();
-        let names = check_names(&site, &built_in, symbols)
-            .unwrap_or_else(|_| check_names(b"", b"", symbols).expect("empty lists are sound"));
-        let text = texts::text(random, &automaton, &names, 60);
-        let plenty = ROW_CELLS * random.pick(&[MAX_ROWS, MAX_ROWS, MAX_ROWS + 5, 60]);
-        let row_cells = if random.percent(15) { random.below(120) } else { plenty };
-        let set = set_bytes::stored(random, &automaton, 10);
+        let Call { set, site, built_in, text, row_cells } = seeded(&mut Random::new(seed));
         tally.count(compare(&set, &site, &built_in, &text, row_cells), |_| "read");
     }
     let numbers = [&SET[..], &NAMES, &TEXT].concat();
     tally.must_reach(20_000, 200, &numbers, &["read"]);
+}
+
+#[test]
+fn spaces_and_bytes_13_at_the_ends_of_lines_change_no_answer_and_no_row() {
+    let mut tally = Tally::of("read_term, lists saved both ways");
+    for seed in 0..15_000 {
+        let random = &mut Random::new(seed);
+        let Call { set, site, built_in, text, row_cells } = seeded(random);
+        for saved in lists::saved_both_ways(random, &site, &built_in) {
+            let answer = compare_saved(&set, (&saved.0, &saved.1), (&site, &built_in), &text, row_cells);
+            tally.count(answer, |_| "read");
+        }
+    }
+    let numbers = [&SET[..], &NAMES, &TEXT].concat();
+    tally.must_reach(20_000, 200, &numbers, &["read"]);
+}
+
+#[test]
+fn the_list_of_the_examples_saved_on_windows_is_read_as_the_plain_one() {
+    let (set, plain, windows) = (file("agreed.set"), file("agreed.names"), file("agreed-windows.names"));
+    let export = reference::read_term(&set, b"", b"", &file("export.term"), ROW_CELLS * MAX_ROWS);
+    let rows = export.expect("a sound text").cells();
+    let text = reference::write_term(&set, &plain, b"", &rows, usize::MAX).expect("a sound table");
+    let answers = [
+        compare_saved(&set, (&windows, b""), (&plain, b""), &text, rows.len()),
+        compare_saved(&set, (b"", &windows), (b"", &plain), &text, rows.len()),
+    ];
+    assert_eq!(answers, [Answer::Value((rows.len() / ROW_CELLS) as u64); 2]);
 }
 
 /// Texts with every kind of scalar and ending.
@@ -191,8 +242,29 @@ fn lists_at_their_limits() {
     assert_eq!(number(b"\n\n\nthisnamehas17byte", b""), Some(61));
     assert_eq!(number(b"s1", b""), Some(62));
     assert_eq!(number(b"s1", b"\ns0"), Some(66));
-    assert_eq!(number(b"p\r\n", b""), Some(61));
     assert_eq!(number(b"s1", b"A"), Some(61));
+}
+
+#[test]
+fn lists_with_spaces_and_bytes_13_at_their_limits() {
+    let set = set_e().encode();
+    let number = |site: &[u8], built_in: &[u8]| compare(&set, site, built_in, b"s0(s1,s2)", 100).number();
+    assert_eq!(number(b"p\r\n", b""), Some(65), "symbol 0 is p");
+    assert_eq!(number(b"s0\r\n \r\n", b"p \ns1\r \r"), None);
+    assert_eq!(number(&[&[10; 63][..], b" "].concat(), b"\r"), None);
+    assert_eq!(number(&[&[10; 64][..], b" "].concat(), b""), Some(61));
+    assert_eq!(number(b"", &[&[10; 64][..], b"\r"].concat()), Some(61));
+    assert_eq!(number(&b"\r\n".repeat(64), b""), None);
+    assert_eq!(number(&b"\r\n".repeat(65), b""), Some(61));
+    assert_eq!(number(b"thisnamehas16byt \r\n", b""), Some(65));
+    assert_eq!(number(b"thisnamehas17byte \r\n", b""), Some(61));
+    assert_eq!(number(b"s 0\r\n", b""), Some(61));
+    assert_eq!(number(b"s\r0\r\n", b""), Some(61));
+    assert_eq!(number(b" s0\r\n", b""), Some(61));
+    assert_eq!(number(b"s0\t\r\n", b""), Some(61));
+    assert_eq!(number(b"p \np\r\n", b""), Some(62));
+    assert_eq!(number(b"s1\r\n", b""), Some(62));
+    assert_eq!(number(b"s1\r\n", b"\ns0 "), Some(66));
 }
 
 #[test]
@@ -200,12 +272,16 @@ fn names_of_16_bytes_for_64_symbols() {
     let set = reference::Automaton { arities: vec![0; 64], rules: vec![], ..set_e() }.encode();
     let names: Vec<String> = (0..64).map(|line| format!("abcdefghijklmn{line:02}")).collect();
     let list = names.join("\n");
+    let windows = lists::saved_on_windows(list.as_bytes());
     for (symbol, name) in names.iter().enumerate() {
         let mut rows = Lent::of_length(ROW_CELLS);
         let word = read_term(&set, list.as_bytes(), b"", name.as_bytes(), rows.space());
         assert_eq!(Answer::of_library(word), Answer::Value(1));
         assert_eq!(rows.contents()[0], symbol as u16);
         assert_eq!(compare(&set, b"", list.as_bytes(), name.as_bytes(), ROW_CELLS), Answer::Value(1));
+        let plain = (list.as_bytes(), &b""[..]);
+        let answer = compare_saved(&set, (&windows, b""), plain, name.as_bytes(), ROW_CELLS);
+        assert_eq!(answer, Answer::Value(1));
         let same_twice = list.replace(name, &names[(symbol + 1) % 64]);
         assert_eq!(compare(&set, same_twice.as_bytes(), b"", b"s0", 10).number(), Some(62));
     }
@@ -220,5 +296,14 @@ fn every_byte_in_a_list() {
             compare(&set, b"", &list, b"q(s1,s2)", 100);
             compare(&set, b"\nt", &list, b"q(t,s2)", 100);
         }
+    }
+}
+
+#[test]
+fn every_two_bytes_at_the_end_of_a_line() {
+    let set = set_e().encode();
+    for (first, second) in (0..=255).flat_map(|first| (0..=255).map(move |second| (first, second))) {
+        compare(&set, &[b'q', first, second], b"", b"q(s1,s2)", 100);
+        compare(&set, b"", &[b'q', first, second, 10], b"q(s1,s2)", 100);
     }
 }

@@ -126,6 +126,16 @@ fn a_text_of_a_million_siblings_is_refused() {
     assert_eq!(answer, Err(Refusal { reason: Reason::TermChildren, place: Some(0) }));
 }
 
+#[test]
+fn a_list_with_a_million_spaces_behind_a_name_is_used() {
+    let set = set_g().encode();
+    let site = [b"g".to_vec(), b" ".repeat(1_000_000), b"\r\na\r\n".to_vec()].concat();
+    let names = Names { site: &site, built_in: b"" };
+    let (mut space, mut text) = ([0; 2 * ROW_CELLS], [0; 4]);
+    let rows = with_little_stack(|| read_term(&set, names, b"g(a)", &mut space)).expect("the text is sound");
+    assert_eq!(with_little_stack(|| write_term(&set, names, rows, &mut text)), Ok(&b"g(a)"[..]));
+}
+
 /// Judges on little stack with the whole room; the set lets in the document, and the run passes its check there.
 fn judged(set: &[u8], rows: &[u16]) -> usize {
     let (mut work, mut run) = (vec![0; ANNOTATION_CELLS * MAX_ROOM], vec![0; STEP_CELLS * MAX_ROOM]);

@@ -5,13 +5,23 @@ use compare::answer::Answer;
 use compare::case::{Case, Expected, Input};
 use compare::lent::Lent;
 use compare::tally::{Tally, NAMES, SET, TABLE};
+use generate::example_files::file;
 use generate::{documents, lists, rows, set_bytes, sets, Random};
 use reference::examples::{set_e, set_g};
-use reference::limits::ROW_CELLS;
+use reference::limits::{MAX_ROWS, ROW_CELLS};
 use reference::{Document, Row, Scalar};
 
 /// Compares one call with a text space of so many bytes, and answers what both answered.
 fn compare(set: &[u8], site: &[u8], built_in: &[u8], rows: &[u16], space: usize) -> Answer {
+    compare_saved(set, (site, built_in), (site, built_in), rows, space)
+}
+
+/// The site's list and the built-in one.
+type Lists<'a> = (&'a [u8], &'a [u8]);
+
+/// Compares where the library is lent the lists as an editor saved them, and the reference as they were before.
+fn compare_saved(set: &[u8], saved: Lists, before: Lists, rows: &[u16], space: usize) -> Answer {
+    let (site, built_in) = saved;
     let inputs = [
         ("set", Input::Set(set)),
         ("site", Input::Text(site)),
@@ -21,7 +31,7 @@ fn compare(set: &[u8], site: &[u8], built_in: &[u8], rows: &[u16], space: usize)
     ];
     let mut text = Lent::of_length(space);
     let library = Answer::of_library(write_term(set, site, built_in, rows, text.space()));
-    let result = reference::write_term(set, site, built_in, rows, space);
+    let result = reference::write_term(set, before.0, before.1, rows, space);
     let written = result.clone().unwrap_or_default();
     let reference = Answer::of_reference(result.map(|text| text.len()));
     let expected = Expected::Exactly(reference);
@@ -36,24 +46,65 @@ fn text_length(set: &[u8], site: &[u8], built_in: &[u8], rows: &[u16]) -> usize 
     reference::write_term(set, site, built_in, rows, 3000).map_or(3000, |text| text.len())
 }
 
+/// What a call is lent.
+struct Call {
+    set: Vec<u8>,
+    site: Vec<u8>,
+    built_in: Vec<u8>,
+    rows: Vec<u16>,
+    space: usize,
+}
+
+fn seeded(random: &mut Random) -> Call {
+    let sizes = sets::any_sizes(random);
+    let automaton = sets::automaton(random, &sizes);
+    let (site, built_in) = lists::both(random, automaton.arities.len(), 15);
+    let most = random.pick(&[1, 4, 12, 12, 60]);
+    let rows = rows::lent(random, &automaton, most, 35);
+    let set = set_bytes::stored(random, &automaton, 12);
+    let length = text_length(&set, &site, &built_in, &rows);
+    let space = random.pick(&[length, length, length + 1, length + 50, length.saturating_sub(1)]);
+    let space = if random.percent(5) { random.below(length + 1) } else { space };
+    Call { set, site, built_in, rows, space }
+}
+
 #[test]
 fn seeded_documents() {
     let mut tally = Tally::of("write_term");
     for seed in 0..25_000 {
-        let random = &mut Random::new(seed);
-        let sizes = sets::any_sizes(random);
-        let automaton = sets::automaton(random, &sizes);
-        let (site, built_in) = lists::both(random, automaton.arities.len(), 15);
-        let most = random.pick(&[1, 4, 12, 12, 60]);
-        let rows = rows::lent(random, &automaton, most, 35);
-        let set = set_bytes::stored(random, &automaton, 12);
-        let length = text_length(&set, &site, &built_in, &rows);
-        let space = random.pick(&[length, length, length + 1, length + 50, length.saturating_sub(1)]);
-        let space = if random.percent(5) { random.below(length + 1) } else { space };
+        let Call { set, site, built_in, rows, space } = seeded(&mut Random::new(seed));
         tally.count(compare(&set, &site, &built_in, &rows, space), |_| "written");
     }
     let numbers = [&SET[..], &NAMES, &TABLE, &[68]].concat();
     tally.must_reach(20_000, 200, &numbers, &["written"]);
+}
+
+#[test]
+fn spaces_and_bytes_13_at_the_ends_of_lines_change_no_answer_and_no_text() {
+    let mut tally = Tally::of("write_term, lists saved both ways");
+    for seed in 0..12_500 {
+        let random = &mut Random::new(seed);
+        let Call { set, site, built_in, rows, space } = seeded(random);
+        for saved in lists::saved_both_ways(random, &site, &built_in) {
+            let answer = compare_saved(&set, (&saved.0, &saved.1), (&site, &built_in), &rows, space);
+            tally.count(answer, |_| "written");
+        }
+    }
+    let numbers = [&SET[..], &NAMES, &TABLE, &[68]].concat();
+    tally.must_reach(20_000, 200, &numbers, &["written"]);
+}
+
+#[test]
+fn the_list_of_the_examples_saved_on_windows_is_written_with_as_the_plain_one() {
+    let (set, plain, windows) = (file("agreed.set"), file("agreed.names"), file("agreed-windows.names"));
+    let export = reference::read_term(&set, b"", b"", &file("export.term"), ROW_CELLS * MAX_ROWS);
+    let rows = export.expect("a sound text").cells();
+    let text = reference::write_term(&set, &plain, b"", &rows, usize::MAX).expect("a sound table");
+    for (space, expected) in [(text.len(), None), (text.len() - 1, Some(68))] {
+        let site = compare_saved(&set, (&windows, b""), (&plain, b""), &rows, space);
+        let built_in = compare_saved(&set, (b"", &windows), (b"", &plain), &rows, space);
+        assert_eq!((site.number(), built_in.number()), (expected, expected));
+    }
 }
 
 #[test]
@@ -151,4 +202,15 @@ fn names_come_before_the_table_and_the_table_before_68() {
     assert_eq!(compare(&set, b"", b"", &leaf, 0).number(), Some(68));
     assert_eq!(compare(&set, b"", b"", &leaf, 2), Answer::Value(2));
     assert_eq!(compare(&set[..15], b"A", b"", &leaf, 2).number(), Some(1));
+}
+
+#[test]
+fn spaces_and_bytes_13_behind_a_name_take_no_space() {
+    let set = set_e().encode();
+    let leaf = Row { symbol: 1, children: vec![], scalar: Scalar::Bare }.cells();
+    for list in ["\na", "\r\na\r\n", " \na \r  \r"].map(str::as_bytes) {
+        assert_eq!(compare(&set, list, b"", &leaf, 1), Answer::Value(1));
+        assert_eq!(compare(&set, b" \r\n\r", list, &leaf, 0).number(), Some(68));
+    }
+    assert_eq!(compare(&set, b"\n\r\n", b"\n \n", &leaf, 2), Answer::Value(2), "s1, with no name");
 }
