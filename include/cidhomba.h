@@ -121,7 +121,8 @@ enum cidhomba_refusal {
     CIDHOMBA_RESULT_LIMITS = 52,   /* a result with over 256 states, 8 tags or 1,024 rules */
     CIDHOMBA_RESULT_SPACE = 53,    /* a space shorter than the result */
     /* name lists */
-    CIDHOMBA_LIST_LINE = 61,       /* over 64 lines, or a line that is neither empty nor a name */
+    CIDHOMBA_LIST_LINE = 61,       /* over 64 lines, or a line that, but for spaces and bytes 13 at its end, is neither
+                                    * empty nor a name */
     CIDHOMBA_NAMES_ALIKE = 62,     /* two symbols shown alike */
     /* text, with a place */
     CIDHOMBA_TEXT_FAULT = 63,      /* no legal continuation; place is that byte, or the end */
@@ -193,7 +194,8 @@ static inline const char *cidhomba_refusal_text(unsigned number)
     case CIDHOMBA_RESULT_SPACE:
         return "the space is shorter than the result";
     case CIDHOMBA_LIST_LINE:
-        return "a name list has over 64 lines, or a line that is neither empty nor a name";
+        return "a name list has over 64 lines, or a line that, but for spaces and bytes 13 at its end, is neither "
+               "empty nor a name";
     case CIDHOMBA_NAMES_ALIKE:
         return "two symbols are shown alike";
     case CIDHOMBA_TEXT_FAULT:
@@ -261,7 +263,8 @@ uint64_t cidhomba_witness(const uint8_t *set, size_t set_length,
 
 /* Reads term text into rows. Value: the rows written to the front of rows. Refuses: set, names, text.
  * Names come from two lists, line i for symbol i: the site's, else the built-in one's, else `s` and the number.
- * A list of length 0 has no lines. Space for 1,024 rows serves every text. */
+ * Spaces and bytes 13 at the end of a line are no part of it, so that a list saved on Windows serves as it is. A list
+ * of length 0 has no lines. Space for 1,024 rows serves every text. */
 uint64_t cidhomba_read_term(const uint8_t *set, size_t set_length,
                             const uint8_t *site, size_t site_length,
                             const uint8_t *built_in, size_t built_in_length,

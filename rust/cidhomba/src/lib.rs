@@ -252,7 +252,19 @@ pub fn witness<'a>(set: &[u8], rows: &'a mut [u16]) -> Result<Witness<'a>, Refus
 }
 
 /// The two name lists of term text, line i for symbol i: the site's, and the one built in. Both may be empty. A
-/// symbol is shown by its line in the site's list, else by that in the other, else by `s` and its number.
+/// symbol is shown by its line in the site's list, else by that in the other, else by `s` and its number. Spaces and
+/// bytes 13 at the end of a line are no part of it, so that a list saved on Windows serves as it is.
+///
+/// ```
+/// use cidhomba::{read_term, write_term, Names, ROW_CELLS};
+///
+/// let set = include_bytes!("../../../examples/e.set");
+/// let windows = Names { site: b"pair\r\na\r\n", built_in: b"" };
+/// let (mut rows, mut text) = ([0; 3 * ROW_CELLS], [0; 40]);
+/// let rows = read_term(set, windows, b"pair(a=7,s2)", &mut rows)?;
+/// assert_eq!(write_term(set, windows, rows, &mut text)?, b"pair(a=7,s2)");
+/// # Ok::<(), cidhomba::Refusal>(())
+/// ```
 #[derive(Clone, Copy, Debug, Default)]
 pub struct Names<'a> {
     /// The site's list.

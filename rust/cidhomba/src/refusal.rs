@@ -82,7 +82,8 @@ reasons! {
     SetsDiffer = 51 => "the symbols of the two sets or their numbers of children differ";
     ResultLimits = 52 => "the result would have over 256 states, 8 tags or 1,024 rules";
     ResultSpace = 53 => "the space is shorter than the result";
-    ListLine = 61 => "a name list has over 64 lines, or a line that is neither empty nor a name";
+    ListLine = 61 => "a name list has over 64 lines, or a line that, but for spaces and bytes 13 at its end, is neither \
+        empty nor a name";
     NamesAlike = 62 => "two symbols are shown alike";
     TextFault = 63 => "the text has no legal continuation";
     TextLevel = 64 => "a letter opens a term at level 257";

@@ -91,6 +91,17 @@ fn reading_text() {
 }
 
 #[test]
+fn a_list_saved_on_windows() {
+    let names = Names { site: b"pair \r\na\r\n", built_in: b"" };
+    let (mut space, mut text) = ([0; 2 * ROW_CELLS], [0; 13]);
+    let equal = rows("pair-7-7.rows");
+    assert_eq!(read_term(&set_e(), names, b"pair(a=7,a=7)", &mut space), Ok(&equal[..]));
+    assert_eq!(write_term(&set_e(), names, &equal, &mut text), Ok(&b"pair(a=7,a=7)"[..]));
+    let in_the_middle = Names { site: b"pa ir\r\n", built_in: b"" };
+    assert_eq!(write_term(&set_e(), in_the_middle, &equal, &mut text), Err(refused(Reason::ListLine)));
+}
+
+#[test]
 fn writing_text() {
     let names = Names { site: b"pair\na", built_in: b"" };
     let mut text = [0; 40];
