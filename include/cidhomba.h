@@ -263,8 +263,8 @@ uint64_t cidhomba_witness(const uint8_t *set, size_t set_length,
 
 /* Reads term text into rows. Value: the rows written to the front of rows. Refuses: set, names, text.
  * Names come from two lists, line i for symbol i: the site's, else the built-in one's, else `s` and the number.
- * Spaces and bytes 13 at the end of a line are no part of it, so that a list saved on Windows serves as it is. A list
- * of length 0 has no lines. Space for 1,024 rows serves every text. */
+ * Spaces and bytes 13 at the end of a line are no part of it, so that a list with line ends of Windows, bytes 13 and
+ * 10, serves as it is. A list of length 0 has no lines. Space for 1,024 rows serves every text. */
 uint64_t cidhomba_read_term(const uint8_t *set, size_t set_length,
                             const uint8_t *site, size_t site_length,
                             const uint8_t *built_in, size_t built_in_length,

@@ -1,4 +1,4 @@
--- Every limit lets in its largest and refuses one past it: computed. Assumes nothing.
+-- Every limit lets in its largest and refuses one past it, and the line ends are as document 02 has them: computed. Assumes nothing.
 use mathlib.Core.Path.{_≡_, refl, ap, _∙_}
 use mathlib.Core.Bool.{_&&_}
 use mathlib.Core.List.{List, []}
@@ -18,8 +18,9 @@ use Rattle.runs.specs.Steps.{stepCells, stepIn}
 use Rattle.runs.specs.Check.{counted? as steps?}
 use Rattle.membership.specs.Cells.{roomOf}
 use Rattle.names.specs.Lines.{lines, blank?, trimmed, lineAt, lineCount}
-use Rattle.names.specs.Names.{letter?, digit?, nameByte?, name?}
-use Rattle.names.specs.Check.{lineFits?, listFits?}
+use Rattle.names.specs.Names.{letter?, digit?, nameByte?, name?, nameOf, digits, defaultName, shownName}
+use Rattle.names.specs.Check.{lineFits?, listFits?, new?, distinct?, namesCheckOf}
+use Rattle.names.specs.Saved.{onWindows}
 use Rattle.cases.specs.Edges.{Edges}
 
 -- 21 looks at the number of cells alone
@@ -28,7 +29,7 @@ unfolding steps?
 by-length cells = ap (λ n. leb 1 n && (leb n maxSteps && eqb (length cells % stepCells) 0)) (length-tab (length cells / stepCells) (stepIn cells))
 
 pub edges : Edges
-unfolding allBelow levels demand word symbolByte stateByte ruleWord encodeHeader countsOk offsetsOk symbolOk stateOk placeOk ruleOk keyWord ascendsAt checkOf counted? levelsCheckOf roomOf lines blank? trimmed lineAt lineCount letter? digit? nameByte? name? lineFits? listFits?
+unfolding allBelow levels demand word symbolByte stateByte ruleWord encodeHeader countsOk offsetsOk symbolOk stateOk placeOk ruleOk keyWord ascendsAt checkOf counted? levelsCheckOf roomOf lines blank? trimmed lineAt lineCount letter? digit? nameByte? name? nameOf digits defaultName shownName lineFits? listFits? new? distinct? namesCheckOf onWindows
 edges =
     record {
       symbols = (refl, refl, refl);
@@ -42,5 +43,8 @@ edges =
       room = (refl, refl);
       lines = (refl, refl, refl, refl);
       names = (refl, refl, refl);
-      line-ends = (refl, refl, refl, refl, refl, refl);
+      line-ends = (refl, refl, refl);
+      elsewhere = (refl, refl, refl, refl);
+      shown = (refl, refl);
+      windows = refl;
     }

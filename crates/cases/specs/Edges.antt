@@ -1,4 +1,4 @@
--- The limits of document 01, each at the largest and one past it, as bytes, rows and lines that reach them. Assumes nothing.
+-- The limits of document 01, each at the largest and one past it, as bytes, rows and lines that reach them; and the line ends of document 02, Wish 5. Assumes nothing.
 use mathlib.Core.Path.{_≡_}
 use mathlib.Core.List.{List, [], _∷_, _++_}
 use mathlib.Core.Bool.{true, false, cond}
@@ -14,8 +14,9 @@ use Rattle.document.specs.Check.{counted?, levelsCheckOf}
 use Rattle.runs.specs.Steps.{stepCells}
 use Rattle.runs.specs.Check.{counted? as steps?}
 use Rattle.membership.specs.Cells.{annotationCells, roomOf}
-use Rattle.names.specs.Names.{name?}
-use Rattle.names.specs.Check.{listFits?}
+use Rattle.names.specs.Names.{name?, shownName}
+use Rattle.names.specs.Check.{listFits?, namesCheckOf}
+use Rattle.names.specs.Saved.{onWindows}
 use Rattle.cases.specs.Sets.{setE}
 
 -- a set of constants with states that are not final, and no rules
@@ -39,7 +40,13 @@ pub record Edges : Type 0 where
   pub room : (roomOf (4096 * annotationCells) ≡ 4096) × (roomOf (4097 * annotationCells) ≡ 4096)
   pub lines : (listFits? (replicate 64 10) ≡ true) × (listFits? (replicate 65 10) ≡ false) × (listFits? (replicate 63 10 ++ 32 ∷ []) ≡ true) × (listFits? (replicate 64 10 ++ 32 ∷ []) ≡ false)
   pub names : (name? (replicate 16 97) ≡ true) × (name? (replicate 17 97) ≡ false) × (name? [] ≡ false)
-  -- document 02, Wish 5: spaces and bytes 13 may stand behind a name, not in it nor before it; no other byte may
-  pub line-ends :
-      (listFits? (replicate 16 97 ++ 32 ∷ 13 ∷ 32 ∷ []) ≡ true) × (listFits? (replicate 17 97 ++ 13 ∷ []) ≡ false) × (listFits? (13 ∷ 32 ∷ 10 ∷ []) ≡ true)
-      × (listFits? (97 ∷ 13 ∷ 97 ∷ 10 ∷ []) ≡ false) × (listFits? (32 ∷ 97 ∷ 10 ∷ []) ≡ false) × (listFits? (97 ∷ 9 ∷ 10 ∷ []) ≡ false)
+  -- document 02, Wish 5: spaces and bytes 13 behind a name are not among its bytes, of which 16 are the most; a line of only those is empty
+  pub line-ends : (listFits? (replicate 16 97 ++ 32 ∷ 13 ∷ 32 ∷ []) ≡ true) × (listFits? (replicate 17 97 ++ 13 ∷ []) ≡ false) × (listFits? (13 ∷ 32 ∷ 10 ∷ []) ≡ true)
+  -- they may not stand within a name or before it, nor a tab behind it
+  pub elsewhere :
+      (listFits? (97 ∷ 13 ∷ 97 ∷ 10 ∷ []) ≡ false) × (listFits? (97 ∷ 32 ∷ 97 ∷ 10 ∷ []) ≡ false) × (listFits? (32 ∷ 97 ∷ 10 ∷ []) ≡ false)
+      × (listFits? (97 ∷ 9 ∷ 10 ∷ []) ≡ false)
+  -- the name shown is without them, and 62 judges it so
+  pub shown : (shownName (97 ∷ 32 ∷ 13 ∷ 10 ∷ []) [] 0 ≡ 97 ∷ []) × (namesCheckOf 2 (97 ∷ 10 ∷ 97 ∷ 13 ∷ 10 ∷ []) [] ≡ 62)
+  -- a list of three lines, the second empty, with the line ends of Windows
+  pub windows : onWindows (97 ∷ 10 ∷ 10 ∷ 98 ∷ []) ≡ 97 ∷ 13 ∷ 10 ∷ 13 ∷ 10 ∷ 98 ∷ []

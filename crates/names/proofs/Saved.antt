@@ -1,7 +1,7 @@
--- Two lists that differ only in the spaces and bytes 13 at the ends of their lines show the same names, and pass or fail the check alike; and a list is so whether it is saved with Windows' line ends or not. Assumes nothing.
+-- Two lists that differ only in the spaces and bytes 13 at the ends of their lines show the same names, and the check says the same of them; a list and the same list with Windows' line ends are two such lists. Assumes nothing.
 use mathlib.Core.Path.{_≡_, refl, sym, ap, subst, _∙_, fun-ext}
 use mathlib.Core.Bool.{Bool, true, false, _&&_}
-use mathlib.Core.List.{List, [], _∷_, append-nil}
+use mathlib.Core.List.{List, [], _∷_, _++_, append-nil}
 use Prim.Native.Nat.{ℕ, zero, suc}
 use lib.Dec.{eqb, leb}
 use lib.ListN.{length, getD}
@@ -11,11 +11,22 @@ use Rattle.names.specs.Lines.{newline, lengthen, lines, blank?, trimmed,
 use Rattle.names.specs.Names.{unlessEmpty, nameOf, defaultName, shownName}
 use Rattle.names.specs.Check.{lineFits?, listFits?, namesCheckOf}
 use Rattle.names.specs.Saved.{SameLine, SameLines, SavedAlike, onWindows}
-use Rattle.names.proofs.Trim.{all-cut-off}
+use Rattle.names.proofs.Trim.{all-cut-off, cut-blank}
 
-same-trimmed : (l l′ : List ℕ) → SameLine l l′ → trimmed l ≡ trimmed l′
-same-trimmed l l′ v =
-    ap trimmed (v .first) ∙ all-cut-off (v .stem) (v .end) (v .blank) ∙ sym (all-cut-off (v .stem) (v .end′) (v .blank′)) ∙ sym (ap trimmed (v .second))
+-- two lines differ only there exactly when they are the same once trimmed
+module _ (l l′ : List ℕ) where
+  same-trimmed : SameLine l l′ → trimmed l ≡ trimmed l′
+  same-trimmed v =
+      ap trimmed (v .first) ∙ all-cut-off (v .stem) (v .end) (v .blank) ∙ sym (all-cut-off (v .stem) (v .end′) (v .blank′)) ∙ sym (ap trimmed (v .second))
+
+  trimmed-same : trimmed l ≡ trimmed l′ → SameLine l l′
+  trimmed-same e =
+      let v = cut-blank l in
+      let w = cut-blank l′ in
+      record { stem = trimmed l; end = v .0; end′ = w .0; first = v .1; second = w .1 ∙ ap (λ t. t ++ w .0) (sym e); blank = v .2; blank′ = w .2 }
+
+  pub same-exactly : (SameLine l l′ → trimmed l ≡ trimmed l′) × (trimmed l ≡ trimmed l′ → SameLine l l′)
+  same-exactly = (same-trimmed, trimmed-same)
 
 same-line : (ls ls′ : List (List ℕ)) → SameLines ls ls′ → (i : ℕ) → trimmed (getD ls i []) ≡ trimmed (getD ls′ i [])
 same-line [] [] v i = refl
@@ -31,31 +42,31 @@ same-count (l ∷ ls) [] v = absurd v
 same-count (l ∷ ls) (l′ ∷ ls′) v = ap suc (same-count ls ls′ (v .1))
 
 module _ (s s′ : List ℕ) (v : SavedAlike s s′) where
-  pub lines-alike : lineAt s ≡ lineAt s′
+  pub same-lines : lineAt s ≡ lineAt s′
   unfolding lineAt
-  lines-alike = fun-ext (same-line (lines s) (lines s′) v)
+  same-lines = fun-ext (same-line (lines s) (lines s′) v)
 
-  pub fits-alike : listFits? s ≡ listFits? s′
+  pub same-fit : listFits? s ≡ listFits? s′
   unfolding listFits? lineCount
-  fits-alike =
+  same-fit =
       ap (λ n. leb n maxSymbols && allBelow n (λ i. lineFits? (lineAt s i))) (same-count (lines s) (lines s′) v)
-      ∙ ap (λ line. leb (lineCount s′) maxSymbols && allBelow (lineCount s′) (λ i. lineFits? (line i))) lines-alike
+      ∙ ap (λ line. leb (lineCount s′) maxSymbols && allBelow (lineCount s′) (λ i. lineFits? (line i))) same-lines
 
 -- both lists saved in two ways
 module _ (site site′ builtIn builtIn′ : List ℕ) (v : SavedAlike site site′) (w : SavedAlike builtIn builtIn′) where
   -- the same name for each symbol
-  pub shown-alike : shownName site builtIn ≡ shownName site′ builtIn′
+  pub same-names : shownName site builtIn ≡ shownName site′ builtIn′
   unfolding shownName nameOf
-  shown-alike =
-      ap (λ own i. unlessEmpty (unlessEmpty (own i) (lineAt builtIn i)) (defaultName i)) (lines-alike site site′ v)
-      ∙ ap (λ other i. unlessEmpty (unlessEmpty (lineAt site′ i) (other i)) (defaultName i)) (lines-alike builtIn builtIn′ w)
+  same-names =
+      ap (λ own i. unlessEmpty (unlessEmpty (own i) (lineAt builtIn i)) (defaultName i)) (same-lines site site′ v)
+      ∙ ap (λ other i. unlessEmpty (unlessEmpty (lineAt site′ i) (other i)) (defaultName i)) (same-lines builtIn builtIn′ w)
 
   -- the same answer of the check
-  pub check-alike : (symbols : ℕ) → namesCheckOf symbols site builtIn ≡ namesCheckOf symbols site′ builtIn′
+  pub same-check : (symbols : ℕ) → namesCheckOf symbols site builtIn ≡ namesCheckOf symbols site′ builtIn′
   unfolding namesCheckOf
-  check-alike symbols = cc (fits-alike site site′ v, fits-alike builtIn builtIn′ w, shown-alike)
+  same-check symbols = cc (same-fit site site′ v, same-fit builtIn builtIn′ w, same-names)
 
--- a line is like itself, and two that are alike stay so with one more byte in front
+-- a line is like itself, and so is a list
 line-refl : (l : List ℕ) → SameLine l l
 line-refl l = let e = sym (append-nil l) in record { stem = l; end = []; end′ = []; first = e; second = e; blank = refl; blank′ = refl }
 
@@ -66,6 +77,7 @@ alike-refl s = go (lines s)
     go [] = tt
     go (l ∷ ls) = (line-refl l, go ls)
 
+-- lines that are alike stay so with one more byte in front of the first
 alike-longer : (x : ℕ) (ls ls′ : List (List ℕ)) → SameLines ls ls′ → SameLines (lengthen x ls) (lengthen x ls′)
 alike-longer x [] [] v = (line-refl (x ∷ []), tt)
 alike-longer x [] (l′ ∷ ls′) v = absurd v

@@ -8,7 +8,7 @@ use native.Mathlib.Omega.{arith}
 use borrow.Author.Needs.{needs}
 use borrow.Author.Tests.{eq-eqb, ne-eqb}
 use lib.Dec.{eqb}
-use lib.ListN.{length, getD, take, drop, length-drop, drop-of-length-le}
+use lib.ListN.{length, getD, take, drop, length-drop, drop-of-length-le, List·getD-eq-default}
 use lib.Seq.{take-suc, getD-drop, append-snoc, drop-drop, drop-nil, take-all}
 use Rattle.names.specs.Lines.{lines, lengthen, trimmed, lineAt, lineCount, newline}
 use Rattle.names.specs.Places.{Ended, Starts}
@@ -130,6 +130,7 @@ module _ (s : List ℕ) (i a : ℕ) (v : Starts s i a) where
   unfolding lineAt
   line-from = ap trimmed (ap (λ ls. getD ls 0 []) (v .lines-from) ∙ getD-drop i (lines s) 0 [] ∙ ap (λ n. getD (lines s) n []) (add-zero i))
 
+  -- and so it is of the part from a on
   pub line-left : lineAt (take (length s - a) (drop a s)) 0 ≡ lineAt s i
   line-left = ap (λ l. lineAt l 0) (take-all (length s - a) (drop a s) (rw length-drop (omega arith))) ∙ line-from
 
@@ -160,6 +161,11 @@ module _ (s : List ℕ) (i a : ℕ) (v : Starts s i a) where
   starts-late k h l =
       let n : length (lines s) ≤ k = omega (arith, none-left h) in
       record { inside = v .inside; lines-from = ap lines (drop-of-length-le s h) ∙ sym (drop-of-length-le (lines s) n) }
+
+-- behind the last line there is none
+pub no-line : (s : List ℕ) (i : ℕ) → lineCount s ≤ i → lineAt s i ≡ []
+unfolding trimmed lineAt lineCount
+no-line s i h = ap trimmed (List·getD-eq-default (lines s) [] h)
 
 -- what is left of two lists where line i starts has for symbol 0 the name of symbol i
 pub name-from : (site builtIn : List ℕ) (i a b : ℕ) → Starts site i a → Starts builtIn i b

@@ -9,27 +9,28 @@ use native.Mathlib.Nat.{min-eq-left}
 use native.Mathlib.Omega.{arith}
 use borrow.Author.Tests.{leb-true}
 use lib.Dec.{T, leb, ltb, eqb·suc-zero}
-use lib.ListN.{length, List·getD-eq-default}
+use lib.ListN.{length}
 use lib.Seq.{take-all}
 use Rattle.model.specs.Limits.{maxSymbols}
 use Rattle.model.specs.Lists.{allBelow, eqList}
 use Rattle.model.specs.Refusal.{demand}
 use Rattle.model.proofs.Below.{at}
 use Rattle.model.proofs.Members.{T-true, eqList→eq, eqList-refl}
-use Rattle.names.specs.Lines.{lines, trimmed, lineAt, lineCount}
+use Rattle.names.specs.Lines.{lineAt, lineCount}
 use Rattle.names.specs.Names.{letter?, digit?, nameByte?, maxName, name?, unlessEmpty, nameOf, digits, defaultName, shownName, findIn, findName}
 use Rattle.names.specs.Table.{nameIn, cellBytes, tableOf}
 use Rattle.names.specs.Check.{lineFits?, listFits?, new?, distinct?, namesCheckOf}
 use Rattle.names.proofs.Tests.{and-true, split, all-same}
 use Rattle.names.proofs.First.{first-is, unfound-all, found-passes, first-same}
+use Rattle.names.proofs.Scan.{no-line}
 use Rattle.names.proofs.Cells.{holds}
 
 -- each line is empty or a name
 line-fits : (s : List ℕ) (i : ℕ) → listFits? s ≡ true → lineFits? (lineAt s i) ≡ true
-unfolding listFits? trimmed lineAt lineCount lineFits?
+unfolding listFits? lineFits?
 line-fits s i h =
     ⊎-elim (λ l. at (λ k. lineFits? (lineAt s k)) (lineCount s) i (and-true (leb (lineCount s) maxSymbols) _ h .1) l)
-    (λ l. ap (λ r. lineFits? (trimmed r)) (List·getD-eq-default (lines s) [] l)) (split i (lineCount s))
+    (λ l. ap lineFits? (no-line s i l)) (split i (lineCount s))
 
 -- the first of two is a name where it is not empty, else the second is
 or-line : (l o : List ℕ) → lineFits? l ≡ true → lineFits? o ≡ true → lineFits? (unlessEmpty l o) ≡ true

@@ -39,6 +39,18 @@ all-cut-off l (x ∷ end) h =
     let both = and-true (blank? x) (blanks? end) h in
     ap trimmed (sym (append-snoc l x end)) ∙ all-cut-off (l ++ x ∷ []) end (both .1) ∙ cut-off l x (both .0)
 
+-- and nothing else is cut off: behind what is left stood only such bytes
+pub cut-blank : (l : List ℕ) → (end : List ℕ) × (l ≡ trimmed l ++ end) × (blanks? end ≡ true)
+unfolding trimmed
+cut-blank [] = ([], refl, refl)
+cut-blank (x ∷ xs) = let v = cut-blank xs in go (trimmed xs) (v .0) (v .1) (v .2) (blank? x) refl
+  where
+    go : (t end : List ℕ) → xs ≡ t ++ end → blanks? end ≡ true → (b : Bool) → blank? x ≡ b
+        → (end′ : List ℕ) × (x ∷ xs ≡ keep x t ++ end′) × (blanks? end′ ≡ true)
+    go (y ∷ l) end e h b is = (end, ap (λ r. x ∷ r) e, h)
+    go [] end e h true is = (x ∷ end, rw is (ap (λ r. x ∷ r) e), rw (is, h))
+    go [] end e h false is = (end, rw is (ap (λ r. x ∷ r) e), h)
+
 -- at the loop's head: what is behind e is cut off
 pub record Trimming (l : List ℕ) (e : ℕ) : Type 0 where
   pub inside : e ≤ length l

@@ -32,7 +32,7 @@ SameLines (l ∷ ls) (l′ ∷ ls′) = SameLine l l′ × SameLines ls ls′
 abbrev pub SavedAlike : List ℕ → List ℕ → Type 0
 SavedAlike s s′ = SameLines (lines s) (lines s′)
 
--- a list with lines that end in bytes 13 and 10
+-- a list with byte 13 put before each byte 10
 unfoldable pub onWindows : List ℕ → List ℕ
 onWindows [] = []
 onWindows (x ∷ xs) = elim (eqb x newline) [ true ↦ 13 ∷ newline ∷ onWindows xs | false ↦ x ∷ onWindows xs ]

@@ -85,7 +85,7 @@ fn trim<'a>(line: &'a [u8]) -> &'a [u8]
     &line[..e]
 }
 
-// Line `i` of a list, trimmed; empty where there is none. No other function reads a line, so this one alone trims.
+// Line `i` of a list, trimmed; empty where there is none. No other function cuts a line out of a list, so this one alone trims.
 fn line<'a>(s: &'a [u8], i: usize) -> &'a [u8]
     ensures { λ r. ⌜ now r ≡ lineAt (now (s .entry)) i ⌝ }
 {
@@ -147,7 +147,7 @@ fn line_fits(s: &[u8], classes: &[u8; 256]) -> bool
     is_name(s, classes)
 }
 
-// Whether a list has at most 64 lines, as many as a set has symbols, each empty or a name. Line 0 of what is left of the list is asked for, so that it is not scanned from its start again.
+// Whether a list has at most 64 lines, as many as a set has symbols, each empty or a name. Line 0 of what is left of the list is asked for, so that the list is not scanned from its start again.
 pub(crate) fn list_fits(s: &[u8], classes: &[u8; 256]) -> bool
     requires lent { ⌜ now classes ≡ classTable ⌝ }
     ensures { λ r. ⌜ r ≡ listFits? (now (s .entry)) ⌝ }

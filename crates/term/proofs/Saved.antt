@@ -1,4 +1,4 @@
--- A text is read alike with name lists that differ only in the spaces and bytes 13 at the ends of their lines (document 02, Wish 5). Assumes nothing.
+-- A text is read the same with name lists that differ only in the spaces and bytes 13 at the ends of their lines (document 02, Wish 5). Assumes nothing.
 use mathlib.Core.Path.{_≡_, ap, _∙_}
 use mathlib.Core.List.{List}
 use Prim.Native.Nat.{ℕ, _/_, min}
@@ -7,10 +7,10 @@ use Rattle.model.specs.Limits.{maxRows}
 use Rattle.model.specs.Automaton.{arityOf}
 use Rattle.automaton.specs.Stored.{decode}
 use Rattle.automaton.specs.Check.{checkOf}
-use Rattle.names.specs.Names.{shownName, findIn}
+use Rattle.names.specs.Names.{findIn}
 use Rattle.names.specs.Check.{namesCheckOf}
 use Rattle.names.specs.Saved.{SavedAlike}
-use Rattle.names.proofs.Saved.{shown-alike, check-alike}
+use Rattle.names.proofs.Saved.{same-names, same-check}
 use Rattle.document.specs.Rows.{rowCells}
 use Rattle.term.specs.Grammar.{Setting}
 use Rattle.term.specs.Read.{settingFor, readText, unlessRefused, readOf}
@@ -19,13 +19,13 @@ module _ (set text site site′ builtIn builtIn′ : List ℕ) (space : ℕ) (v 
   abbrev symbols : ℕ
   symbols = length ((decode set) .arities)
 
-  setting-alike : settingFor set site builtIn space ≡ settingFor set site′ builtIn′ space
-  setting-alike =
+  same-setting : settingFor set site builtIn space ≡ settingFor set site′ builtIn′ space
+  same-setting =
       ap {B = Setting} (λ names. record { symbol = findIn symbols names; arity = arityOf (decode set); limit = min maxRows (space / rowCells) })
-      (shown-alike site site′ builtIn builtIn′ v w)
+      (same-names site site′ builtIn builtIn′ v w)
 
-  pub read-alike : readOf set site builtIn text space ≡ readOf set site′ builtIn′ text space
+  pub same-reading : readOf set site builtIn text space ≡ readOf set site′ builtIn′ text space
   unfolding readOf
-  read-alike =
-      ap (λ n. unlessRefused (checkOf set) (unlessRefused n (readText (settingFor set site builtIn space) text))) (check-alike site site′ builtIn builtIn′ v w symbols)
-      ∙ ap (λ S. unlessRefused (checkOf set) (unlessRefused (namesCheckOf symbols site′ builtIn′) (readText S text))) setting-alike
+  same-reading =
+      ap (λ n. unlessRefused (checkOf set) (unlessRefused n (readText (settingFor set site builtIn space) text))) (same-check site site′ builtIn builtIn′ v w symbols)
+      ∙ ap (λ S. unlessRefused (checkOf set) (unlessRefused (namesCheckOf symbols site′ builtIn′) (readText S text))) same-setting

@@ -253,7 +253,7 @@ pub fn witness<'a>(set: &[u8], rows: &'a mut [u16]) -> Result<Witness<'a>, Refus
 
 /// The two name lists of term text, line i for symbol i: the site's, and the one built in. Both may be empty. A
 /// symbol is shown by its line in the site's list, else by that in the other, else by `s` and its number. Spaces and
-/// bytes 13 at the end of a line are no part of it, so that a list saved on Windows serves as it is.
+/// bytes 13 at the end of a line are no part of it, so that a list with line ends of Windows serves as it is.
 ///
 /// ```
 /// use cidhomba::{read_term, write_term, Names, ROW_CELLS};

@@ -7,4 +7,5 @@
 pub mod answer;
 pub mod case;
 pub mod lent;
+pub mod lists;
 pub mod tally;

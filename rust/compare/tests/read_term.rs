@@ -4,8 +4,8 @@ use cidhomba::interface::read_term;
 use compare::answer::Answer;
 use compare::case::{Case, Expected, Input};
 use compare::lent::Lent;
+use compare::lists::{Lists, NamedExport};
 use compare::tally::{Tally, NAMES, SET, TEXT};
-use generate::example_files::file;
 use generate::{documents, lists, set_bytes, sets, texts, Random};
 use reference::check_names;
 use reference::examples::{set_e, set_g};
@@ -16,9 +16,6 @@ use reference::term_writer::text_within;
 fn compare(set: &[u8], site: &[u8], built_in: &[u8], text: &[u8], row_cells: usize) -> Answer {
     compare_saved(set, (site, built_in), (site, built_in), text, row_cells)
 }
-
-/// The site's list and the built-in one.
-type Lists<'a> = (&'a [u8], &'a [u8]);
 
 /// Compares where the library is lent the lists as an editor saved them, and the reference as they were before.
 fn compare_saved(set: &[u8], saved: Lists, before: Lists, text: &[u8], row_cells: usize) -> Answer {
@@ -83,11 +80,11 @@ fn seeded_texts() {
 
 #[test]
 fn spaces_and_bytes_13_at_the_ends_of_lines_change_no_answer_and_no_row() {
-    let mut tally = Tally::of("read_term, lists saved both ways");
+    let mut tally = Tally::of("read_term, lists saved in two ways");
     for seed in 0..15_000 {
         let random = &mut Random::new(seed);
         let Call { set, site, built_in, text, row_cells } = seeded(random);
-        for saved in lists::saved_both_ways(random, &site, &built_in) {
+        for saved in lists::saved_in_two_ways(random, &site, &built_in) {
             let answer = compare_saved(&set, (&saved.0, &saved.1), (&site, &built_in), &text, row_cells);
             tally.count(answer, |_| "read");
         }
@@ -97,11 +94,8 @@ fn spaces_and_bytes_13_at_the_ends_of_lines_change_no_answer_and_no_row() {
 }
 
 #[test]
-fn the_list_of_the_examples_saved_on_windows_is_read_as_the_plain_one() {
-    let (set, plain, windows) = (file("agreed.set"), file("agreed.names"), file("agreed-windows.names"));
-    let export = reference::read_term(&set, b"", b"", &file("export.term"), ROW_CELLS * MAX_ROWS);
-    let rows = export.expect("a sound text").cells();
-    let text = reference::write_term(&set, &plain, b"", &rows, usize::MAX).expect("a sound table");
+fn with_the_windows_list_of_the_examples_a_text_is_read_to_the_same_rows() {
+    let NamedExport { set, rows, text, plain, windows } = NamedExport::of_the_examples();
     let answers = [
         compare_saved(&set, (&windows, b""), (&plain, b""), &text, rows.len()),
         compare_saved(&set, (b"", &windows), (b"", &plain), &text, rows.len()),
@@ -261,6 +255,7 @@ fn lists_with_spaces_and_bytes_13_at_their_limits() {
     assert_eq!(number(b"s 0\r\n", b""), Some(61));
     assert_eq!(number(b"s\r0\r\n", b""), Some(61));
     assert_eq!(number(b" s0\r\n", b""), Some(61));
+    assert_eq!(number(b"\xef\xbb\xbfs0\r\n", b""), Some(61), "a byte order mark");
     assert_eq!(number(b"s0\t\r\n", b""), Some(61));
     assert_eq!(number(b"p \np\r\n", b""), Some(62));
     assert_eq!(number(b"s1\r\n", b""), Some(62));

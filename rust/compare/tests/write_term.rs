@@ -4,20 +4,17 @@ use cidhomba::interface::write_term;
 use compare::answer::Answer;
 use compare::case::{Case, Expected, Input};
 use compare::lent::Lent;
+use compare::lists::{Lists, NamedExport};
 use compare::tally::{Tally, NAMES, SET, TABLE};
-use generate::example_files::file;
 use generate::{documents, lists, rows, set_bytes, sets, Random};
 use reference::examples::{set_e, set_g};
-use reference::limits::{MAX_ROWS, ROW_CELLS};
+use reference::limits::ROW_CELLS;
 use reference::{Document, Row, Scalar};
 
 /// Compares one call with a text space of so many bytes, and answers what both answered.
 fn compare(set: &[u8], site: &[u8], built_in: &[u8], rows: &[u16], space: usize) -> Answer {
     compare_saved(set, (site, built_in), (site, built_in), rows, space)
 }
-
-/// The site's list and the built-in one.
-type Lists<'a> = (&'a [u8], &'a [u8]);
 
 /// Compares where the library is lent the lists as an editor saved them, and the reference as they were before.
 fn compare_saved(set: &[u8], saved: Lists, before: Lists, rows: &[u16], space: usize) -> Answer {
@@ -81,11 +78,11 @@ fn seeded_documents() {
 
 #[test]
 fn spaces_and_bytes_13_at_the_ends_of_lines_change_no_answer_and_no_text() {
-    let mut tally = Tally::of("write_term, lists saved both ways");
+    let mut tally = Tally::of("write_term, lists saved in two ways");
     for seed in 0..12_500 {
         let random = &mut Random::new(seed);
         let Call { set, site, built_in, rows, space } = seeded(random);
-        for saved in lists::saved_both_ways(random, &site, &built_in) {
+        for saved in lists::saved_in_two_ways(random, &site, &built_in) {
             let answer = compare_saved(&set, (&saved.0, &saved.1), (&site, &built_in), &rows, space);
             tally.count(answer, |_| "written");
         }
@@ -95,11 +92,8 @@ fn spaces_and_bytes_13_at_the_ends_of_lines_change_no_answer_and_no_text() {
 }
 
 #[test]
-fn the_list_of_the_examples_saved_on_windows_is_written_with_as_the_plain_one() {
-    let (set, plain, windows) = (file("agreed.set"), file("agreed.names"), file("agreed-windows.names"));
-    let export = reference::read_term(&set, b"", b"", &file("export.term"), ROW_CELLS * MAX_ROWS);
-    let rows = export.expect("a sound text").cells();
-    let text = reference::write_term(&set, &plain, b"", &rows, usize::MAX).expect("a sound table");
+fn with_the_windows_list_of_the_examples_the_same_text_is_written() {
+    let NamedExport { set, rows, text, plain, windows } = NamedExport::of_the_examples();
     for (space, expected) in [(text.len(), None), (text.len() - 1, Some(68))] {
         let site = compare_saved(&set, (&windows, b""), (&plain, b""), &rows, space);
         let built_in = compare_saved(&set, (b"", &windows), (b"", &plain), &rows, space);

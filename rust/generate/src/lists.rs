@@ -2,7 +2,7 @@
 //! line they are no part of it.
 
 use reference::limits::MAX_LIST_LINES;
-use reference::names::lines;
+use reference::names;
 
 use crate::Random;
 
@@ -23,7 +23,7 @@ pub fn saved_on_windows(list: &[u8]) -> Vec<u8> {
 }
 
 /// The two lists, saved by an editor on Windows and by one that leaves blanks.
-pub fn saved_both_ways(random: &mut Random, site: &[u8], built_in: &[u8]) -> [(Vec<u8>, Vec<u8>); 2] {
+pub fn saved_in_two_ways(random: &mut Random, site: &[u8], built_in: &[u8]) -> [(Vec<u8>, Vec<u8>); 2] {
     let windows = (saved_on_windows(site), saved_on_windows(built_in));
     [windows, (with_blanks(random, site), with_blanks(random, built_in))]
 }
@@ -66,7 +66,7 @@ fn saved(random: &mut Random, list: Vec<u8>) -> Vec<u8> {
         0 => saved_on_windows(&list),
         1 => {
             let mut list = with_blanks(random, &list);
-            if lines(&list).len() < MAX_LIST_LINES {
+            if names::lines(&list).len() < MAX_LIST_LINES {
                 // Behind a last byte 10 these are one line more.
                 list.extend(blanks(random));
             }
@@ -86,7 +86,7 @@ fn name(random: &mut Random, first: u8, line: usize) -> Vec<u8> {
     name
 }
 
-/// Takes a list to a limit or past it; the change may turn out harmless.
+/// Takes a list to a limit or past it, or puts a fault in; the change may turn out harmless.
 fn damage(random: &mut Random, list: &mut Vec<u8>, symbols: usize) {
     match random.below(20) {
         0 => *list = vec![10; MAX_LIST_LINES],

@@ -116,9 +116,9 @@ fn lines_of_a_list() {
     assert_eq!(lines(b"a").len(), 1);
     assert_eq!(lines(b"a\n").len(), 1);
     assert_eq!(lines(b"a\nb").len(), 2);
-    assert_eq!(lines(b" ").len(), 1);
-    assert_eq!(lines(b" \n").len(), 1);
-    assert_eq!(lines(b"\n\r").len(), 2);
+    assert_eq!(lines(b" "), [b""]);
+    assert_eq!(lines(b" \n"), [b""]);
+    assert_eq!(lines(b"\n\r"), [b"", b""]);
     assert_eq!(lines(&[10; 64]).len(), 64);
     assert_eq!(shown(&[10; 64], b""), names(["s0", "s1", "s2"]));
     assert_eq!(shown(&[10; 65], b""), Err(61));
