@@ -3,6 +3,7 @@ use mathlib.Core.Path.{_≡_, refl, sym, ap, subst, _∙_, fun-ext}
 use mathlib.Core.Bool.{Bool, true, false, _&&_}
 use mathlib.Core.List.{List, [], _∷_, _++_, append-nil}
 use Prim.Native.Nat.{ℕ, zero, suc}
+use native.Mathlib.Omega.{arith}
 use lib.Dec.{eqb, leb}
 use lib.ListN.{length, getD}
 use Rattle.model.specs.Limits.{maxSymbols}
@@ -51,6 +52,21 @@ module _ (s s′ : List ℕ) (v : SavedAlike s s′) where
   same-fit =
       ap (λ n. leb n maxSymbols && allBelow n (λ i. lineFits? (lineAt s i))) (same-count (lines s) (lines s′) v)
       ∙ ap (λ line. leb (lineCount s′) maxSymbols && allBelow (lineCount s′) (λ i. lineFits? (line i))) same-lines
+
+like-lines : (ls ls′ : List (List ℕ)) → length ls ≡ length ls′ → ((i : ℕ) → trimmed (getD ls i []) ≡ trimmed (getD ls′ i [])) → SameLines ls ls′
+like-lines [] [] n h = tt
+like-lines [] (l′ ∷ ls′) n h = absurd (omega arith)
+like-lines (l ∷ ls) [] n h = absurd (omega arith)
+like-lines (l ∷ ls) (l′ ∷ ls′) n h = (trimmed-same l l′ (h 0), like-lines ls ls′ (omega arith) (λ i. h (suc i)))
+
+-- two lists differ only there exactly when they have as many lines, and these are the same once trimmed
+pub alike-exactly : (s s′ : List ℕ) → (SavedAlike s s′ → (lineCount s ≡ lineCount s′) × (lineAt s ≡ lineAt s′))
+    × ((lineCount s ≡ lineCount s′) × (lineAt s ≡ lineAt s′) → SavedAlike s s′)
+unfolding lineAt lineCount
+alike-exactly s s′ = (
+  λ v. (same-count (lines s) (lines s′) v, same-lines s s′ v),
+  λ e. like-lines (lines s) (lines s′) (e .0) (λ i. ap (λ line. line i) (e .1)),
+)
 
 -- both lists saved in two ways
 module _ (site site′ builtIn builtIn′ : List ℕ) (v : SavedAlike site site′) (w : SavedAlike builtIn builtIn′) where
