@@ -2,3 +2,4 @@ pub mod Twice
 pub mod Stars
 pub mod Papers
 pub mod Edges
+pub mod Zeros

@@ -1,3 +1,4 @@
 pub mod Sets
 pub mod Cases
 pub mod Edges
+pub mod Zeros

@@ -1,5 +1,4 @@
 pub mod Rates
-pub mod Variants
 pub mod Scalars
 pub mod Hashing
 pub mod Places

@@ -3,15 +3,19 @@ use mathlib.Core.Bool.{Bool, _&&_, cond}
 use Prim.Native.Nat.{ℕ, zero, suc}
 use lib.Dec.{eqb}
 use lib.Ieee.{binary64, nanBits, ofBits, toBits}
-use Rattle.model.specs.Table.{scalar?}
+use Rattle.model.specs.Table.{oneZero, scalar?}
 use Rattle.document.specs.declared.scalar.Scalar.{Scalar}
 use Rattle.document.specs.declared.scalar.Scalar.the-variants.{Bare, Flag, Count, Rate, NanRate, Name}
 use Rattle.document.specs.declared.scalar.Decoded.{Decoded}
 use Rattle.document.specs.declared.scalar.Decoded.the-variants.{Is, Not}
 
--- the rate of any 64 bits; those of a NaN are kept as a number
-unfoldable pub rateOf : ℕ → Scalar
-rateOf bits = cond (nanBits binary64 bits) (NanRate bits) (Rate (ofBits binary64 bits))
+-- the rate of 64 bits; those of a NaN are kept as a number
+unfoldable pub rateWith : ℕ → Scalar
+rateWith bits = cond (nanBits binary64 bits) (NanRate bits) (Rate (ofBits binary64 bits))
+
+-- the rate that a reader puts into a row for any 64 bits
+abbrev pub rateOf : ℕ → Scalar
+rateOf bits = rateWith (oneZero bits)
 
 -- the kind's number
 abbrev pub kindOf : Scalar → ℕ
@@ -31,20 +35,16 @@ payloadOf (Rate x) = toBits binary64 x
 payloadOf (NanRate bits) = bits
 payloadOf (Name n) = n
 
--- a scalar of kind k and payload p
+-- a scalar of kind k and payload p: of a rate, all bits agree
 abbrev pub hasKindPayload : Scalar → ℕ → ℕ → Bool
 hasKindPayload s k p = eqb (kindOf s) k && eqb (payloadOf s) p
-
--- equal scalars: the same kind and the same payload
-abbrev pub sameScalar : Scalar → Scalar → Bool
-sameScalar a b = hasKindPayload a (kindOf b) (payloadOf b)
 
 -- the scalar of a kind and a payload that are one
 unfoldable pub scalarAt : ℕ → ℕ → Scalar
 scalarAt zero p = Bare
 scalarAt (suc zero) p = Flag (eqb p 1)
 scalarAt (suc (suc zero)) p = Count p
-scalarAt (suc (suc (suc zero))) p = rateOf p
+scalarAt (suc (suc (suc zero))) p = rateWith p
 scalarAt (suc (suc (suc (suc k)))) p = Name p
 
 -- a scalar exactly where the kind and the payload are those of one

@@ -1,10 +1,15 @@
 // Scalars: the five kinds, their kind and payload in a row, and their equality.
 ghost use mathlib.Core.Path.{_≡_};
 ghost use lib.Ieee.{binary64, toBits};
-ghost use Rattle.document.specs.Scalars.{rateOf, kindOf, payloadOf, decodeScalar, hasKindPayload, sameScalar};
+ghost use Rattle.model.specs.Table.{oneZero};
+ghost use Rattle.document.specs.declared.scalar.Scalar.the-variants.{Flag};
+ghost use Rattle.document.specs.Scalars.{rateWith, rateOf, kindOf, payloadOf, decodeScalar, hasKindPayload};
 
 // A bit pattern without its sign is a NaN where it is above that of infinity.
 const SIGN: u64 = 9223372036854775808;
+
+// Only the sign bit is set; it may not stand in a row.
+const MINUS_ZERO: u64 = SIGN;
 
 const INFINITY: u64 = 9218868437227405312;
 
@@ -22,8 +27,9 @@ pub enum Scalar {
     Name(u32),
 }
 
-pub fn rate_of(bits: u64) -> Scalar
-    ensures { λ r. ⌜ r ≡ rateOf bits ⌝ }
+// The rate with these bits.
+fn rate_with(bits: u64) -> Scalar
+    ensures { λ r. ⌜ r ≡ rateWith bits ⌝ }
 {
     if bits % SIGN > INFINITY {
         Scalar::NanRate(bits)
@@ -32,11 +38,31 @@ pub fn rate_of(bits: u64) -> Scalar
     }
 }
 
+// Two zeros are one load: the bits of minus zero become those of zero, all others stay.
+fn one_zero(bits: u64) -> u64
+    ensures { λ r. ⌜ r ≡ oneZero bits ⌝ }
+{
+    if bits == MINUS_ZERO { 0 } else { bits }
+}
+
+// The rate that a reader puts into a row, for any 64 bits.
+pub fn rate_of(bits: u64) -> Scalar
+    ensures { λ r. ⌜ r ≡ rateOf bits ⌝ }
+{
+    rate_with(one_zero(bits))
+}
+
 // A float's bits, for every float: of a NaN, the pattern that the definition names.
 pub fn bits_of(x: f64) -> u64
     ensures { λ r. ⌜ r ≡ toBits binary64 x ⌝ }
 {
     if x != x { NAN } else { f64::to_bits(x) }
+}
+
+fn flag_bits(b: bool) -> u64
+    ensures { λ r. ⌜ r ≡ payloadOf (Flag b) ⌝ }
+{
+    if b { 1 } else { 0 }
 }
 
 pub fn kind(s: Scalar) -> u16
@@ -57,7 +83,7 @@ pub fn payload(s: Scalar) -> u64
 {
     match s {
         Scalar::Bare => 0,
-        Scalar::Flag(b) => if b { 1 } else { 0 },
+        Scalar::Flag(b) => flag_bits(b),
         Scalar::Count(n) => n,
         Scalar::Rate(x) => bits_of(x),
         Scalar::NanRate(bits) => bits,
@@ -86,7 +112,11 @@ pub fn from_cells(kind: u16, payload: u64) -> Decoded
             Decoded::Not
         },
         2 => Decoded::Is(Scalar::Count(payload)),
-        3 => Decoded::Is(rate_of(payload)),
+        3 => if payload == MINUS_ZERO {
+            Decoded::Not
+        } else {
+            Decoded::Is(rate_with(payload))
+        },
         4 => if payload < NAMES {
             Decoded::Is(Scalar::Name(payload as u32))
         } else {
@@ -96,49 +126,16 @@ pub fn from_cells(kind: u16, payload: u64) -> Decoded
     }
 }
 
-// Whether a scalar is a rate of these bits.
-fn is_rate(s: Scalar, bits: u64) -> bool
-    ensures { λ r. ⌜ r ≡ hasKindPayload s 3 bits ⌝ }
-{
-    match s {
-        Scalar::Rate(x) => bits_of(x) == bits,
-        Scalar::NanRate(own) => own == bits,
-        _ => false,
-    }
-}
-
-// Two scalars are equal: the same kind and the same payload, of rates all bits.
-pub fn same(a: Scalar, b: Scalar) -> bool
-    ensures { λ r. ⌜ r ≡ sameScalar a b ⌝ }
-{
-    match b {
-        Scalar::Bare => match a {
-            Scalar::Bare => true,
-            _ => false,
-        },
-        Scalar::Flag(y) => match a {
-            Scalar::Flag(x) => x == y,
-            _ => false,
-        },
-        Scalar::Count(y) => match a {
-            Scalar::Count(x) => x == y,
-            _ => false,
-        },
-        Scalar::Rate(y) => is_rate(a, bits_of(y)),
-        Scalar::NanRate(bits) => is_rate(a, bits),
-        Scalar::Name(y) => match a {
-            Scalar::Name(x) => x == y,
-            _ => false,
-        },
-    }
-}
-
-// Whether a scalar is what a row's kind and payload hold; where they hold none, no value of the type is it.
+// Whether a scalar is what a row's kind and payload say, for any of them: of a rate, all bits agree.
 pub fn held(s: Scalar, kind: u16, bits: u64) -> bool
     ensures { λ r. ⌜ r ≡ hasKindPayload s kind bits ⌝ }
 {
-    match from_cells(kind, bits) {
-        Decoded::Is(t) => same(s, t),
-        Decoded::Not => false,
+    match s {
+        Scalar::Bare => (kind == 0) & (bits == 0),
+        Scalar::Flag(b) => (kind == 1) & (bits == flag_bits(b)),
+        Scalar::Count(n) => (kind == 2) & (bits == n),
+        Scalar::Rate(x) => (kind == 3) & (bits == bits_of(x)),
+        Scalar::NanRate(own) => (kind == 3) & (bits == own),
+        Scalar::Name(n) => (kind == 4) & (bits == n as u64),
     }
 }

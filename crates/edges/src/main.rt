@@ -1,4 +1,4 @@
-// The cases and edges of document 01, section "Examples, with the edges", and the byte classes of document 02, run: a line for each, and `stdout` has what the papers say.
+// The cases and edges of document 01, section "Examples, with the edges", and the byte classes and the two zeros of document 02, run: a line for each, and `stdout` has what the papers say.
 use automaton::Checked;
 use base::limits::UNUSED;
 use base::space::put;
@@ -17,6 +17,8 @@ use document::rows::Row;
 use document::rows::put_row;
 use libc::STDOUT_FILENO;
 use membership::Judged;
+use spelling::TermWritten;
+use term::TermRead;
 
 // Set E: state 0 with tag 0, state 1 final; pair(0,0) to 1, a to 0, b to 0.
 const E: [u8; 59] =
@@ -33,6 +35,8 @@ const D: [u8; 33] =
 // Set B, untagged: a to 0, a to 1, pair(0,1) to 2, 2 final.
 const B: [u8; 61] =
     *b"\x03\x00\x03\x00\x00\x00\x03\x00\x10\x00\x13\x00\x19\x00\x3d\x00\x02\x00\x00\x00\x00\x00\x00\x01\x00\x00\x00\x02\x00\x00\x00\x01\x00\xff\xff\xff\xff\x01\x00\x00\x00\xff\xff\xff\xff\xff\xff\xff\xff\x01\x00\x01\x00\xff\xff\xff\xff\xff\xff\xff\xff";
+
+const TWO_ZEROS: [u8; 43] = *b"s0(s1~0000000000000000,s1~8000000000000000)";
 
 // The cells of 1,025 rows.
 const CELLS: usize = 10250;
@@ -86,10 +90,11 @@ fn documents() {
     judge(b"E, pair(a=7,a=8): ", &E, b"s0(s1=7,s1=8)");
     judge(b"E, pair(a,b): ", &E, b"s0(s1,s2)");
     judge(b"E, a: ", &E, b"s1");
+    judge(b"E, the two zeros: ", &E, &TWO_ZEROS);
     judge(
-        b"E, the two zeros: ",
+        b"E, a zero and the rate next to the other: ",
         &E,
-        b"s0(s1~0000000000000000,s1~8000000000000000)",
+        b"s0(s1~0000000000000000,s1~8000000000000001)",
     );
     judge(b"G, g(g(a)): ", &G, b"s0(s0(s1))");
     judge(b"G, g(g(g(g(a)))): ", &G, b"s0(s0(s0(s0(s1))))");
@@ -203,6 +208,29 @@ fn table(case: &[u8], rows: u16) {
     checked(document::check(&E, &cells[..n]));
 }
 
+// Document 02, Wish 6: the rate with only its sign bit set, given in a row; and the text of the two zeros, written back.
+fn zeros() {
+    let row = [1, UNUSED, UNUSED, UNUSED, UNUSED, 3, 0, 0, 0, 32768];
+    say(b"the rate with only its sign bit set, in a row: ");
+    checked(document::check(&E, &row));
+    say(b"the two zeros, written back: ");
+    let mut cells = [0u16; 20];
+    match term::read(&E, b"", b"", &TWO_ZEROS, &mut cells) {
+        TermRead::Rows(_) => (),
+        TermRead::Refused(n, _) => refused(n),
+    }
+    let mut text = [0u8; 64];
+    let n = match spelling::write(&E, b"", b"", &cells, &mut text) {
+        TermWritten::Bytes(n) => n,
+        TermWritten::Refused(_) => 0,
+    };
+    if n > 64 {
+        return;
+    }
+    say(&text[..n]);
+    say(b"\n");
+}
+
 // What the test of class k says of a byte.
 fn is_member(table: &[u8; 256], k: u8, b: u8) -> bool {
     match k {
@@ -252,4 +280,5 @@ fn main() {
     table(b"1,024 rows: ", 1024);
     table(b"1,025 rows: ", 1025);
     byte_classes();
+    zeros();
 }

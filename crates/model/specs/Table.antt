@@ -1,7 +1,7 @@
 -- Row tables and their trees (document 01, section "Documents"). Assumes nothing.
 use mathlib.Core.Path.{_≡_}
 use mathlib.Core.List.{List, [], _∷_, map, List·Memᴰ as In}
-use mathlib.Core.Bool.{Bool, true, false, _&&_, _||_}
+use mathlib.Core.Bool.{Bool, true, false, _&&_, _||_, not, cond}
 use Prim.Native.Nat.{ℕ, zero, suc, _+_, _-_, _^_, _<_, _≤_}
 use lib.Dec.{T, eqb, ltb}
 use lib.ListN.{length, getD}
@@ -38,10 +38,21 @@ treeAt rows i = treeIn rows (suc i) i
 abbrev pub treeOf : List Row → Tree
 treeOf rows = treeAt rows (length rows - 1)
 
+-- The rate with only its sign bit set (document 02, Wish 6).
+abbrev pub minusZero : ℕ
+minusZero = 2 ^ 63
+
+-- A rate that may stand in a row: any 64 bits but that one.
+abbrev pub rate? : ℕ → Bool
+rate? p = ltb p (2 ^ 64) && not (eqb p minusZero)
+
+-- The rate that a reader puts into a row: that one becomes positive zero, and any other stays as it is.
+unfoldable pub oneZero : ℕ → ℕ
+oneZero p = cond (eqb p minusZero) 0 p
+
 -- The five kinds: bare 0, a flag 1, a count 2, a rate 3, a name 4.
 abbrev pub scalar? : ℕ → ℕ → Bool
-scalar? k p =
-    (eqb k 0 && eqb p 0) || (eqb k 1 && ltb p 2) || (eqb k 2 && ltb p (2 ^ 64)) || (eqb k 3 && ltb p (2 ^ 64)) || (eqb k 4 && ltb p (2 ^ 32))
+scalar? k p = (eqb k 0 && eqb p 0) || (eqb k 1 && ltb p 2) || (eqb k 2 && ltb p (2 ^ 64)) || (eqb k 3 && rate? p) || (eqb k 4 && ltb p (2 ^ 32))
 
 -- Each child of a row stands below it.
 abbrev pub Lower : List Row → Type 0

@@ -11,3 +11,4 @@ pub mod Terms
 pub mod SameCells
 pub mod RoundTrip
 pub mod Saved
+pub mod Respelling

@@ -9,11 +9,11 @@ use native.Mathlib.Omega.{arith}
 use borrow.Author.Tests.{lt-ltb, le-leb, lt-leb, ltb-true, ltb-false, ne-eqb}
 use lib.Dec.{T, eqb, leb, ltb, eqb→eq, ltb→lt}
 use lib.ListN.{length, getD, length-append, List·getD-append}
-use Rattle.model.specs.Table.{scalar?}
+use Rattle.model.specs.Table.{rate?, scalar?}
+use Rattle.model.proofs.Scalars.{by-kind, rate-below, standing-stays}
 use Rattle.model.proofs.Members.{T-and}
 use Rattle.names.specs.Names.{letter?, digit?, nameByte?, digits, decimal}
-use Rattle.document.proofs.Scalars.{either}
-use Rattle.term.specs.Scan.{byteAt, got, digitValue, digitsFrom, numberAt, hexDigit?, hexValue, hexFrom, scalar, ofKind, valueAt, scalarAt}
+use Rattle.term.specs.Scan.{byteAt, got, digitValue, digitsFrom, numberAt, hexDigit?, hexValue, hexFrom, scalar, ofKind, ofRate, valueAt, scalarAt}
 use Rattle.term.proofs.Bytes.{digit-range}
 use Rattle.term.proofs.Scalars.{number-digits, number-zero}
 use Rattle.spelling.specs.Text.{hexDigit, hexDigits, scalarText}
@@ -210,23 +210,6 @@ module _ (t : List ℕ) where
       let w : suc (i + k) ≡ i + suc k = omega arith in
       ap (λ f. hexFrom f t 0 i) e ∙ hex-read k (suc m) (n / 16) i (x ∷ r) low s ∙ next-hex m (n / 16) (i + k) x (n % 16) b (d .0) (d .1) ∙ (λ j. hexFrom m t (v j) (w j))
 
--- a kind and a payload that are a scalar, kind by kind
-by-kind : (C : ℕ → Type 0) (p : ℕ) → (T (eqb p 0) → C 0) → (T (ltb p 2) → C 1) → (T (ltb p (2 ^ 64)) → C 2) → (T (ltb p (2 ^ 64)) → C 3) → (T (ltb p (2 ^ 32)) → C 4) → (k : ℕ) → T (scalar? k p) → C k
-by-kind C p bare flag count rate name k =
-    either (is 0 (eqb p 0) || is 1 (ltb p 2) || is 2 (ltb p (2 ^ 64)) || is 3 (ltb p (2 ^ 64))) (is 4 (ltb p (2 ^ 32)))
-    (either (is 0 (eqb p 0) || is 1 (ltb p 2) || is 2 (ltb p (2 ^ 64))) (is 3 (ltb p (2 ^ 64)))
-    (either (is 0 (eqb p 0) || is 1 (ltb p 2)) (is 2 (ltb p (2 ^ 64)))
-    (either (is 0 (eqb p 0)) (is 1 (ltb p 2)) (of-kind 0 (eqb p 0) bare) (of-kind 1 (ltb p 2) flag))
-    (of-kind 2 (ltb p (2 ^ 64)) count))
-    (of-kind 3 (ltb p (2 ^ 64)) rate))
-    (of-kind 4 (ltb p (2 ^ 32)) name)
-  where
-    is : ℕ → Bool → Bool
-    is j test = eqb k j && test
-
-    of-kind : (j : ℕ) (test : Bool) → (T test → C j) → T (eqb k j && test) → C k
-    of-kind j test f h = let (e, t) = T-and (eqb k j) test h in subst C (sym (eqb→eq k j e)) (f t)
-
 module _ (t l : List ℕ) (c : Closes (getD l 0 0)) where
   -- what stands behind a name neither continues it nor opens a bracket
   pub record Opens (k p : ℕ) : Type 0 where
@@ -300,16 +283,16 @@ module _ (t l : List ℕ) (c : Closes (getD l 0 0)) where
   unfolding hexFrom
   hex-end v i = refl
 
-  rate-read : (p : ℕ) → T (ltb p (2 ^ 64)) → Reads p 3
+  rate-read : (p : ℕ) → T (rate? p) → Reads p 3
   unfolding scalarText scalarAt
   rate-read p e i h =
       let b = head-of t i (126 ∷ hexDigits 16 p ++ l) h in
       let u : eqb (byteAt t i) 61 ≡ false = ap (λ n. eqb n 61) b in
       let v : eqb (byteAt t i) 126 ≡ true = ap (λ n. eqb n 126) b in
-      let q : hexFrom 16 t 0 (i + 1) ≡ got p (i + 1 + 16) = hex-read t 16 0 p (i + 1) l (omega (arith, ltb→lt p (2 ^ 64) e)) (next t i 126 (hexDigits 16 p ++ l) h) ∙ hex-end p (i + 1 + 16) in
+      let q : hexFrom 16 t 0 (i + 1) ≡ got p (i + 1 + 16) = hex-read t 16 0 p (i + 1) l (omega (arith, rate-below p e)) (next t i 126 (hexDigits 16 p ++ l) h) ∙ hex-end p (i + 1 + 16) in
       let n = hex-length 16 p in
       let z : i + 1 + 16 ≡ i + suc (length (hexDigits 16 p)) = omega arith in
-      rw (scalarAt, u, v) (ap (ofKind 3) q ∙ ap (got (scalar 3 p)) z)
+      rw (scalarAt, u, v) (ap ofRate q ∙ λ j. got (scalar 3 (standing-stays p e j)) (z j))
 
   name-read : (p : ℕ) → T (ltb p (2 ^ 32)) → Reads p 4
   unfolding scalarText scalarAt

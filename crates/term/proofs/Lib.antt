@@ -12,4 +12,6 @@ pub mod Whole
 pub mod TextTable
 pub mod Spelled
 pub mod Saved
+pub mod Alike
+pub mod Zeros
 pub mod Refusals

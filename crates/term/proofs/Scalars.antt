@@ -8,12 +8,14 @@ use native.Mathlib.Omega.{arith}
 use borrow.Author.Tests.{eq-eqb, ne-eqb, ltb-true, lt-ltb}
 use lib.Dec.{T, eqb, ltb}
 use lib.ListN.{length, getD}
-use Rattle.model.specs.Table.{scalar?}
+use Rattle.model.specs.Table.{rate?, oneZero, scalar?}
+use Rattle.model.proofs.Members.{T-true}
+use Rattle.model.proofs.Scalars.{one-zero-stands}
 use Rattle.names.specs.Names.{digit?}
 use Rattle.document.specs.declared.scalar.Scalar.{Scalar as Value}
 use Rattle.document.specs.Scalars.{rateOf, kindOf, payloadOf}
 use Rattle.document.proofs.Rates.{kind-rate, payload-rate}
-use Rattle.term.specs.Scan.{byteAt, Got, got, fault, digitValue, digitsFrom, numberAt, hexDigit?, hexValue, hexFrom, wordBytes, wordAt, Scalar, scalar, ofKind, valueAt, scalarAt}
+use Rattle.term.specs.Scan.{byteAt, Got, got, fault, digitValue, digitsFrom, numberAt, hexDigit?, hexValue, hexFrom, wordBytes, wordAt, Scalar, scalar, ofKind, ofRate, valueAt, scalarAt}
 use Rattle.term.specs.Answer.{numberOf}
 use Rattle.term.specs.declared.scan.NumberRead.{NumberRead}
 use Rattle.term.specs.declared.scan.NumberRead.the-variants.{Number, Fault}
@@ -52,8 +54,8 @@ module _ (limit : ℕ) (t : List ℕ) (i b : ℕ) (here : b ≡ byteAt t i) wher
 count-is : (n : ℕ) → n < 2 ^ 64 → T (scalar? 2 n)
 count-is n h = rw (lt-ltb n (2 ^ 64) h) tt
 
-rate-is : (n : ℕ) → n < 2 ^ 64 → T (scalar? 3 n)
-rate-is n h = rw (lt-ltb n (2 ^ 64) h) tt
+rate-is : (n : ℕ) → n < 2 ^ 64 → T (scalar? 3 (oneZero n))
+rate-is n h = rw (T-true (rate? (oneZero n)) .0 (one-zero-stands n h)) tt
 
 name-is : (n : ℕ) → n < 2 ^ 32 → T (scalar? 4 n)
 name-is n h = rw (lt-ltb n (2 ^ 32) h) tt
@@ -74,6 +76,10 @@ read-as P Q f none-read = none-read
 pub read-kind : (P : ℕ → ℕ → Type 0) (Q : Scalar → ℕ → Type 0) (k : ℕ) {g : Got ℕ} → ((n e : ℕ) → P n e → Q (scalar k n) e) → Reads P g → Reads Q (ofKind k g)
 read-kind P Q k f (reads h) = reads (f _ _ h)
 read-kind P Q k f none-read = none-read
+
+pub read-rate : (P : ℕ → ℕ → Type 0) (Q : Scalar → ℕ → Type 0) {g : Got ℕ} → ((n e : ℕ) → P n e → Q (scalar 3 (oneZero n)) e) → Reads P g → Reads Q (ofRate g)
+read-rate P Q f (reads h) = reads (f _ _ h)
+read-rate P Q f none-read = none-read
 
 -- a number below the limit, up to a place that is not before i
 abbrev pub NumberFrom : ℕ → ℕ → ℕ → ℕ → Type 0
@@ -166,7 +172,7 @@ module _ (t : List ℕ) (i b : ℕ) (here : b ≡ byteAt t i) where
     not-61 : eqb (byteAt t i) 61 ≡ false
     not-61 = ne-eqb _ _ (λ q. not-equals (here ∙ q))
 
-    pub scalar-rate : b ≡ 126 → scalarAt t i ≡ ofKind 3 (hexFrom 16 t 0 (i + 1))
+    pub scalar-rate : b ≡ 126 → scalarAt t i ≡ ofRate (hexFrom 16 t 0 (i + 1))
     unfolding scalarAt
     scalar-rate e = let f : eqb (byteAt t i) 126 ≡ true = eq-eqb _ _ (sym here ∙ e) in rw (scalarAt, not-61, f)
 
@@ -208,9 +214,9 @@ pub scalar-reads : (t : List ℕ) (i : ℕ) → Reads (ScalarFrom i) (scalarAt t
 unfolding scalarAt
 scalar-reads t i = go (eqb (byteAt t i) 61) (eqb (byteAt t i) 126) (eqb (byteAt t i) 35)
   where
-    go : (a b c : Bool) → Reads (ScalarFrom i) (elim a [ true ↦ valueAt t (i + 1) | false ↦ elim b [ true ↦ ofKind 3 (hexFrom 16 t 0 (i + 1)) | false ↦ elim c [ true ↦ ofKind 4 (numberAt (2 ^ 32) t (i + 1)) | false ↦ got (scalar 0 0) i ] ] ])
+    go : (a b c : Bool) → Reads (ScalarFrom i) (elim a [ true ↦ valueAt t (i + 1) | false ↦ elim b [ true ↦ ofRate (hexFrom 16 t 0 (i + 1)) | false ↦ elim c [ true ↦ ofKind 4 (numberAt (2 ^ 32) t (i + 1)) | false ↦ got (scalar 0 0) i ] ] ])
     go true b c = read-as (ScalarFrom (i + 1)) (ScalarFrom i) (λ k e p. (p .0, omega arith)) (value-scalar t (i + 1))
-    go false true c = read-kind (NumberFrom (2 ^ 64) (i + 1)) (ScalarFrom i) 3 (λ n e p. (rate-is n (p .0), omega arith)) (hex-below t 16 0 (i + 1) 0 (omega arith))
+    go false true c = read-rate (NumberFrom (2 ^ 64) (i + 1)) (ScalarFrom i) (λ n e p. (rate-is n (p .0), omega arith)) (hex-below t 16 0 (i + 1) 0 (omega arith))
     go false false true = read-kind (NumberFrom (2 ^ 32) (i + 1)) (ScalarFrom i) 4 (λ n e p. (name-is n (p .0), omega arith)) (number-below (2 ^ 32) t (i + 1) (omega arith))
     go false false false = reads (tt, le-refl i)
 
@@ -223,8 +229,12 @@ module _ (k n e : ℕ) {r : NumberRead} {g : Got ℕ} (read : numberOf r ≡ g) 
   kind-fault q = ap (ofKind k) (sym (ap numberOf q) ∙ read)
 
 -- a rate's answer as a scalar's
-pub rate-bits : (s : Value) (n e : ℕ) → s ≡ rateOf n → n < 2 ^ 64 → got (scalar (kindOf s) (payloadOf s)) e ≡ got (scalar 3 n) e
-rate-bits s n e q h =
-    let k : kindOf s ≡ 3 = ap kindOf q ∙ kind-rate n in
-    let p : payloadOf s ≡ n = ap payloadOf q ∙ payload-rate n h in
-    rw (k, p)
+module _ (e : ℕ) {r : NumberRead} {g : Got ℕ} (read : numberOf r ≡ g) where
+  pub rate-number : (s : Value) (n : ℕ) → s ≡ rateOf n → n < 2 ^ 64 → r ≡ Number n e → got (scalar (kindOf s) (payloadOf s)) e ≡ ofRate g
+  rate-number s n q h f =
+      let k : kindOf s ≡ 3 = ap kindOf q ∙ kind-rate n in
+      let p : payloadOf s ≡ oneZero n = ap payloadOf q ∙ payload-rate n h in
+      rw (k, p) (ap ofRate (sym (ap numberOf f) ∙ read))
+
+  pub rate-fault : r ≡ Fault e → fault e ≡ ofRate g
+  rate-fault f = ap ofRate (sym (ap numberOf f) ∙ read)

@@ -61,20 +61,23 @@ module _ (t : List ℕ) (at : ℕ) (letter : letter? (byteAt t at) ≡ true) whe
       pub symbol-unknown : r ≡ Unknown → unnamed 65 at ≡ symbolOf symbol at (nameAt t at)
       symbol-unknown q = ap (knownAs at (at + n)) (sym (ap foundOf q) ∙ looked) ∙ name-whole short
 
-  -- where a name stands for a symbol
-  pub named-after : (symbol : List ℕ → Option ℕ) (s next : ℕ) → symbolOf symbol at (nameAt t at) ≡ named s next → (at < next) × (next ≤ length t) × (name : List ℕ) × (symbol name ≡ some s)
-  named-after symbol s next e = go (leb (nameBytes t at) maxName) refl
+  -- the bytes that stand for a symbol
+  pub named-bytes : (symbol : List ℕ → Option ℕ) (s next : ℕ) → symbolOf symbol at (nameAt t at) ≡ named s next → (at + nameBytes t at ≡ next) × (symbol (take (nameBytes t at) (drop at t)) ≡ some s)
+  named-bytes symbol s next e = go (leb (nameBytes t at) maxName) refl
     where
       name : List ℕ
       name = take (nameBytes t at) (drop at t)
 
-      known : (o : Option ℕ) → symbol name ≡ o → knownAs at (at + nameBytes t at) o ≡ named s next → (at < next) × (next ≤ length t) × (name : List ℕ) × (symbol name ≡ some s)
-      known (some k) q h =
-          let a : at + nameBytes t at ≡ next = cc in
-          let b : k ≡ s = cc in
-          (omega (arith, name-some), omega (arith, name-fits), name, q ∙ ap some b)
+      known : (o : Option ℕ) → symbol name ≡ o → knownAs at (at + nameBytes t at) o ≡ named s next → (at + nameBytes t at ≡ next) × (symbol name ≡ some s)
+      known (some k) q h = let b : k ≡ s = cc in (cc, q ∙ ap some b)
       known none q h = let z : _≡_ {A = ℕ} 0 1 = cc in absurd (omega arith)
 
-      go : (b : Bool) → leb (nameBytes t at) maxName ≡ b → (at < next) × (next ≤ length t) × (name : List ℕ) × (symbol name ≡ some s)
+      go : (b : Bool) → leb (nameBytes t at) maxName ≡ b → (at + nameBytes t at ≡ next) × (symbol name ≡ some s)
       go true f = known (symbol name) refl (name-whole symbol (nameBytes t at) refl (leb-true _ _ f) ∙ e)
       go false f = let h : unnamed 63 (at + maxName) ≡ named s next = name-long symbol (nameBytes t at) refl (leb-false _ _ f) ∙ e in let z : _≡_ {A = ℕ} 0 1 = cc in absurd (omega arith)
+
+  -- where a name stands for a symbol
+  pub named-after : (symbol : List ℕ → Option ℕ) (s next : ℕ) → symbolOf symbol at (nameAt t at) ≡ named s next → (at < next) × (next ≤ length t) × (name : List ℕ) × (symbol name ≡ some s)
+  named-after symbol s next e =
+      let (a, q) = named-bytes symbol s next e in
+      (omega (arith, name-some), omega (arith, name-fits), take (nameBytes t at) (drop at t), q)

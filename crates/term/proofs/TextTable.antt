@@ -69,10 +69,14 @@ module _ (set site builtIn text : List ℕ) (space : ℕ) (rows : List Row) (sou
       (given-is (IsTerm (decode set) (settingFor set site builtIn space) text (known set site builtIn) (λ s. refl) maxLevels 0 []) j (length text) rows q
       (term-gives (decode set) (settingFor set site builtIn space) text (known set site builtIn) (λ s. refl) maxLevels 0 []))
 
--- THE ROWS THAT ARE READ ARE A SOUND TABLE OF THE TEXT'S TREE, for every set, both lists, every text and every space.
-pub read-means : (set site builtIn text : List ℕ) (space : ℕ) (rows : List Row) → readOf set site builtIn text space ≡ rowsRead rows → RowsOfText set site builtIn text rows
+-- what is read passes 1 to 7, 61 and 62
+pub read-passes : (set site builtIn text : List ℕ) (space : ℕ) (rows : List Row) → readOf set site builtIn text space ≡ rowsRead rows → (checkOf set ≡ 0) × (namesCheckOf (length ((decode set) .arities)) site builtIn ≡ 0) × (readText (settingFor set site builtIn space) text ≡ rowsRead rows)
 unfolding readOf
-read-means set site builtIn text space rows e =
+read-passes set site builtIn text space rows e =
     let (sound, f) = unrefused (checkOf set) _ rows e in
     let (distinct, g) = unrefused (namesCheckOf (length ((decode set) .arities)) site builtIn) _ rows f in
-    text-means set site builtIn text space rows sound g
+    (sound, distinct, g)
+
+-- THE ROWS THAT ARE READ ARE A SOUND TABLE OF THE TEXT'S TREE, for every set, both lists, every text and every space.
+pub read-means : (set site builtIn text : List ℕ) (space : ℕ) (rows : List Row) → readOf set site builtIn text space ≡ rowsRead rows → RowsOfText set site builtIn text rows
+read-means set site builtIn text space rows e = let (sound, distinct, g) = read-passes set site builtIn text space rows e in text-means set site builtIn text space rows sound g

@@ -5,3 +5,4 @@ pub mod State
 pub mod Read
 pub mod Spelling
 pub mod Meaning
+pub mod Zeros

@@ -1,9 +1,10 @@
--- Names and scalars at a place of a text (document 01, section "Term text"). Assumes nothing.
+-- Names and scalars at a place of a text (document 01, section "Term text"; for the two zeros, document 02, Wish 6). Assumes nothing.
 use mathlib.Core.List.{List, [], _∷_}
 use mathlib.Core.Bool.{Bool, true, false, _&&_, _||_, cond}
 use Prim.Native.Nat.{ℕ, zero, suc, _+_, _-_, _*_, _^_}
 use lib.Dec.{eqb, leb, ltb}
 use lib.ListN.{length, getD, take, drop}
+use Rattle.model.specs.Table.{oneZero}
 use Rattle.names.specs.Names.{digit?, nameByte?, maxName}
 
 -- the byte at i; past the end 0, which no rule allows
@@ -89,6 +90,11 @@ abbrev pub ofKind : ℕ → Got ℕ → Got Scalar
 ofKind k (got n e) = got (scalar k n) e
 ofKind k (fault p) = fault p
 
+-- the bits of a rate as what stands in a row: of two zeros the positive one
+abbrev pub ofRate : Got ℕ → Got Scalar
+ofRate (got n e) = got (scalar 3 (oneZero n)) e
+ofRate (fault p) = fault p
+
 -- after `=`: `true`, `false` or a count
 unfoldable pub valueAt : List ℕ → ℕ → Got Scalar
 valueAt t i =
@@ -106,7 +112,7 @@ scalarAt t i =
     elim (eqb (byteAt t i) 61) [
       | true ↦ valueAt t (i + 1)
       | false ↦ elim (eqb (byteAt t i) 126) [
-        | true ↦ ofKind 3 (hexFrom 16 t 0 (i + 1))
+        | true ↦ ofRate (hexFrom 16 t 0 (i + 1))
         | false ↦ elim (eqb (byteAt t i) 35) [ true ↦ ofKind 4 (numberAt (2 ^ 32) t (i + 1)) | false ↦ got (scalar 0 0) i ]
       ]
     ]

@@ -11,7 +11,7 @@ ghost use Prim.Native.Nat.{_+_, _-_, _<_, _≤_, _^_};
 ghost use lib.ListN.{length};
 ghost use Rattle.classes.specs.Classes.{classTable};
 ghost use Rattle.names.specs.Names.{digit?};
-ghost use Rattle.term.specs.Scan.{byteAt, nameBytes, wordBytes, wordAt, digitValue, digitsFrom, numberAt, hexDigit?, hexValue, hexFrom, scalar, ofKind, valueAt, scalarAt};
+ghost use Rattle.term.specs.Scan.{byteAt, nameBytes, wordBytes, wordAt, digitValue, digitsFrom, numberAt, hexDigit?, hexValue, hexFrom, scalar, ofKind, ofRate, valueAt, scalarAt};
 ghost use Rattle.term.specs.Answer.{numberOf, scalarOf};
 
 const HEX_DIGITS: usize = 16;
@@ -171,9 +171,10 @@ fn hex_bits(text: &[u8], classes: &[u8; 256], at: usize) -> NumberRead
     NumberRead::Number(v, i)
 }
 
+// The rate that 16 hex digits say, of two zeros the positive one.
 fn rate(text: &[u8], classes: &[u8; 256], at: usize) -> ScalarRead
     requires lent { ⌜ now classes ≡ classTable ⌝ }
-    ensures { λ r. ⌜ scalarOf r ≡ ofKind 3 (hexFrom 16 (now (text .entry)) 0 at) ⌝ }
+    ensures { λ r. ⌜ scalarOf r ≡ ofRate (hexFrom 16 (now (text .entry)) 0 at) ⌝ }
 {
     match hex_bits(text, classes, at) {
         NumberRead::Number(n, e) => ScalarRead::Is(rate_of(n), e),

@@ -29,21 +29,29 @@ count : tie.Need-returns-5
 unfolding scalarAt
 count c = rw (c .match .keys3, lt-ltb (c .before .args .payload) (2 ^ 64) (search needs))
 
-rate : tie.Need-returns-6
+minus-zero : tie.Need-returns-6
+minus-zero c = rw (c .before .match .keys4, c .if3 .taken)
+
+rate : tie.Need-returns-7
 unfolding scalarAt
-rate c = rw (c .before .match .keys4, lt-ltb (c .before .before .args .payload) (2 ^ 64) (search needs)) (ap Is (c .rate-of .ensures))
+rate c =
+    rw (
+      c .before .before .match .keys4,
+      lt-ltb (c .before .before .before .args .payload) (2 ^ 64) (search needs),
+      ne-eqb _ _ (c .before .if3 .left),
+    ) (ap Is (c .rate-with .ensures))
 
-name : tie.Need-returns-7
+name : tie.Need-returns-8
 unfolding scalarAt
-name c = rw (c .before .match .keys5, lt-ltb _ _ (c .if3 .taken))
+name c = rw (c .before .match .keys5, lt-ltb _ _ (c .if4 .taken))
 
-no-name : tie.Need-returns-8
-no-name c = rw (c .before .match .keys5, le-ltb _ _ (c .if3 .left))
+no-name : tie.Need-returns-9
+no-name c = rw (c .before .match .keys5, le-ltb _ _ (c .if4 .left))
 
-none : tie.Need-returns-9
+none : tie.Need-returns-10
 none c = other (c .before .args .kind) (c .before .args .payload) (c .match .rest .0 .0 .0 .0 .1) (c .match .rest .0 .0 .0 .1) (c .match .rest .0 .0 .1) (c .match .rest .0 .1) (c .match .rest .1)
 
 pub from-cells-spec : {M : Type 1} → statement M
 from-cells-spec =
     tie.close
-    (tie.spec (λ c κs. search needs) (λ c. search needs) bare not-bare flag no-flag count rate name no-name none)
+    (tie.spec (λ c κs. search needs) (λ c. search needs) bare not-bare flag no-flag count minus-zero rate name no-name none)

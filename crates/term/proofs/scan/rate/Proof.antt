@@ -1,17 +1,17 @@
--- Every 64 bits are a rate's. Assumes nothing.
+-- Every 64 bits are a rate's, of two zeros the positive one's. Assumes nothing.
 use Prim.Native.Nat.{_^_}
 use mathlib.Core.Path.{sym, ap, _∙_}
 use native.Mathlib.Omega.{arith}
 use borrow.Author.Needs.{needs}
 use Rattle.term.specs.Answer.{numberOf}
-use Rattle.term.proofs.Scalars.{NumberFrom, read-is, hex-below, kind-number, kind-fault, rate-bits}
+use Rattle.term.proofs.Scalars.{NumberFrom, read-is, hex-below, rate-number, rate-fault}
 use Rattle.term.proofs.scan.rate.Statement.{statement}
 use Rattle.term.proofs.scan.rate.Tie as tie
 
 returns : tie.Need-returns
 returns c =
     let small = read-is (NumberFrom (2 ^ 64) _) _ _ (sym (c .before .before .before .before .hex-bits .ensures) ∙ ap numberOf (c .before .before .n .given .1)) (hex-below _ 16 0 _ 0 (omega arith)) in
-    rate-bits _ _ _ (c .rate-of .ensures) (small .0) ∙ kind-number 3 _ _ (c .before .before .before .before .hex-bits .ensures) (c .before .before .n .given .1)
+    rate-number _ (c .before .before .before .before .hex-bits .ensures) _ _ (c .rate-of .ensures) (small .0) (c .before .before .n .given .1)
 
 pub rate-spec : {M : Type 1} → statement M
 rate-spec =
@@ -22,4 +22,4 @@ rate-spec =
     (λ c κs. search needs)
     (λ c. search needs)
     returns
-    (λ c. kind-fault 3 0 _ (c .before .before .before .hex-bits .ensures) (c .before .p .given .1)))
+    (λ c. rate-fault _ (c .before .before .before .hex-bits .ensures) (c .before .p .given .1)))
