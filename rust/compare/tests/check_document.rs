@@ -1,23 +1,12 @@
 //! The library's check of a row table against the reference's.
 
-use cidhomba::interface::check_document;
 use compare::answer::Answer;
-use compare::case::{Case, Expected, Input};
+use compare::calls::check_document as compare;
 use compare::tally::{Tally, SET, TABLE};
 use generate::{documents, rows, set_bytes, sets, Random};
 use reference::examples::set_e;
 use reference::limits::{ROW_CELLS, UNUSED};
 use reference::{Automaton, Row, Scalar};
-
-/// Compares one call, and answers what both answered.
-fn compare(set: &[u8], rows: &[u16]) -> Answer {
-    let library = Answer::of_library(check_document(set, rows));
-    let reference = Answer::of_reference(reference::check_document(set, rows).map(|_| 0));
-    let inputs = [("set", Input::Set(set)), ("rows", Input::Cells(rows, ROW_CELLS))];
-    let expected = Expected::Exactly(reference);
-    Case { function: "check_document", inputs: &inputs, library, expected }.same_answer();
-    reference
-}
 
 #[test]
 fn seeded_tables() {

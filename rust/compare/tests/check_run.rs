@@ -1,29 +1,14 @@
 //! The library's check of a written run against the reference's.
 
-use cidhomba::interface::check_run;
 use compare::answer::Answer;
-use compare::case::{Case, Expected, Input};
+use compare::calls::check_run as compare;
 use compare::tally::{Tally, RUN, SET, TABLE};
 use generate::{documents, rows, runs, set_bytes, sets, Random};
 use reference::examples::{rule, set_b, set_e, set_g, state};
-use reference::limits::{ROW_CELLS, STEP_CELLS};
+use reference::limits::STEP_CELLS;
 use reference::membership::judge;
 use reference::run::run_cells;
 use reference::{Automaton, Document, Row, Scalar, Step};
-
-/// Compares one call, and answers what both answered.
-fn compare(set: &[u8], rows: &[u16], run: &[u16]) -> Answer {
-    let inputs = [
-        ("set", Input::Set(set)),
-        ("rows", Input::Cells(rows, ROW_CELLS)),
-        ("run", Input::Cells(run, STEP_CELLS)),
-    ];
-    let library = Answer::of_library(check_run(set, rows, run));
-    let reference = Answer::of_reference(reference::check_run(set, rows, run).map(|()| 0));
-    let expected = Expected::Exactly(reference);
-    Case { function: "check_run", inputs: &inputs, library, expected }.same_answer();
-    reference
-}
 
 #[test]
 fn seeded_runs() {

@@ -2,67 +2,13 @@
 
 use cidhomba::interface::membership;
 use compare::answer::Answer;
-use compare::case::{Case, Expected, Input};
-use compare::lent::Lent;
+use compare::calls::membership as compare;
 use compare::tally::{Tally, SET, TABLE};
 use generate::{documents, rows, set_bytes, sets, Random};
 use reference::boolean::multiplied;
 use reference::examples::{rule, set_b, set_d, set_e, set_g, state};
-use reference::limits::{ANNOTATION_CELLS, MAX_ROOM, ROW_CELLS, STEP_CELLS};
-use reference::{Automaton, Document, Judgement, Refusal, Row, Scalar};
-
-/// Compares one call with work and run spaces of so many cells, and answers what the library
-/// answered: for a yes the number of steps, which is its own choice.
-fn compare(set: &[u8], rows: &[u16], work_cells: usize, run_cells: usize) -> Answer {
-    let inputs = [
-        ("set", Input::Set(set)),
-        ("rows", Input::Cells(rows, ROW_CELLS)),
-        ("work", Input::Space(work_cells)),
-        ("run", Input::Space(run_cells)),
-    ];
-    let (mut work, mut run) = (Lent::of_length(work_cells), Lent::of_length(run_cells));
-    let library = Answer::of_library(membership(set, rows, work.space(), run.space()));
-    let reference = reference::membership(set, rows, work_cells, run_cells);
-    let expected = expected(&reference);
-    let case = Case { function: "membership", inputs: &inputs, library, expected };
-    case.same_answer();
-    case.same_space("work", &work, &work_afterwards(&work, &reference));
-    let front = run_handed_back(library, &run);
-    if !front.is_empty() {
-        passes_the_check(&case, set, rows, front);
-    }
-    case.same_space("run", &run, &run.with_front(front));
-    library
-}
-
-fn expected(reference: &Result<Judgement, Refusal>) -> Expected {
-    match reference {
-        Ok(judgement) if judgement.is_yes() => Expected::RunOfAtMost(judgement.annotations),
-        other => Expected::Exactly(Answer::of_reference(other.as_ref().map(|_| 0).map_err(|&e| e))),
-    }
-}
-
-/// All zeros after every judging that passes 32, refused by 31 or not; else untouched.
-fn work_afterwards(work: &Lent<u16>, reference: &Result<Judgement, Refusal>) -> Vec<u16> {
-    match reference {
-        Ok(_) | Err(Refusal { number: 31, .. }) => work.zeros(),
-        Err(_) => work.with_front(&[]),
-    }
-}
-
-/// The steps that the library wrote: none unless it said yes.
-fn run_handed_back(library: Answer, run: &Lent<u16>) -> &[u16] {
-    match library {
-        Answer::Value(steps) => &run.contents()[..STEP_CELLS * steps as usize],
-        Answer::Refused { .. } => &[],
-    }
-}
-
-fn passes_the_check(case: &Case, set: &[u8], rows: &[u16], run: &[u16]) {
-    if let Err(refusal) = reference::check_run(set, rows, run) {
-        case.fail(&format!("the run handed back is refused with {}: {run:?}", refusal.number));
-    }
-}
+use reference::limits::{ANNOTATION_CELLS, MAX_ROOM, STEP_CELLS};
+use reference::{Automaton, Document, Row, Scalar};
 
 fn kind(value: u64) -> &'static str {
     if value == 0 {

@@ -2,42 +2,15 @@
 
 use cidhomba::interface::read_term;
 use compare::answer::Answer;
-use compare::case::{Case, Expected, Input};
+use compare::calls::{read_term as compare, read_term_saved as compare_saved};
 use compare::lent::Lent;
-use compare::lists::{Lists, NamedExport};
+use compare::lists::NamedExport;
 use compare::tally::{Tally, NAMES, SET, TEXT};
 use generate::{documents, lists, set_bytes, sets, texts, Random};
 use reference::check_names;
 use reference::examples::{set_e, set_g};
 use reference::limits::{MAX_ROWS, ROW_CELLS};
 use reference::term_writer::text_within;
-
-/// Compares one call with a row space of so many cells, and answers what both answered.
-fn compare(set: &[u8], site: &[u8], built_in: &[u8], text: &[u8], row_cells: usize) -> Answer {
-    compare_saved(set, (site, built_in), (site, built_in), text, row_cells)
-}
-
-/// Compares where the library is lent the lists as an editor saved them, and the reference as they were before.
-fn compare_saved(set: &[u8], saved: Lists, before: Lists, text: &[u8], row_cells: usize) -> Answer {
-    let (site, built_in) = saved;
-    let inputs = [
-        ("set", Input::Set(set)),
-        ("site", Input::Text(site)),
-        ("built_in", Input::Text(built_in)),
-        ("text", Input::Text(text)),
-        ("rows", Input::Space(row_cells)),
-    ];
-    let mut rows = Lent::of_length(row_cells);
-    let library = Answer::of_library(read_term(set, site, built_in, text, rows.space()));
-    let result = reference::read_term(set, before.0, before.1, text, row_cells);
-    let written = result.as_ref().map_or(Vec::new(), |document| document.cells());
-    let reference = Answer::of_reference(result.map(|document| document.rows.len()));
-    let expected = Expected::Exactly(reference);
-    let case = Case { function: "read_term", inputs: &inputs, library, expected };
-    case.same_answer();
-    case.same_space("rows", &rows, &rows.with_front(&written));
-    reference
-}
 
 /// Compares a text against E without name lists, with row space for nine rows.
 fn compare_plain(text: &[u8]) -> Answer {

@@ -1,42 +1,12 @@
 //! The library's writer of term text against the reference's.
 
-use cidhomba::interface::write_term;
 use compare::answer::Answer;
-use compare::case::{Case, Expected, Input};
-use compare::lent::Lent;
-use compare::lists::{Lists, NamedExport};
+use compare::calls::{write_term as compare, write_term_saved as compare_saved};
+use compare::lists::NamedExport;
 use compare::tally::{Tally, NAMES, SET, TABLE};
 use generate::{documents, lists, rows, set_bytes, sets, Random};
 use reference::examples::{set_e, set_g};
-use reference::limits::ROW_CELLS;
 use reference::{Document, Row, Scalar};
-
-/// Compares one call with a text space of so many bytes, and answers what both answered.
-fn compare(set: &[u8], site: &[u8], built_in: &[u8], rows: &[u16], space: usize) -> Answer {
-    compare_saved(set, (site, built_in), (site, built_in), rows, space)
-}
-
-/// Compares where the library is lent the lists as an editor saved them, and the reference as they were before.
-fn compare_saved(set: &[u8], saved: Lists, before: Lists, rows: &[u16], space: usize) -> Answer {
-    let (site, built_in) = saved;
-    let inputs = [
-        ("set", Input::Set(set)),
-        ("site", Input::Text(site)),
-        ("built_in", Input::Text(built_in)),
-        ("rows", Input::Cells(rows, ROW_CELLS)),
-        ("text", Input::Space(space)),
-    ];
-    let mut text = Lent::of_length(space);
-    let library = Answer::of_library(write_term(set, site, built_in, rows, text.space()));
-    let result = reference::write_term(set, before.0, before.1, rows, space);
-    let written = result.clone().unwrap_or_default();
-    let reference = Answer::of_reference(result.map(|text| text.len()));
-    let expected = Expected::Exactly(reference);
-    let case = Case { function: "write_term", inputs: &inputs, library, expected };
-    case.same_answer();
-    case.same_space("text", &text, &text.with_front(&written));
-    reference
-}
 
 /// The text's length where it is at most 3,000 bytes.
 fn text_length(set: &[u8], site: &[u8], built_in: &[u8], rows: &[u16]) -> usize {
