@@ -28,6 +28,24 @@ fn sets_and_tables() {
     }
 }
 
+/// Zeros of either sign in text, and the one that may not stand in a row in tables.
+#[test]
+fn zeros() {
+    for seed in 0..SEEDS {
+        let random = &mut Random::new(seed);
+        let automaton = sets::automaton(random, &sets::small_sizes());
+        let (set, space) = (automaton.encode(), ROW_CELLS * MAX_ROWS);
+        let names = check_names(b"", b"", automaton.arities.len()).expect("empty lists are sound");
+        let Some(text) = texts::of_loads(random, &automaton, &names) else { continue };
+        let document = reference::read_term(&set, b"", b"", &text, space).expect("a sound text");
+        assert_eq!(baseline::term::read(&set, b"", b"", &text, space), Ok(document.cells()), "seed {seed}");
+        let table = rows::with_minus_zero(random, &document);
+        let found = baseline::set::read(&set).and_then(|set| baseline::table::read(&set, &table));
+        assert_eq!(found.err(), Some(14), "seed {seed}");
+        assert_eq!(reference::check_document(&set, &table).map_err(number).err(), Some(14), "seed {seed}");
+    }
+}
+
 #[test]
 fn judging() {
     for seed in 0..SEEDS {

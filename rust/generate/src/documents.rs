@@ -2,7 +2,7 @@
 
 use reference::limits::{MAX_LEVELS, MAX_ROWS, MAX_TAGS};
 use reference::table::TableBuilder;
-use reference::{Automaton, Document, Row, Scalar};
+use reference::{Automaton, Document, Row, Scalar, MINUS_ZERO};
 
 use crate::Random;
 
@@ -23,16 +23,45 @@ fn inner_and_leaves(automaton: &Automaton) -> (Vec<usize>, Vec<usize>) {
     (0..automaton.arities.len()).partition(|&symbol| automaton.arity(symbol) > 0)
 }
 
+/// Rates that recur: zero, and some that a wrong rule could take for it, with bits next to those of a zero or those of a
+/// NaN. The zero with its sign bit set is not among them, since it stands in no row.
+const RATES: [u64; 8] = [
+    0,
+    1,
+    MINUS_ZERO | 1,
+    0x7ff8_0000_0000_0001,
+    0xfff8_0000_0000_0000,
+    u64::MAX >> 1,
+    u64::MAX,
+    1.5f64.to_bits(),
+];
+
+/// A rate that a row may have, zero in so many of a hundred cases and in some others.
+pub fn rate(random: &mut Random, zero_percent: usize) -> Scalar {
+    Scalar::Rate(if random.percent(zero_percent) { 0 } else { random.pick(&RATES) })
+}
+
 /// A scalar, from a few that recur, so that equal leaves are common and unlike ones exist.
 pub fn scalar(random: &mut Random) -> Scalar {
     match random.below(10) {
         0..=3 => Scalar::Bare,
         4 => Scalar::Flag(random.percent(50)),
-        5 | 6 => Scalar::Count(random.pick(&[0, 1, 2, 7, 10, u64::MAX])),
+        5 | 6 => Scalar::Count(random.pick(&[0, 1, 2, 7, 10, 1 << 63, u64::MAX])),
         7 => Scalar::Name(random.pick(&[0, 1, 10, u32::MAX])),
-        8 => Scalar::Rate(random.pick(&[0, 1 << 63, 0x7ff8_0000_0000_0001, 1.5f64.to_bits()])),
+        8 => rate(random, 20),
         _ => Scalar::Count(random.word() >> random.below(64)),
     }
+}
+
+/// A sound document whose leaves are rates, most of them zero: the loads of servers, many of them idle. Mostly it is
+/// grown along the rules, so that tags ask that loads are equal.
+pub fn of_loads(random: &mut Random, automaton: &Automaton, most: usize) -> Option<Document> {
+    let along_the_rules = if random.percent(80) { grown(random, automaton, most) } else { None };
+    let mut rows = along_the_rules.or_else(|| document(random, automaton, most))?.rows;
+    for row in rows.iter_mut().filter(|row| row.children.is_empty()) {
+        row.scalar = rate(random, 60);
+    }
+    Some(thinned(&rows))
 }
 
 /// Rows on random lower rows, thinned out to those that the last one reaches.

@@ -1,7 +1,7 @@
 //! Row tables with something wrong in them, for refusals 11 to 17.
 
 use reference::limits::{MAX_LEVELS, MAX_ROWS, ROW_CELLS, UNUSED};
-use reference::{Automaton, Document, Row, Scalar};
+use reference::{Automaton, Document, Row, Scalar, MINUS_ZERO};
 
 use crate::{documents, Random};
 
@@ -102,7 +102,7 @@ fn pass_the_row_limit(document: &mut Document) {
 
 fn damage_once(random: &mut Random, cells: &mut Vec<u16>) {
     let rows = cells.len() / ROW_CELLS;
-    match random.below(20) {
+    match random.below(21) {
         0 => cells.truncate(random.below(cells.len() + 1)),
         1 => cells.extend([UNUSED, 0, 1].iter().take(random.between(1, 3))),
         2 => cells.clear(),
@@ -112,7 +112,29 @@ fn damage_once(random: &mut Random, cells: &mut Vec<u16>) {
         9..=12 => change_cell(random, cells, 5, 5),
         13 | 14 => move_a_child_place(random, cells),
         15 => copy_a_row(random, cells),
+        16 => give_a_leaf(random, cells, Scalar::Rate(MINUS_ZERO)),
         _ => change_cell(random, cells, 0, ROW_CELLS),
+    }
+}
+
+/// The cells of a sound table in which one leaf or several have the rate that may stand in no row (14, and 15 where two
+/// of them have one symbol).
+pub fn with_minus_zero(random: &mut Random, document: &Document) -> Vec<u16> {
+    let mut cells = document.cells();
+    for _ in 0..random.pick(&[1, 1, 2, 4]) {
+        give_a_leaf(random, &mut cells, Scalar::Rate(MINUS_ZERO));
+    }
+    cells
+}
+
+/// Gives a scalar to one of the rows that use no child place, if there is any; with `MINUS_ZERO` this is 14.
+pub fn give_a_leaf(random: &mut Random, cells: &mut [u16], scalar: Scalar) {
+    let starts = (0..cells.len() / ROW_CELLS).map(|row| ROW_CELLS * row);
+    let leaves: Vec<usize> = starts.filter(|&at| cells[at + 1..at + 5] == [UNUSED; 4]).collect();
+    if !leaves.is_empty() {
+        let at = random.pick(&leaves);
+        let row = Row { symbol: usize::from(cells[at]), children: Vec::new(), scalar };
+        cells[at..at + ROW_CELLS].copy_from_slice(&row.cells());
     }
 }
 

@@ -6,6 +6,7 @@ use std::ops::RangeInclusive;
 use reference::limits::{MAX_RULES, MAX_STATES, MAX_SYMBOLS, MAX_TAGS};
 use reference::{Automaton, Rule, State};
 
+use crate::trees::all_lists;
 use crate::Random;
 
 /// The sizes that a set may have. Fewer rules come out where there are not so many different ones.
@@ -79,6 +80,28 @@ pub fn with_own_tags(random: &mut Random, sizes: &Sizes) -> Automaton {
     let mut automaton = automaton(random, sizes);
     separate_tags(&mut automaton);
     automaton
+}
+
+/// A sound set in which each symbol has a state of its own, over any children. So a tree has one labelling; with symbol 0
+/// at its root, which has children and no tag, it is let in just where all parts that a tag asks to be equal are so.
+pub fn of_equal_parts(random: &mut Random) -> Automaton {
+    let symbols = random.between(2, 4);
+    let tag_count = random.between(1, 2);
+    let mut arities: Vec<u8> = (0..symbols).map(|_| random.pick(&[0, 0, 1, 2])).collect();
+    arities[0] = random.pick(&[2, 2, 3]);
+    arities[symbols - 1] = 0;
+    let state = |symbol: usize| {
+        let tags = if symbol == 0 || random.percent(25) { 0 } else { 1 << random.below(tag_count) };
+        State { is_final: symbol == 0, tags }
+    };
+    let states = (0..symbols).map(state).collect();
+    let numbers: Vec<usize> = (0..symbols).collect();
+    let over_any = |(symbol, &arity): (usize, &u8)| {
+        let children = all_lists(&numbers, usize::from(arity)).into_iter();
+        children.map(move |children| Rule { symbol, children, target: symbol })
+    };
+    let rules = arities.iter().enumerate().flat_map(over_any).collect();
+    Automaton { arities, states, tag_count, rules }
 }
 
 /// Leaves each tag to the lowest state that carries it.

@@ -8,6 +8,12 @@ use crate::{documents, Random};
 
 /// Texts past this length are not made here.
 const LONGEST: usize = 40_000;
+/// Texts of loads are no longer than this, so that their loads do not make too many different rows.
+const SHORT: usize = 3000;
+
+/// Zero as the writer spells it, and with a sign, which only the reader knows.
+const ZERO: &[u8] = b"~0000000000000000";
+const MINUS: &[u8] = b"~8000000000000000";
 
 /// A text over a set's symbols with the names shown, faulty in so many of a hundred cases.
 pub fn text(
@@ -28,16 +34,46 @@ pub fn text(
     text
 }
 
-/// The text of a sound document; rarely one with about as many rows as a table can have.
+/// A text that reads to a sound document; rarely to one with about as many rows as a table can have.
 fn sound(random: &mut Random, automaton: &Automaton, names: &[Vec<u8>]) -> Option<Vec<u8>> {
-    let document = if random.percent(2) {
-        let rows = MAX_ROWS + random.pick(&[0, 0, 1, 2]);
-        documents::broad(random, automaton, rows)?
-    } else {
-        let most = random.pick(&[1, 4, 12, 40]);
-        documents::document(random, automaton, most)?
+    let most = random.pick(&[1, 4, 12, 40]);
+    let document = match random.below(50) {
+        0 => {
+            let rows = MAX_ROWS + random.pick(&[0, 0, 1, 2]);
+            documents::broad(random, automaton, rows)?
+        }
+        1..=10 => documents::of_loads(random, automaton, most)?,
+        _ => documents::document(random, automaton, most)?,
     };
-    text_within(&document, names, LONGEST).ok()
+    let mut text = text_within(&document, names, LONGEST).ok()?;
+    spell_zeros(random, &mut text, 0);
+    Some(text)
+}
+
+/// A text of loads, many of which are zeros of either sign. In half of the texts some zeros give way to other rates, so
+/// that parts which tags ask to be equal are so no more.
+pub fn of_loads(random: &mut Random, automaton: &Automaton, names: &[Vec<u8>]) -> Option<Vec<u8>> {
+    let most = random.pick(&[4, 8, 16]);
+    let document = documents::of_loads(random, automaton, most)?;
+    let mut text = text_within(&document, names, SHORT).ok()?;
+    let other_percent = random.pick(&[0, 0, 5, 20]);
+    spell_zeros(random, &mut text, other_percent);
+    Some(text)
+}
+
+/// Spells each zero anew with either sign, which reads to the same rows. In so many of a hundred cases a rate that
+/// recurs takes its place, which mostly is another one.
+fn spell_zeros(random: &mut Random, text: &mut [u8], other_percent: usize) {
+    // In a sound text the mark stands before the 16 digits of a rate and nowhere else.
+    let starts = (0..text.len()).filter(|&at| text[at..].starts_with(ZERO));
+    for at in starts.collect::<Vec<usize>>() {
+        let spelled = if random.percent(other_percent) {
+            spelling(documents::rate(random, 0))
+        } else {
+            random.pick(&[ZERO, MINUS]).to_vec()
+        };
+        text[at..at + ZERO.len()].copy_from_slice(&spelled);
+    }
 }
 
 /// Changes one to three places of a text.
@@ -63,7 +99,7 @@ fn byte(random: &mut Random) -> u8 {
 
 /// A piece of text: a name, a scalar on an edge, a bracket.
 fn piece(random: &mut Random, names: &[Vec<u8>]) -> Vec<u8> {
-    const PIECES: [&[u8]; 24] = [
+    const PIECES: [&[u8]; 26] = [
         b"(",
         b")",
         b",",
@@ -86,19 +122,22 @@ fn piece(random: &mut Random, names: &[Vec<u8>]) -> Vec<u8> {
         b"~0123456789abcdef",
         b"~0123456789abcdeF",
         b"~0123456789abcdef0",
+        MINUS,
+        b"~80000000000000000",
         b"~",
         b"aaaaaaaaaaaaaaaaa",
     ];
     match random.below(4) {
         0 => random.pick(&PIECES).to_vec(),
-        1 => documents_scalar(random),
+        1 => spelling(documents::scalar(random)),
         2 => names[random.below(names.len())].clone(),
         _ => [&names[random.below(names.len())][..], random.pick(&PIECES)].concat(),
     }
 }
 
-fn documents_scalar(random: &mut Random) -> Vec<u8> {
-    match documents::scalar(random) {
+/// A scalar as the writer spells it.
+fn spelling(scalar: Scalar) -> Vec<u8> {
+    match scalar {
         Scalar::Bare => Vec::new(),
         Scalar::Flag(flag) => format!("={flag}").into_bytes(),
         Scalar::Count(count) => format!("={count}").into_bytes(),

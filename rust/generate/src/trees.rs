@@ -20,15 +20,15 @@ pub fn all(arities: &[u8], levels: usize) -> Vec<Tree> {
     trees
 }
 
-/// Every list of so many trees.
-fn all_lists(trees: &[Tree], length: usize) -> Vec<Vec<Tree>> {
+/// Every list of so many items, in the order of the items.
+pub(crate) fn all_lists<T: Clone>(items: &[T], length: usize) -> Vec<Vec<T>> {
     if length == 0 {
         return vec![Vec::new()];
     }
     let mut lists = Vec::new();
-    for list in all_lists(trees, length - 1) {
-        for tree in trees {
-            lists.push([&list[..], std::slice::from_ref(tree)].concat());
+    for list in all_lists(items, length - 1) {
+        for item in items {
+            lists.push([&list[..], std::slice::from_ref(item)].concat());
         }
     }
     lists

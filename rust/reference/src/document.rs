@@ -1,4 +1,5 @@
-//! Row tables (document 01, "Documents"): the check, refusals 11 to 17, heights, and the lent cells.
+//! Row tables (document 01, "Documents", and document 02, Wish 6): the check, refusals 11 to 17, heights, and the lent
+//! cells.
 
 use std::collections::HashSet;
 
@@ -22,7 +23,12 @@ pub struct Row {
     pub scalar: Scalar,
 }
 
-/// A scalar. A rate is kept as its bits, since rates are equal only where all bits agree.
+/// The bits of the rate with only its sign bit set, which stands in no sound row: the two zeros are one load, and 0 is
+/// the one that rows have. All other rates are told apart by their bits.
+pub const MINUS_ZERO: u64 = 1 << 63;
+
+/// A scalar. A rate is kept as its bits, since rates are equal only where all bits agree; the bits of `MINUS_ZERO` are
+/// those of no scalar that a row may have.
 #[derive(Clone, Copy, Debug, PartialEq, Eq, Hash)]
 pub enum Scalar {
     Bare,
@@ -103,6 +109,7 @@ impl LentRow {
             (1, 0) => Some(Scalar::Flag(false)),
             (1, 1) => Some(Scalar::Flag(true)),
             (2, count) => Some(Scalar::Count(count)),
+            (3, MINUS_ZERO) => None,
             (3, bits) => Some(Scalar::Rate(bits)),
             (4, name) => u32::try_from(name).ok().map(Scalar::Name),
             _ => None,

@@ -25,7 +25,7 @@ pub mod witness;
 
 pub use automaton::{Automaton, Rule, State};
 pub use boolean::{product, union};
-pub use document::{check_document, Document, Row, Scalar};
+pub use document::{check_document, Document, Row, Scalar, MINUS_ZERO};
 pub use membership::{membership, Judgement};
 pub use names::check_names;
 pub use programs::{judge_program, sample_program};

@@ -1,4 +1,5 @@
-//! Every case of document 01, "Examples, with the edges", and of "Three traps on the way".
+//! Every case of document 01, "Examples, with the edges", and of "Three traps on the way", as the wishes of document 02
+//! that have landed leave them.
 
 mod common;
 
@@ -62,10 +63,31 @@ fn e_lets_in_no_unequal_pair_and_no_leaf() {
     assert!(!is_let_in(&set_e(), "s1"));
 }
 
+/// Document 01 told them apart; document 02, Wish 6, makes them one load.
 #[test]
-fn e_tells_the_two_zeros_apart() {
-    assert!(!is_let_in(&set_e(), "s0(s1~0000000000000000,s1~8000000000000000)"));
+fn e_takes_the_two_zeros_for_one_load() {
+    assert!(is_let_in(&set_e(), "s0(s1~0000000000000000,s1~8000000000000000)"));
+    assert!(is_let_in(&set_e(), "s0(s1~8000000000000000,s1~0000000000000000)"));
     assert!(is_let_in(&set_e(), "s0(s1~8000000000000000,s1~8000000000000000)"));
+}
+
+#[test]
+fn e_tells_all_other_rates_apart_by_their_bits() {
+    for (one, other) in [
+        ("~0000000000000000", "~0000000000000001"),
+        ("~0000000000000000", "~8000000000000001"),
+        ("~8000000000000000", "~8000000000000001"),
+        ("~8000000000000000", "~7fffffffffffffff"),
+        ("~3ff8000000000000", "~bff8000000000000"),
+        ("~7ff0000000000000", "~fff0000000000000"),
+        ("~7ff8000000000000", "~fff8000000000000"),
+        ("~7fffffffffffffff", "~ffffffffffffffff"),
+        ("~8000000000000000", "=9223372036854775808"),
+        ("~8000000000000000", "=0"),
+    ] {
+        assert!(!is_let_in(&set_e(), &format!("s0(s1{one},s1{other})")), "{one} {other}");
+        assert!(is_let_in(&set_e(), &format!("s0(s1{other},s1{other})")), "{other} twice");
+    }
 }
 
 #[test]

@@ -6,7 +6,8 @@ use common::{document, ROW_SPACE};
 use reference::examples::{rule, set_d, set_e, state};
 use reference::limits::ROW_CELLS;
 use reference::{
-    check_automaton, check_names, judge_program, membership, read_term, witness, Automaton, Refusal,
+    check_automaton, check_names, judge_program, membership, read_term, witness, write_term, Automaton,
+    Refusal, MINUS_ZERO,
 };
 
 /// The number of rows, or a refusal's number and place.
@@ -71,6 +72,52 @@ fn a_row_that_is_already_there_never_gives_67() {
     assert_eq!(read("s0(s1,s1)", 2), Ok(2));
     assert_eq!(read("s1", 0), Err((67, 0)));
     assert_eq!(read("s0", 0), Err((66, 0)));
+}
+
+/// Zero as rows have it, and as some makers print it.
+const ZERO: &str = "s1~0000000000000000";
+const MINUS: &str = "s1~8000000000000000";
+
+#[test]
+fn zeros_of_either_sign_are_one_row() {
+    assert_eq!(read(&format!("s0({ZERO},{MINUS})"), 1024), Ok(2));
+    assert_eq!(read(&format!("s0({MINUS},{ZERO})"), 1024), Ok(2));
+    assert_eq!(read(&format!("s0(s0({ZERO},{MINUS}),s0({MINUS},{ZERO}))"), 1024), Ok(3));
+    assert_eq!(read(&format!("s0({MINUS},s2~8000000000000000)"), 1024), Ok(3), "of two symbols");
+    assert_eq!(read(&format!("s0({MINUS},s1~8000000000000001)"), 1024), Ok(3));
+    assert_eq!(read("s0(s1=0,s1~8000000000000000)", 1024), Ok(3), "a count and a rate");
+    assert_eq!(read("s0(s1=9223372036854775808,s1=0)", 1024), Ok(3), "counts have no sign");
+    assert_eq!(read("s0(s1=9223372036854775808,s1~8000000000000000)", 1024), Ok(3));
+}
+
+#[test]
+fn a_zero_that_is_already_there_gives_no_67_and_faults_keep_their_places() {
+    assert_eq!(read(&format!("s0({ZERO},{MINUS})"), 2), Ok(2));
+    assert_eq!(read(&format!("s0({MINUS},{ZERO})"), 1), Err((67, 0)));
+    assert_eq!(read(MINUS, 0), Err((67, 0)));
+    assert_eq!(read("s0~8000000000000000", 1024), Err((66, 0)));
+    assert_eq!(read("s1~800000000000000", 1024), Err((63, 18)));
+    assert_eq!(read("s1~80000000000000000", 1024), Err((63, 19)));
+    assert_eq!(read("s1~-000000000000000", 1024), Err((63, 3)));
+}
+
+/// The text of a text's rows.
+fn written_back(text: &str) -> String {
+    let rows = document(&set_e(), text).cells();
+    let back = write_term(&set_e().encode(), b"", b"", &rows, 100).expect("there is space");
+    String::from_utf8(back).expect("letters and digits")
+}
+
+#[test]
+fn only_the_rate_with_its_sign_bit_alone_is_written_back_in_other_digits() {
+    assert_eq!(written_back(&format!("s0({MINUS},{ZERO})")), format!("s0({ZERO},{ZERO})"));
+    let bits = (0..64).map(|place| 1 << place).flat_map(|bit: u64| [bit, MINUS_ZERO | bit]);
+    for bits in bits.flat_map(|bits| [bits, !bits]) {
+        let text = format!("s1~{bits:016x}");
+        let expected = if bits == MINUS_ZERO { ZERO } else { &text };
+        assert_eq!(written_back(&text), expected);
+    }
+    assert_eq!(written_back("s1=9223372036854775808"), "s1=9223372036854775808");
 }
 
 /// Set of g/1 and a/0.

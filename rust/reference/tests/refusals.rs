@@ -9,7 +9,7 @@ use reference::limits::{ROW_CELLS, STEP_CELLS, UNUSED};
 use reference::run::run_cells;
 use reference::{
     check_automaton, check_document, check_names, check_run, judge_program, membership, product, read_term,
-    union, witness, write_term, Automaton, Refusal, Step,
+    union, witness, write_term, Automaton, Refusal, Scalar, Step, MINUS_ZERO,
 };
 
 /// The number that set E is refused with after some of its bytes are changed.
@@ -120,6 +120,60 @@ fn a_wrong_kind_or_payload_is_14() {
     assert_eq!(table_number(&[(0, 9, 65_535)]), None, "any count");
     assert_eq!(table_number(&[(2, 5, 2)]), Some(14), "a scalar on a row with children");
     assert_eq!(table_number(&[(2, 9, 1)]), Some(14), "a payload on a row with children");
+}
+
+/// The cells that give a row a scalar, for `table_number`.
+fn scalar(row: usize, scalar: Scalar) -> Vec<(usize, usize, u16)> {
+    let (kind, payload) = scalar.kind_and_payload();
+    let payload = (0..4).map(|part| (row, 6 + part, (payload >> (16 * part)) as u16));
+    payload.chain([(row, 5, kind)]).collect()
+}
+
+#[test]
+fn the_rate_with_only_its_sign_bit_set_is_14() {
+    let leaf = |given| table_number(&scalar(0, given));
+    assert_eq!(leaf(Scalar::Rate(MINUS_ZERO)), Some(14));
+    for rate in [0.0, f64::from_bits(1), -f64::from_bits(1), -1.0, f64::NEG_INFINITY, f64::NAN, -f64::NAN] {
+        assert_eq!(leaf(Scalar::Rate(rate.to_bits())), None, "{rate}");
+    }
+    for bits in [MINUS_ZERO | 1, MINUS_ZERO - 1, 0xfff8_0000_0000_0000, u64::MAX, 3 << 62] {
+        assert_eq!(leaf(Scalar::Rate(bits)), None, "{bits:016x}");
+    }
+    assert_eq!(leaf(Scalar::Count(MINUS_ZERO)), None, "a count of 2^63");
+    assert_eq!(table_number(&scalar(2, Scalar::Rate(MINUS_ZERO))), Some(14), "on a row with children");
+}
+
+#[test]
+fn that_rate_is_tried_behind_12_and_13_and_before_15_16_and_17() {
+    let rate = |row| scalar(row, Scalar::Rate(MINUS_ZERO));
+    let with = |other| table_number(&[rate(0), vec![other]].concat());
+    assert_eq!(with((3, 0, 3)), Some(12));
+    assert_eq!(with((2, 3, 0)), Some(13));
+    assert_eq!(with((0, 1, 0)), Some(13), "in the same row");
+    assert_eq!(with((2, 2, 0)), Some(14), "row 1 is used no more");
+    let twice = |bits| [0, 1].map(|row| scalar(row, Scalar::Rate(bits))).concat();
+    assert_eq!(table_number(&twice(MINUS_ZERO)), Some(14));
+    assert_eq!(table_number(&twice(MINUS_ZERO | 1)), Some(15));
+    let mut high = generate::documents::chain(&set_g(), 257).expect("G has a leaf");
+    high.rows[0].scalar = Scalar::Rate(MINUS_ZERO);
+    assert_eq!(check_document(&set_g().encode(), &high.cells()), Err(Refusal::plain(14)));
+}
+
+#[test]
+fn that_rate_is_14_wherever_a_table_is_lent() {
+    let set = set_e().encode();
+    let mut table = document(&set_e(), "s0(s1~0000000000000000,s1~0000000000000000)");
+    let judgement = membership(&set, &table.cells(), 64, 12).expect("there is room");
+    let run = run_cells(&judgement.run.expect("the leaves are equal"));
+    table.rows[0].scalar = Scalar::Rate(MINUS_ZERO);
+    let rows = table.cells();
+    assert_eq!(check_document(&set, &rows), Err(Refusal::plain(14)));
+    assert_eq!(check_run(&set, &rows, &run), Err(Refusal::plain(14)));
+    assert_eq!(check_run(&set, &rows, &[]), Err(Refusal::plain(14)), "before 21");
+    assert_eq!(membership(&set, &rows, 64, 12), Err(Refusal::plain(14)));
+    assert_eq!(membership(&set, &rows, 64, 0), Err(Refusal::plain(14)), "before 32");
+    assert_eq!(write_term(&set, b"", b"", &rows, 100), Err(Refusal::plain(14)));
+    assert_eq!(write_term(&set, b"", b"", &rows, 0), Err(Refusal::plain(14)), "before 68");
 }
 
 #[test]

@@ -1,7 +1,7 @@
 //! Writing and reading back: stored sets, rows and texts.
 
-use generate::sets::{any_sizes, automaton, small_sizes};
-use generate::{documents, lists, Random};
+use generate::sets::{any_sizes, automaton, small_sizes, tagged_sizes};
+use generate::{documents, lists, texts, Random};
 use reference::limits::{MAX_ROWS, ROW_CELLS};
 use reference::table::TableBuilder;
 use reference::{check_automaton, check_document, check_names, read_term, write_term, Document};
@@ -39,6 +39,27 @@ fn in_finishing_order(document: &Document) -> Document {
     let mut table = TableBuilder::with_limit(document.rows.len());
     add(document, document.last(), &mut table);
     table.finish()
+}
+
+/// The writer knows one spelling of zero, and the reader takes either.
+#[test]
+fn loads_are_written_back_with_the_zeros_made_one() {
+    let (mut changed, mut unchanged) = (0, 0);
+    for seed in 0..3000 {
+        let random = &mut Random::new(seed);
+        let automaton = automaton(random, &tagged_sizes());
+        let set = automaton.encode();
+        let names = check_names(b"", b"", automaton.arities.len()).expect("empty lists are sound");
+        let Some(text) = texts::of_loads(random, &automaton, &names) else { continue };
+        let text = String::from_utf8(text).expect("letters, digits and marks");
+        let document = read_term(&set, b"", b"", text.as_bytes(), ROW_CELLS * MAX_ROWS).expect("reads");
+        assert!(check_document(&set, &document.cells()).is_ok(), "{text}");
+        let back = write_term(&set, b"", b"", &document.cells(), text.len()).expect("as many bytes");
+        let made_one = text.replace("~8000000000000000", "~0000000000000000");
+        assert_eq!(String::from_utf8(back), Ok(made_one.clone()));
+        *(if made_one == text { &mut unchanged } else { &mut changed }) += 1;
+    }
+    assert!(changed > 300 && unchanged > 300, "{changed} changed, {unchanged} unchanged");
 }
 
 #[test]

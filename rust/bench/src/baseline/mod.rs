@@ -9,3 +9,6 @@ pub mod witness;
 
 /// What stands in a place that is not used.
 pub const UNUSED: u16 = 65_535;
+
+/// The bits of the rate that stands in no row: the reader of text takes it for 0.0, and a table with it is refused (14).
+pub const MINUS_ZERO: u64 = (-0.0_f64).to_bits();

@@ -3,7 +3,7 @@
 use std::collections::HashSet;
 
 use super::set::Set;
-use super::UNUSED;
+use super::{MINUS_ZERO, UNUSED};
 
 #[derive(Clone, Copy, PartialEq, Eq, Hash)]
 pub struct Row {
@@ -81,7 +81,8 @@ fn scalar_fits(set: &Set, row: &Row) -> bool {
         0 => row.payload == 0,
         _ if set.arities[usize::from(row.symbol)] > 0 => false,
         1 => row.payload <= 1,
-        2 | 3 => true,
+        2 => true,
+        3 => row.payload != MINUS_ZERO,
         4 => row.payload <= u64::from(u32::MAX),
         _ => false,
     }

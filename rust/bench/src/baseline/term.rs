@@ -4,7 +4,7 @@ use std::collections::HashMap;
 
 use super::set::{self, Set};
 use super::table::{self, Row};
-use super::UNUSED;
+use super::{MINUS_ZERO, UNUSED};
 
 /// A refusal's number, and the place of a refusal of text.
 pub type Refusal = (u8, usize);
@@ -202,7 +202,7 @@ impl Reader<'_> {
         Ok(value)
     }
 
-    /// The 16 hex digits of a rate's bits.
+    /// The bits of a rate of 16 hex digits; the two zeros are one rate.
     fn rate(&mut self) -> Result<u64, Refusal> {
         let mut bits = 0;
         for _ in 0..16 {
@@ -214,7 +214,7 @@ impl Reader<'_> {
             bits = bits << 4 | u64::from(digit);
             self.at += 1;
         }
-        Ok(bits)
+        Ok(if bits == MINUS_ZERO { 0 } else { bits })
     }
 }
 
