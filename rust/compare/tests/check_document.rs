@@ -6,7 +6,7 @@ use compare::tally::{Tally, SET, TABLE};
 use generate::{documents, rows, set_bytes, sets, Random};
 use reference::examples::set_e;
 use reference::limits::{ROW_CELLS, UNUSED};
-use reference::{Automaton, Row, Scalar};
+use reference::{Automaton, Row, Scalar, MINUS_ZERO};
 
 #[test]
 fn seeded_tables() {
@@ -35,10 +35,14 @@ fn table_with_everything() -> (Automaton, Vec<u16>) {
         leaf(Scalar::Count(1)),
         leaf(Scalar::Rate(1)),
         leaf(Scalar::Name(u32::MAX)),
+        // One cell from the rate that may stand in no row: the lowest of the payload, and the kind.
+        leaf(Scalar::Rate(MINUS_ZERO | 1)),
+        leaf(Scalar::Count(MINUS_ZERO)),
         over(1, &[0]),
         over(2, &[1, 2]),
-        over(3, &[3, 4, 5]),
-        over(4, &[6, 7, 6, 0]),
+        over(3, &[3, 4, 7]),
+        over(3, &[5, 6, 0]),
+        over(4, &[8, 9, 8, 10]),
     ];
     (automaton, rows.iter().flat_map(Row::cells).collect())
 }
@@ -67,15 +71,19 @@ fn every_cell_of_a_table_with_everything() {
 #[test]
 fn every_kind_with_payloads_at_its_limits() {
     let set = set_e().encode();
-    let payloads = [0, 1, 2, u64::from(u32::MAX), 1 << 32, 1 << 48, 1 << 63, u64::MAX];
+    let payloads = [0, 1, 2, u64::from(u32::MAX), 1 << 32, 1 << 48, u64::MAX];
+    let around_minus_zero = [MINUS_ZERO - 1, MINUS_ZERO, MINUS_ZERO | 1, MINUS_ZERO | 1 << 62];
+    let not_numbers = [f64::NAN, -f64::NAN, f64::NEG_INFINITY].map(f64::to_bits);
+    let payloads = [&payloads[..], &around_minus_zero, &not_numbers].concat();
     for kind in (0..=8).chain([255, 256, 65_535]) {
-        for payload in payloads {
+        for &payload in &payloads {
             let mut rows = Row { symbol: 1, children: vec![], scalar: Scalar::Count(payload) }.cells();
             rows[5] = kind;
             let sound = match kind {
                 0 => payload == 0,
                 1 => payload <= 1,
-                2 | 3 => true,
+                2 => true,
+                3 => payload != MINUS_ZERO,
                 4 => payload <= u64::from(u32::MAX),
                 _ => false,
             };
@@ -125,11 +133,15 @@ fn rows_that_differ_in_one_cell_only_are_not_equal() {
     let set = Automaton { arities: vec![2, 0, 0], ..set_e_without_rules() }.encode();
     let leaf = |bits| Row { symbol: 1, children: vec![], scalar: Scalar::Rate(bits) };
     let pair = Row { symbol: 0, children: vec![0, 1], scalar: Scalar::Bare };
-    for bit in 0..64 {
-        let rows = [leaf(0).cells(), leaf(1 << bit).cells(), pair.cells()].concat();
-        assert_eq!(compare(&set, &rows), Answer::Value(0), "bit {bit}");
-        let rows = [leaf(1 << bit).cells(), leaf(1 << bit).cells(), pair.cells()].concat();
-        assert_eq!(compare(&set, &rows).number(), Some(15), "bit {bit}");
+    for bits in [0, 1.5f64.to_bits()] {
+        for other in (0..64).map(|bit| bits ^ 1 << bit) {
+            let is_sound = other != MINUS_ZERO;
+            let (apart, alike) = if is_sound { (None, Some(15)) } else { (Some(14), Some(14)) };
+            let rows = [leaf(bits).cells(), leaf(other).cells(), pair.cells()].concat();
+            assert_eq!(compare(&set, &rows).number(), apart, "{bits:016x} and {other:016x}");
+            let rows = [leaf(other).cells(), leaf(other).cells(), pair.cells()].concat();
+            assert_eq!(compare(&set, &rows).number(), alike, "{other:016x} twice");
+        }
     }
 }
 

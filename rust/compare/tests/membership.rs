@@ -7,8 +7,8 @@ use compare::tally::{Tally, SET, TABLE};
 use generate::{documents, rows, set_bytes, sets, Random};
 use reference::boolean::multiplied;
 use reference::examples::{rule, set_b, set_d, set_e, set_g, state};
-use reference::limits::{ANNOTATION_CELLS, MAX_ROOM, STEP_CELLS};
-use reference::{Automaton, Document, Row, Scalar};
+use reference::limits::{ANNOTATION_CELLS, MAX_ROOM, ROW_CELLS, STEP_CELLS};
+use reference::{Automaton, Document, Row, Scalar, MINUS_ZERO};
 
 fn kind(value: u64) -> &'static str {
     if value == 0 {
@@ -94,7 +94,7 @@ fn example_document(scalars: &[Scalar]) -> Document {
 fn the_examples_with_every_room_and_run_space() {
     let equal = example_document(&[Scalar::Count(7)]);
     let unequal = example_document(&[Scalar::Count(7), Scalar::Count(8)]);
-    let zeros = example_document(&[Scalar::Rate(0), Scalar::Rate(1 << 63)]);
+    let zeros = example_document(&[Scalar::Rate(0), Scalar::Rate(MINUS_ZERO)]);
     for set in [set_e(), set_b(), set_d()] {
         for document in [&equal, &unequal, &zeros] {
             for work in 0..=140 {
@@ -107,9 +107,24 @@ fn the_examples_with_every_room_and_run_space() {
     assert_eq!(compare_with_room(&set_e(), &equal, 2), Answer::Value(2));
     assert_eq!(compare_with_room(&set_e(), &equal, 1).number(), Some(31));
     assert_eq!(compare_with_room(&set_e(), &unequal, 9), Answer::Value(0));
-    assert_eq!(compare_with_room(&set_e(), &zeros, 9), Answer::Value(0));
+    assert_eq!(compare_with_room(&set_e(), &zeros, 9).number(), Some(14));
     assert_eq!(compare_with_room(&set_b(), &equal, 3), Answer::Value(3));
     assert_eq!(compare_with_room(&set_d(), &equal, 0), Answer::Value(0));
+}
+
+/// As a table the two zeros are refused, and as text they are one row; all other rates are judged by their bits.
+#[test]
+fn loads_of_either_sign() {
+    for bits in [0, 1, 1.5f64.to_bits(), f64::INFINITY.to_bits(), f64::NAN.to_bits(), u64::MAX >> 1] {
+        let loads = [bits, bits | MINUS_ZERO].map(Scalar::Rate);
+        let (as_a_table, as_text) = if bits == 0 { (Some(14), 2) } else { (None, 0) };
+        let answer = compare_with_room(&set_e(), &example_document(&loads), 9);
+        assert_eq!(answer.number(), as_a_table, "{bits:016x}");
+        let text = format!("s0(s1~{bits:016x},s1~{:016x})", bits | MINUS_ZERO);
+        let read = reference::read_term(&set_e().encode(), b"", b"", text.as_bytes(), 3 * ROW_CELLS);
+        let answer = compare_with_room(&set_e(), &read.expect("a sound text"), 9);
+        assert_eq!(answer, Answer::Value(as_text), "{text}");
+    }
 }
 
 #[test]

@@ -14,6 +14,7 @@ use std::time::Duration;
 use generate::{documents, set_bytes, sets, texts, Random};
 use reference::examples::{rule, set_b, set_d, set_e, set_g, state};
 use reference::limits::{MAX_PROGRAM_INPUT, MAX_SYMBOLS};
+use reference::term_writer::text_within;
 use reference::{check_names, judge_program, sample_program, Automaton, Rule};
 
 /// Inputs that each program is run on; starting a program takes about a millisecond.
@@ -141,15 +142,7 @@ fn seeded_texts_for_the_judging_program() {
     let outputs: Vec<String> = (0..INPUTS)
         .map(|seed| {
             let random = &mut Random::new(seed);
-            let sizes = random.pick(&[sets::small_sizes, sets::tagged_sizes])();
-            let automaton = sets::automaton(random, &sizes);
-            let names = plain_names(&automaton);
-            let text = match documents::grown(random, &automaton, 300) {
-                Some(document) if random.percent(40) => {
-                    reference::term_writer::text_within(&document, &names, 20_000).unwrap_or_default()
-                }
-                _ => texts::text(random, &automaton, &names, 30),
-            };
+            let (automaton, text) = set_and_text(random);
             let set = set_bytes::stored(random, &automaton, 15);
             JUDGE.compare(&[set, text].concat())
         })
@@ -157,6 +150,23 @@ fn seeded_texts_for_the_judging_program() {
     let refusals = ["refused 2\n", "refused 3\n", "refused 6\n", "refused 31\n", "refused 63 at "];
     must_have_seen(&outputs, &refusals);
     must_have_seen(&outputs, &["refused 64 at ", "refused 65 at ", "refused 66 at ", "yes\n", "no\n"]);
+}
+
+/// A set and a text: of loads that are mostly zeros of either sign, of a document grown along the rules, or any.
+fn set_and_text(random: &mut Random) -> (Automaton, Vec<u8>) {
+    if random.percent(10) {
+        let automaton = sets::of_equal_parts(random);
+        let text = texts::of_loads(random, &automaton, &plain_names(&automaton));
+        return (automaton, text.unwrap_or_default());
+    }
+    let sizes = random.pick(&[sets::small_sizes, sets::tagged_sizes])();
+    let automaton = sets::automaton(random, &sizes);
+    let names = plain_names(&automaton);
+    let text = match documents::grown(random, &automaton, 300) {
+        Some(document) if random.percent(40) => text_within(&document, &names, 20_000).unwrap_or_default(),
+        _ => texts::text(random, &automaton, &names, 30),
+    };
+    (automaton, text)
 }
 
 /// The names shown for a set's symbols without name lists.
@@ -177,7 +187,8 @@ fn the_examples() {
     assert_eq!(SAMPLE.compare(&set_b().encode()), "alive 2\ns0(s1,s1)\n");
     let both = reference::product(&set_e().encode(), &set_b().encode(), 9999).expect("within the limits");
     assert_eq!(SAMPLE.compare(&both), "refused 41\n");
-    for (text, expected) in [("s0(s1=1,s1=2)", "no\n"), ("s0(s1,s1)", "yes\n")] {
+    let zeros = "s0(s1~0000000000000000,s1~8000000000000000)";
+    for (text, expected) in [("s0(s1=1,s1=2)", "no\n"), ("s0(s1,s1)", "yes\n"), (zeros, "yes\n")] {
         assert_eq!(JUDGE.compare(&[&both[..], text.as_bytes()].concat()), expected);
     }
     for (set, text, expected) in [
@@ -189,8 +200,13 @@ fn the_examples() {
         (set_g(), "s0(s0(s0(s0(s1))))", "no\n"),
         (set_b(), "s0(s1,s1)", "yes\n"),
         (set_d(), "s0(s1,s1)", "no\n"),
-        (set_e(), "s0(s1~0000000000000000,s1~8000000000000000)", "no\n"),
+        (set_e(), zeros, "yes\n"),
         (set_e(), "s0(s1~8000000000000000,s1~8000000000000000)", "yes\n"),
+        (set_e(), "s0(s1~8000000000000000,s1~8000000000000001)", "no\n"),
+        (set_e(), "s0(s1~0000000000000000,s1~0000000000000001)", "no\n"),
+        (set_e(), "s0(s1~7ff8000000000000,s1~fff8000000000000)", "no\n"),
+        (set_e(), "s0(s1~8000000000000000,s1=0)", "no\n"),
+        (set_e(), "s0(s1~8000000000000000,s1=9223372036854775808)", "no\n"),
     ] {
         assert_eq!(judge(&set, text), expected, "{text}");
     }
@@ -341,8 +357,7 @@ fn annotations_that_fill_the_room_and_one_more() {
     for (rows, expected) in [(511, "yes\n"), (512, "yes\n"), (513, "refused 31\n")] {
         let document = documents::broad(&mut Random::new(1), &set, rows).expect("there are leaves");
         assert_eq!(document.rows.len(), rows);
-        let text = reference::term_writer::text_within(&document, &plain_names(&set), 30_000);
-        let text = text.expect("short enough");
+        let text = text_within(&document, &plain_names(&set), 30_000).expect("short enough");
         assert_eq!(JUDGE.compare(&[set.encode(), text].concat()), expected, "{rows} rows");
     }
 }
@@ -403,7 +418,7 @@ fn a_document_of_1024_rows_and_one_of_1025() {
         for (number, row) in document.rows.iter_mut().enumerate().filter(|(_, row)| row.children.is_empty()) {
             row.scalar = reference::Scalar::Name(number as u32);
         }
-        let text = reference::term_writer::text_within(&document, &names, 30_000).expect("short enough");
+        let text = text_within(&document, &names, 30_000).expect("short enough");
         let printed = JUDGE.compare(&[set.encode(), text].concat());
         assert_eq!(printed, expected, "{rows} rows");
     }

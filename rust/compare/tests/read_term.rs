@@ -77,7 +77,7 @@ fn with_the_windows_list_of_the_examples_a_text_is_read_to_the_same_rows() {
 }
 
 /// Texts with every kind of scalar and ending.
-const TELLING_TEXTS: [&str; 12] = [
+const TELLING_TEXTS: [&str; 13] = [
     "s0(s1,s2)",
     "s0(s0(s1=0,s2),s0(s1=0,s2))",
     "s1=18446744073709551615",
@@ -86,6 +86,7 @@ const TELLING_TEXTS: [&str; 12] = [
     "s0(s1=true,s2=false)",
     "s0(s1=7,s1#7)",
     "s0(s1~0000000000000000,s1~8000000000000000)",
+    "s0(s1~8000000000000000,s1~8000000000000001)",
     "s0(s1,s1=0)",
     "s1=10",
     "s9(s1)",
@@ -117,6 +118,27 @@ fn every_row_space_for_telling_texts() {
         for row_cells in 0..=61 {
             compare(&set_e().encode(), b"", b"", text.as_bytes(), row_cells);
         }
+    }
+}
+
+#[test]
+fn zeros_of_either_sign_are_one_row() {
+    let (zero, minus) = ("s1~0000000000000000", "s1~8000000000000000");
+    for (text, rows) in [
+        (format!("s0({zero},{minus})"), 2),
+        (format!("s0({minus},{zero})"), 2),
+        (format!("s0({minus},{minus})"), 2),
+        (format!("s0(s0({minus},{zero}),s0({zero},{minus}))"), 3),
+        (format!("s0({minus},s2~8000000000000000)"), 3),
+        (format!("s0({minus},s1~8000000000000001)"), 3),
+        (format!("s0({zero},s1~0000000000000001)"), 3),
+        (format!("s0({minus},s1=9223372036854775808)"), 3),
+        (format!("s0({zero},s1=0)"), 3),
+    ] {
+        let read = |rows: usize| compare(&set_e().encode(), b"", b"", text.as_bytes(), ROW_CELLS * rows);
+        assert_eq!(read(9), Answer::Value(rows as u64), "{text}");
+        assert_eq!(read(rows), Answer::Value(rows as u64), "{text}");
+        assert_eq!(read(rows - 1).number(), Some(67), "{text}");
     }
 }
 
