@@ -99,7 +99,8 @@ enum cidhomba_refusal {
     CIDHOMBA_TABLE_LENGTH = 11,    /* 0 or over 1,024 rows, or a row cut short */
     CIDHOMBA_ROW_SYMBOL = 12,      /* an unknown symbol */
     CIDHOMBA_ROW_CHILDREN = 13,    /* a child that is not lower, or an unused place that is not 65535 */
-    CIDHOMBA_ROW_SCALAR = 14,      /* kind or payload not those of a scalar that the row may have */
+    CIDHOMBA_ROW_SCALAR = 14,      /* kind or payload not those of a scalar that the row may have; no row may have the
+                                    * rate -0.0, with only its sign bit set */
     CIDHOMBA_ROWS_EQUAL = 15,      /* two equal rows */
     CIDHOMBA_ROW_UNUSED = 16,      /* a row, not the last, that no later row uses */
     CIDHOMBA_TABLE_HEIGHT = 17,    /* a tree higher than 256 */
@@ -264,7 +265,8 @@ uint64_t cidhomba_witness(const uint8_t *set, size_t set_length,
 /* Reads term text into rows. Value: the rows written to the front of rows. Refuses: set, names, text.
  * Names come from two lists, line i for symbol i: the site's, else the built-in one's, else `s` and the number.
  * Spaces and bytes 13 at the end of a line are no part of it, so that a list with line ends of Windows, bytes 13 and
- * 10, serves as it is. A list of length 0 has no lines. Space for 1,024 rows serves every text. */
+ * 10, serves as it is. A list of length 0 has no lines. Space for 1,024 rows serves every text. The rate
+ * ~8000000000000000, which is -0.0, is read as 0.0: the two are one load. */
 uint64_t cidhomba_read_term(const uint8_t *set, size_t set_length,
                             const uint8_t *site, size_t site_length,
                             const uint8_t *built_in, size_t built_in_length,

@@ -93,7 +93,8 @@ pub fn check_automaton(set: &[u8]) -> Result<(), Refusal> {
     Refusal::or_value(interface::check_automaton(set)).map(|_| ())
 }
 
-/// Whether rows are a sound table over a set's symbols.
+/// Whether rows are a sound table over a set's symbols. A rate is told by its bits, but for the zeros, which are one
+/// load: -0.0, the rate with only its sign bit set, may not stand in a row.
 ///
 /// ```
 /// use cidhomba::{check_document, Reason, UNUSED as U};
@@ -102,9 +103,12 @@ pub fn check_automaton(set: &[u8]) -> Result<(), Refusal> {
 /// // s0(s1=7,s1=7): equal leaves are one row, and kind 2 is a count.
 /// let mut rows = [[1, U, U, U, U, 2, 7, 0, 0, 0], [0, 0, 0, U, U, 0, 0, 0, 0, 0]].concat();
 /// assert_eq!(check_document(set, &rows), Ok(()));
-/// rows[10] = 3;
+/// // Kind 3 is a rate, with the lowest 16 bits first: 0.0 may stand here, and -0.0 may not.
+/// rows[5..10].copy_from_slice(&[3, 0, 0, 0, 0]);
+/// assert_eq!(check_document(set, &rows), Ok(()));
+/// rows[9] = 0x8000;
 /// let refusal = check_document(set, &rows).unwrap_err();
-/// assert_eq!(refusal.reason, Reason::RowSymbol);
+/// assert_eq!(refusal.reason, Reason::RowScalar);
 /// ```
 pub fn check_document(set: &[u8], rows: &[u16]) -> Result<(), Refusal> {
     Refusal::or_value(interface::check_document(set, rows)).map(|_| ())
@@ -273,7 +277,8 @@ pub struct Names<'a> {
     pub built_in: &'a [u8],
 }
 
-/// Reads term text into rows; space for [`MAX_ROWS`] rows serves every text. A refusal of text has a place.
+/// Reads term text into rows; space for [`MAX_ROWS`] rows serves every text. A refusal of text has a place. The rate
+/// `~8000000000000000`, which is -0.0, is read as 0.0, and so written back with zeros.
 ///
 /// ```
 /// use cidhomba::{read_term, Names, Reason, Refusal, MAX_ROWS, ROW_CELLS};

@@ -101,6 +101,23 @@ fn a_list_saved_on_windows() {
     assert_eq!(write_term(&set_e(), in_the_middle, &equal, &mut text), Err(refused(Reason::ListLine)));
 }
 
+/// An idle server's load as two makers print it.
+#[test]
+fn two_zeros_are_one_load() {
+    let text = b"s0(s1~8000000000000000,s1~0000000000000000)";
+    let (mut space, mut work, mut run) = ([0; 3 * ROW_CELLS], [0; 2 * ANNOTATION_CELLS], [0; 2 * STEP_CELLS]);
+    let rows = read_term(&set_e(), Names::default(), text, &mut space).expect("the text is sound");
+    assert_eq!(rows.len(), 2 * ROW_CELLS);
+    assert_eq!(membership(&set_e(), rows, &mut work, &mut run), Ok(Judgement::Yes(&RUN)));
+    let mut back = [0; 43];
+    let zeros = b"s0(s1~0000000000000000,s1~0000000000000000)";
+    assert_eq!(write_term(&set_e(), Names::default(), rows, &mut back), Ok(&zeros[..]));
+    let mut given = rows.to_vec();
+    assert_eq!(given[5..10], [3, 0, 0, 0, 0]);
+    given[9] = 0x8000;
+    assert_eq!(check_document(&set_e(), &given), Err(refused(Reason::RowScalar)));
+}
+
 #[test]
 fn writing_text() {
     let names = Names { site: b"pair\na", built_in: b"" };
