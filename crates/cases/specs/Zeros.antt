@@ -4,7 +4,7 @@ use mathlib.Core.List.{List, [], _∷_, _++_}
 use mathlib.Core.Bool.{true, false}
 use Prim.Native.Nat.{ℕ, _+_, _-_, _^_}
 use lib.ListN.{replicate}
-use lib.Ieee.{Float, fin, neg, eq, binary64, ofBits}
+use lib.Ieee.{fin, neg, eq, binary64, ofBits}
 use lib.IntN.{pos}
 use Rattle.model.specs.Refusal.{gives}
 use Rattle.model.specs.Table.{minusZero, rate?, oneZero, scalar?}

@@ -1,7 +1,7 @@
 -- A table that 11 to 14 let pass: each row has the children that its symbol asks, all of them lower, and the scalar that fits. Assumes nothing.
 use mathlib.Core.Path.{_≡_, refl, sym, ap, _∙_, subst}
 use mathlib.Core.List.{List, _∷_, List·Memᴰ as In}
-use mathlib.Core.Bool.{Bool, true, false, _&&_}
+use mathlib.Core.Bool.{Bool, true, false, _&&_, cond}
 use Prim.Native.Nat.{ℕ, zero, suc, _+_, _%_, _<_, _≤_}
 use native.Mathlib.Omega.{arith}
 use borrow.Author.Tests.{ltb-true, leb-true, eqb-true, lt-ltb, le-ltb, le-leb, eq-eqb, ne-eqb}
@@ -12,12 +12,13 @@ use lib.ListN.{length}
 use Rattle.model.specs.Limits.{maxChildren, maxRows, unused}
 use Rattle.model.specs.Lists.{tab, allBelow}
 use Rattle.model.specs.Automaton.{Automaton, arityOf}
-use Rattle.model.specs.Table.{rowAt, scalar?, Lower, SoundRow}
+use Rattle.model.specs.Refusal.{demand, andAfter}
+use Rattle.model.specs.Table.{minusZero, rowAt, scalar?, Lower, SoundRow}
 use Rattle.model.proofs.Tab.{length-tab, in-tab}
-use Rattle.model.proofs.Below.{at}
+use Rattle.model.proofs.Below.{fails, at}
 use Rattle.automaton.proofs.Parts.{all-of, tab-same}
 use Rattle.document.specs.Rows.{rowCells, cellIn, used, rowIn, decodeRows}
-use Rattle.document.specs.Check.{rowCount, counted?, known?, placeIn, place?, child?, arityIn, children?, scalarFor?, scalarFits?, formCheckOf}
+use Rattle.document.specs.Check.{rowCount, counted?, known?, placeIn, place?, child?, arityIn, children?, scalarFor?, scalarFits?, formCheckOf, tableCheckOf}
 use Rattle.document.specs.Marks.{Counted}
 use Rattle.document.proofs.Places.{row-at, rows-length, place-cell}
 use Rattle.document.proofs.Refusals.{passed, pass, true-and}
@@ -132,6 +133,19 @@ module _ (A : Automaton) (cells : List ℕ) where
 
     pub rows-lower : Lower (decodeRows cells)
     rows-lower i l j m = child-lower i (inside i l) j (subst (λ r. In j (r .children)) (row-at cells i (inside i l)) m)
+
+-- A TABLE THAT PASSES 11 TO 13 IS REFUSED WITH 14 WHERE A ROW HOLDS MINUS ZERO, be the row's symbol one with children or without.
+pub minus-zero-refused : (A : Automaton) (cells : List ℕ) (i : ℕ) → i < rowCount cells → (rowIn cells i) .kind ≡ 3 → (rowIn cells i) .payload ≡ minusZero → counted? cells ≡ true → allBelow (rowCount cells) (known? A cells) ≡ true → allBelow (rowCount cells) (children? A cells) ≡ true → tableCheckOf A cells ≡ 14
+unfolding tableCheckOf formCheckOf scalarFits? demand andAfter
+minus-zero-refused A cells i l kind payload counted known children =
+    rw (counted, known, children, fails (scalarFits? A cells) (rowCount cells) i l wrong)
+  where
+    go : (none : Bool) → cond none (scalar? 3 minusZero) (eqb 3 0 && eqb minusZero 0) ≡ false
+    go true = refl
+    go false = refl
+
+    wrong : scalarFor? (arityIn A cells i) ((rowIn cells i) .kind) ((rowIn cells i) .payload) ≡ false
+    wrong = (λ j. scalarFor? (arityIn A cells i) (kind j) (payload j)) ∙ go (eqb (arityIn A cells i) 0)
 
 -- the number of rows that 11 lets pass fits 16 bits
 pub count-fits : (cells : List ℕ) (f : Bool) (n : ℕ) → f ≡ counted? cells → f ≡ true → n ≡ rowCount cells → Fits w16 n

@@ -22,3 +22,4 @@ pub mod Verdicts
 pub mod Sound
 pub mod Lent
 pub mod Building
+pub mod Floats

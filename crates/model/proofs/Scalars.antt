@@ -1,7 +1,7 @@
 -- Scalars kind by kind: what their payloads are at most, and which rates stand in rows. Assumes nothing.
 use mathlib.Core.Path.{_≡_, refl, sym, ap, subst, _∙_}
 use mathlib.Core.Logic.{_⊎_, inl, inr, ⊎-elim}
-use mathlib.Core.Bool.{Bool, true, false, _&&_, _||_, not, cond}
+use mathlib.Core.Bool.{Bool, true, false, _&&_, _||_, not}
 use Prim.Native.Nat.{ℕ, _^_, _<_}
 use native.Mathlib.Omega.{arith}
 use borrow.Author.Tests.{ne-eqb, lt-ltb, eqb-true, eqb-false}
@@ -45,12 +45,12 @@ few-scalars k p =
     (λ h. let l = ltb→lt p (2 ^ 32) h in (omega arith, omega arith))
     k
 
-other : (p : ℕ) → T (rate? p) → p ≡ minusZero → ⊥
-other p h e = rw e at h
+not-minus : (p : ℕ) → T (rate? p) → p ≡ minusZero → ⊥
+not-minus p h e = rw e at h
 
 -- Of all 64 bits, only minus zero may not stand in a row.
 pub stands-exactly : (p : ℕ) → p < 2 ^ 64 → (T (rate? p) → p ≡ minusZero → ⊥) × ((p ≡ minusZero → ⊥) → T (rate? p))
-stands-exactly p l = (other p, λ n. rw (lt-ltb p (2 ^ 64) l, ne-eqb p minusZero n) tt)
+stands-exactly p l = (not-minus p, λ n. rw (lt-ltb p (2 ^ 64) l, ne-eqb p minusZero n) tt)
 
 -- What a reader puts into a row: minus zero becomes zero, any other rate stays, and the result may stand there.
 pub minus-zero-is-zero : oneZero minusZero ≡ 0
@@ -62,7 +62,7 @@ unfolding oneZero
 others-stay p n = rw (ne-eqb p minusZero n)
 
 pub standing-stays : (p : ℕ) → T (rate? p) → oneZero p ≡ p
-standing-stays p h = others-stay p (other p h)
+standing-stays p h = others-stay p (not-minus p h)
 
 minus-or-other : {C : Type 0} (p : ℕ) → (p ≡ minusZero → C) → ((p ≡ minusZero → ⊥) → C) → C
 minus-or-other {C} p f g = go (eqb p minusZero) refl

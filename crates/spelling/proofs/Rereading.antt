@@ -11,7 +11,6 @@ use lib.Dec.{T, eqb, leb, ltb, eqb→eq, ltb→lt}
 use lib.ListN.{length, getD, length-append, List·getD-append}
 use Rattle.model.specs.Table.{rate?, scalar?}
 use Rattle.model.proofs.Scalars.{by-kind, rate-below, standing-stays}
-use Rattle.model.proofs.Members.{T-and}
 use Rattle.names.specs.Names.{letter?, digit?, nameByte?, digits, decimal}
 use Rattle.term.specs.Scan.{byteAt, got, digitValue, digitsFrom, numberAt, hexDigit?, hexValue, hexFrom, scalar, ofKind, ofRate, valueAt, scalarAt}
 use Rattle.term.proofs.Bytes.{digit-range}

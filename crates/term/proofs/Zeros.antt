@@ -8,9 +8,9 @@ use native.Mathlib.Nat.{mul-assoc, mul-comm, pow-suc}
 use native.Mathlib.Omega.{arith}
 use borrow.Author.Tests.{eq-eqb, ne-eqb, eqb-true, ltb-true, ltb-false}
 use lib.Dec.{eqb, leb, ltb}
-use lib.ListN.{length, getD, take, drop, replicate, getD-replicate, length-drop, List·getD-eq-default}
+use lib.ListN.{length, getD, take, drop, getD-replicate, length-drop, List·getD-eq-default}
 use lib.Seq.{ext-getD, getD-take, getD-drop, length-take-le}
-use Rattle.model.specs.Table.{minusZero, oneZero}
+use Rattle.model.specs.Table.{oneZero}
 use Rattle.model.specs.Lists.{tab, allBelow}
 use Rattle.model.specs.Tree.{Tree}
 use Rattle.model.proofs.Tab.{tab-at, tab-past, length-tab}
@@ -27,6 +27,9 @@ use Rattle.term.proofs.Bytes.{inside, letter-range}
 use Rattle.term.proofs.Leading.{led-all, counted}
 use Rattle.term.proofs.Symbols.{name-fits}
 use Rattle.term.proofs.Alike.{AlikeTexts, alike-sym, term-there, text-same}
+
+not-both : (b : ℕ) → b ≡ 48 → b ≡ 56 → ⊥
+not-both b e f = omega arith
 
 -- zeros read as hex digits, after the number v
 zeros-read : (t : List ℕ) (n v i : ℕ) → ((k : ℕ) → k < n → byteAt t (i + k) ≡ 48) → hexFrom n t v i ≡ got (v * 16 ^ n) (i + n)
@@ -110,8 +113,8 @@ module _ (t : List ℕ) where
   same-byte i e = at-byte i ∙ ap (λ b. cond b 48 (byteAt t i)) e
 
   -- A TEXT WITHOUT MINUS ZERO STAYS AS IT IS
-  pub others-stay : ((i : ℕ) → signDigit? t i ≡ false) → zerosOne t ≡ t
-  others-stay h = ext-getD 0 t′ t same-length (λ i l. same-byte i (h i))
+  pub clean-stays : ((i : ℕ) → signDigit? t i ≡ false) → zerosOne t ≡ t
+  clean-stays h = ext-getD 0 t′ t same-length (λ i l. same-byte i (h i))
 
   -- a test that does not tell 0 from 8
   alike : {A : Type 0} (p : ℕ → A) → p 48 ≡ p 56 → (i : ℕ) → p (byteAt t′ i) ≡ p (byteAt t i)
@@ -175,15 +178,12 @@ module _ (t : List ℕ) where
   unfolding hexFrom hexDigit? hexValue digit? oneZero
   same-rate i = go (signDigit? t i) refl
     where
-      plus : (s : ℕ) → s ≡ 48 → s ≡ 56 → ⊥
-      plus s e f = omega arith
-
       zero-at : signDigit? t i ≡ true → (k : ℕ) → k < 16 → byteAt t′ (i + k) ≡ 48
       zero-at e zero l = let p : i + 0 ≡ i = omega arith in ap (byteAt t′) p ∙ at-byte i ∙ ap (λ b. cond b 48 (byteAt t i)) e
       zero-at e (suc k) l =
           let p : i + suc k ≡ suc i + k = omega arith in
           let z = zeros-behind t i e k (omega arith) in
-          ap (byteAt t′) p ∙ same-byte (suc i + k) (not-sign t (suc i + k) (plus _ z)) ∙ z
+          ap (byteAt t′) p ∙ same-byte (suc i + k) (not-sign t (suc i + k) (not-both _ z)) ∙ z
 
       first : byteAt t i ≡ 56 → hexFrom 16 t 0 i ≡ hexFrom 15 t 8 (suc i)
       first e = ap {B = Got ℕ} (λ b. elim (hexDigit? b) [ true ↦ hexFrom 15 t (0 * 16 + hexValue b) (suc i) | false ↦ fault i ]) e
@@ -291,12 +291,9 @@ module _ (t : List ℕ) where
   none-left zero = refl
   none-left (suc i) = go (signDigit? t′ (suc i)) refl
     where
-      plus : (s : ℕ) → s ≡ 48 → s ≡ 56 → ⊥
-      plus s e f = omega arith
-
       -- the 8 is the text's own, since one of a minus zero became 0
       own : (b : Bool) → signDigit? t (suc i) ≡ b → cond b 48 (byteAt t (suc i)) ≡ 56 → (signDigit? t (suc i) ≡ false) × (byteAt t (suc i) ≡ 56)
-      own true e h = absurd (plus 48 refl h)
+      own true e h = absurd (not-both 48 refl h)
       own false e h = (e, h)
 
       digit : (k b : ℕ) → k < 16 → b ≡ getD minusZeroText (suc k) 0 → b ≡ 126 → ⊥
