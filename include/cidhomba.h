@@ -266,7 +266,7 @@ uint64_t cidhomba_witness(const uint8_t *set, size_t set_length,
  * Names come from two lists, line i for symbol i: the site's, else the built-in one's, else `s` and the number.
  * Spaces and bytes 13 at the end of a line are no part of it, so that a list with line ends of Windows, bytes 13 and
  * 10, serves as it is. A list of length 0 has no lines. Space for 1,024 rows serves every text. The rate
- * ~8000000000000000, which is -0.0, is read as 0.0: the two are one load. */
+ * ~8000000000000000, which is -0.0, is read as 0.0: the two zeros count as one rate. */
 uint64_t cidhomba_read_term(const uint8_t *set, size_t set_length,
                             const uint8_t *site, size_t site_length,
                             const uint8_t *built_in, size_t built_in_length,

@@ -29,9 +29,9 @@ unfolding allBelow anyBelow placeOf levels highest demand andAfter unless addTre
 two-zeros =
     record {
       float = (refl, refl, refl);
-      standing = (refl, refl, refl, refl, refl, refl, refl, refl, refl);
+      standing = (refl, refl, refl, refl, refl, refl, refl, refl, refl, refl);
       becomes = (refl, refl, refl, refl);
-      judged = ((refl, refl, refl), ((refl, refl, refl), ((refl, refl, refl), tt)));
+      example = ((refl, refl, refl), ((refl, refl, refl), ((refl, refl, refl), tt)));
       given = (refl, refl, refl);
       written = refl;
       text = (refl, refl, refl, refl);

@@ -36,21 +36,21 @@ rates x y = pair (a~ x) (a~ y)
 abbrev pub row : ℕ → List ℕ → List ℕ
 row kind payload = 1 ∷ 65535 ∷ 65535 ∷ 65535 ∷ 65535 ∷ kind ∷ payload
 
--- The example, which was no, and a pair that is not of two zeros.
+-- The example, which was no; two minus zeros; and a zero with the rate next to the other.
 abbrev pub zeroCases : List Case
 zeroCases = judged setE pairNames (rates plus minus) 2 true 2 ∷ judged setE pairNames (rates minus minus) 2 true 2 ∷ judged setE pairNames (rates plus below) 3 false 2 ∷ []
 
 pub record TwoZeros : Type 0 where
-  -- minus zero is the library's zero with a minus sign, which equals the other zero as a float
+  -- minus zero is the toolchain's zero with a minus sign, which equals the other zero as a float
   pub float : (ofBits binary64 minusZero ≡ neg (ofBits binary64 0)) × (ofBits binary64 0 ≡ fin false 0 (pos 0)) × (eq (ofBits binary64 minusZero) (ofBits binary64 0) ≡ true)
   -- it alone may not stand in a row: its neighbours, the infinities and NaNs may, and so may the count with these bits
   pub standing :
       (rate? minusZero ≡ false) × (rate? (minusZero - 1) ≡ true) × (rate? (minusZero + 1) ≡ true) × (rate? 0 ≡ true)
-      × (rate? 18442240474082181120 ≡ true) × (rate? 18444492273895866368 ≡ true) × (rate? (2 ^ 64 - 1) ≡ true) × (rate? (2 ^ 64) ≡ false)
+      × (rate? 9218868437227405312 ≡ true) × (rate? 18442240474082181120 ≡ true) × (rate? 18444492273895866368 ≡ true) × (rate? (2 ^ 64 - 1) ≡ true) × (rate? (2 ^ 64) ≡ false)
       × (scalar? 2 minusZero ≡ true)
   -- it becomes zero, its neighbour and a NaN with its sign stay
   pub becomes : (oneZero minusZero ≡ 0) × (oneZero (minusZero + 1) ≡ minusZero + 1) × (oneZero 18444492273895866368 ≡ 18444492273895866368) × (oneZero 0 ≡ 0)
-  pub judged : AllHold zeroCases
+  pub example : AllHold zeroCases
   -- given in a row it is 14; its neighbour and the count are not
   pub given :
       (tableCheckOf (decode setE) (row 3 (0 ∷ 0 ∷ 0 ∷ 32768 ∷ [])) ≡ 14)
@@ -58,5 +58,5 @@ pub record TwoZeros : Type 0 where
       × (tableCheckOf (decode setE) (row 2 (0 ∷ 0 ∷ 0 ∷ 32768 ∷ [])) ≡ 0)
   -- a text writes back with zeros
   pub written : writeOf setE pairNames [] (cellsFrom setE pairNames (rates plus minus)) 43 ≡ gives (rates plus plus)
-  -- and is read as the text with its zeros made one: no other digits change, nor these without `~`
+  -- the text with its zeros made one: no other digits change, nor these without `~`
   pub text : (zerosOne (rates minus minus) ≡ rates plus plus) × (zerosOne (rates plus below) ≡ rates plus below) × (zerosOne (97 ∷ 61 ∷ minus) ≡ 97 ∷ 61 ∷ minus) × (zerosOne (126 ∷ minus ++ minus) ≡ 126 ∷ plus ++ minus)

@@ -1,4 +1,4 @@
--- A table that 11 to 14 let pass: each row has the children that its symbol asks, all of them lower, and the scalar that fits. Assumes nothing.
+-- A table that 11 to 14 let pass: each row has the children that its symbol asks, all of them lower, and the scalar that fits; and that minus zero does not. Assumes nothing.
 use mathlib.Core.Path.{_≡_, refl, sym, ap, _∙_, subst}
 use mathlib.Core.List.{List, _∷_, List·Memᴰ as In}
 use mathlib.Core.Bool.{Bool, true, false, _&&_, cond}

@@ -10,7 +10,7 @@ use borrow.Author.Tests.{lt-ltb, le-ltb}
 use Rattle.model.specs.Table.{oneZero}
 use Rattle.model.proofs.Scalars.{rate-below, one-zero-stands}
 use Rattle.document.specs.declared.scalar.Scalar.the-variants.{Rate, NanRate}
-use Rattle.document.specs.Scalars.{rateWith, rateOf, kindOf, payloadOf}
+use Rattle.document.specs.Scalars.{rateOf, rowRate, kindOf, payloadOf}
 
 -- a NaN's bits, without the sign, are above those of infinity, and no other's are
 pub nan-above : (b : ℕ) → 9218868437227405312 < b % 9223372036854775808 → nanBits binary64 b ≡ true
@@ -34,17 +34,17 @@ pub nan-bits : (x : Float) → ne x x ≡ true → 9221120237041090560 ≡ toBit
 unfolding toBits
 nan-bits x e = sym (ap (toBits binary64) (differs-from-itself x (subst T (sym e) tt)))
 
-pub payload-with : (b : ℕ) → b < 2 ^ 64 → payloadOf (rateWith b) ≡ b
-unfolding rateWith
-payload-with b h = go (nanBits binary64 b) refl
+pub payload-rate : (b : ℕ) → b < 2 ^ 64 → payloadOf (rateOf b) ≡ b
+unfolding rateOf
+payload-rate b h = go (nanBits binary64 b) refl
   where
     go : (t : Bool) → nanBits binary64 b ≡ t → payloadOf (cond t (NanRate b) (Rate (ofBits binary64 b))) ≡ b
     go true e = refl
     go false e = toBits-ofBits binary64 b h (not-T (sym (nanBits-is binary64 b) ∙ e))
 
-pub kind-with : (b : ℕ) → kindOf (rateWith b) ≡ 3
-unfolding rateWith
-kind-with b = go (nanBits binary64 b)
+pub kind-rate : (b : ℕ) → kindOf (rateOf b) ≡ 3
+unfolding rateOf
+kind-rate b = go (nanBits binary64 b)
   where
     go : (t : Bool) → kindOf (cond t (NanRate b) (Rate (ofBits binary64 b))) ≡ 3
     go true = refl
@@ -54,8 +54,8 @@ kind-with b = go (nanBits binary64 b)
 one-zero-below : (b : ℕ) → b < 2 ^ 64 → oneZero b < 2 ^ 64
 one-zero-below b h = rate-below (oneZero b) (one-zero-stands b h)
 
-pub payload-rate : (b : ℕ) → b < 2 ^ 64 → payloadOf (rateOf b) ≡ oneZero b
-payload-rate b h = payload-with (oneZero b) (one-zero-below b h)
+pub payload-row-rate : (b : ℕ) → b < 2 ^ 64 → payloadOf (rowRate b) ≡ oneZero b
+payload-row-rate b h = payload-rate (oneZero b) (one-zero-below b h)
 
-pub kind-rate : (b : ℕ) → kindOf (rateOf b) ≡ 3
-kind-rate b = kind-with (oneZero b)
+pub kind-row-rate : (b : ℕ) → kindOf (rowRate b) ≡ 3
+kind-row-rate b = kind-rate (oneZero b)

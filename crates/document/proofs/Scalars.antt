@@ -1,4 +1,4 @@
--- Scalars with a kind and a payload; those of a scalar go to it and back unchanged. Assumes nothing.
+-- What `held` compares; and a kind and a payload that are a scalar's go to it and back unchanged. Assumes nothing.
 use mathlib.Core.Path.{_≡_, refl, sym}
 use mathlib.Core.Bool.{Bool, true, false, _&&_}
 use Prim.Native.Nat.{ℕ, zero, suc, _<_}
@@ -10,7 +10,7 @@ use Rattle.model.proofs.Scalars.{by-kind, rate-below}
 use Rattle.document.specs.declared.scalar.Scalar.{Scalar}
 use Rattle.document.specs.declared.scalar.Scalar.the-variants.{Flag}
 use Rattle.document.specs.Scalars.{kindOf, payloadOf, hasKindPayload, scalarAt}
-use Rattle.document.proofs.Rates.{kind-with, payload-with}
+use Rattle.document.proofs.Rates.{kind-rate, payload-rate}
 
 -- the kind and the payload of s are k and p
 pub record Back (k p : ℕ) (s : Scalar) : Type 0 where
@@ -49,7 +49,7 @@ module _ (p : ℕ) where
 
   rate : T (rate? p) → Back 3 p (scalarAt 3 p)
   unfolding scalarAt
-  rate h = record { kind = kind-with p; payload = payload-with p (rate-below p h) }
+  rate h = record { kind = kind-rate p; payload = payload-rate p (rate-below p h) }
 
   name : Back 4 p (scalarAt 4 p)
   unfolding scalarAt

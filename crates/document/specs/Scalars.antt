@@ -1,4 +1,4 @@
--- Scalars as values, and what a row's kind and payload say of them (document 01, section "Documents"). Assumes nothing.
+-- Scalars as values, and what a row's kind and payload say of them (document 01, section "Documents"; the two zeros: document 02, Wish 6). Assumes nothing.
 use mathlib.Core.Bool.{Bool, _&&_, cond}
 use Prim.Native.Nat.{ℕ, zero, suc}
 use lib.Dec.{eqb}
@@ -9,13 +9,13 @@ use Rattle.document.specs.declared.scalar.Scalar.the-variants.{Bare, Fla
 use Rattle.document.specs.declared.scalar.Decoded.{Decoded}
 use Rattle.document.specs.declared.scalar.Decoded.the-variants.{Is, Not}
 
--- the rate of 64 bits; those of a NaN are kept as a number
-unfoldable pub rateWith : ℕ → Scalar
-rateWith bits = cond (nanBits binary64 bits) (NanRate bits) (Rate (ofBits binary64 bits))
+-- the rate of any 64 bits; those of a NaN are kept as a number
+unfoldable pub rateOf : ℕ → Scalar
+rateOf bits = cond (nanBits binary64 bits) (NanRate bits) (Rate (ofBits binary64 bits))
 
--- the rate that a reader puts into a row for any 64 bits
-abbrev pub rateOf : ℕ → Scalar
-rateOf bits = rateWith (oneZero bits)
+-- the rate that a reader puts into a row for these bits: minus zero becomes zero
+abbrev pub rowRate : ℕ → Scalar
+rowRate bits = rateOf (oneZero bits)
 
 -- the kind's number
 abbrev pub kindOf : Scalar → ℕ
@@ -35,7 +35,7 @@ payloadOf (Rate x) = toBits binary64 x
 payloadOf (NanRate bits) = bits
 payloadOf (Name n) = n
 
--- a scalar of kind k and payload p: of a rate, all bits agree
+-- whether a scalar has kind k and payload p; of a rate, whether all bits agree
 abbrev pub hasKindPayload : Scalar → ℕ → ℕ → Bool
 hasKindPayload s k p = eqb (kindOf s) k && eqb (payloadOf s) p
 
@@ -44,7 +44,7 @@ unfoldable pub scalarAt : ℕ → ℕ → Scalar
 scalarAt zero p = Bare
 scalarAt (suc zero) p = Flag (eqb p 1)
 scalarAt (suc (suc zero)) p = Count p
-scalarAt (suc (suc (suc zero))) p = rateWith p
+scalarAt (suc (suc (suc zero))) p = rateOf p
 scalarAt (suc (suc (suc (suc k)))) p = Name p
 
 -- a scalar exactly where the kind and the payload are those of one

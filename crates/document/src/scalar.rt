@@ -1,23 +1,23 @@
-// Scalars: the five kinds, their kind and payload in a row, and their equality.
+// Scalars: the five kinds, their kind and payload in a row, and their equality; of the two zeros among the rates, a row holds the positive one (document 02, Wish 6).
 ghost use mathlib.Core.Path.{_≡_};
 ghost use lib.Ieee.{binary64, toBits};
 ghost use Rattle.model.specs.Table.{oneZero};
 ghost use Rattle.document.specs.declared.scalar.Scalar.the-variants.{Flag};
-ghost use Rattle.document.specs.Scalars.{rateWith, rateOf, kindOf, payloadOf, decodeScalar, hasKindPayload};
+ghost use Rattle.document.specs.Scalars.{rateOf, rowRate, kindOf, payloadOf, decodeScalar, hasKindPayload};
 
 // A bit pattern without its sign is a NaN where it is above that of infinity.
 const SIGN: u64 = 9223372036854775808;
-
-// Only the sign bit is set; it may not stand in a row.
-const MINUS_ZERO: u64 = SIGN;
 
 const INFINITY: u64 = 9218868437227405312;
 
 const NAN: u64 = 9221120237041090560;
 
+// The bits of a rate that no row may hold.
+const MINUS_ZERO: u64 = SIGN;
+
 const NAMES: u64 = 4294967296;
 
-// A rate is any 64 bits. Those of a NaN, which no f64 can be asked for again, are kept as a number.
+// A rate is any 64 bits. Those of a NaN, which no f64 can be asked for again, are kept as a number. The type has both zeros; readers make their rates by `row_rate`, which gives one.
 pub enum Scalar {
     Bare,
     Flag(bool),
@@ -28,8 +28,8 @@ pub enum Scalar {
 }
 
 // The rate with these bits.
-fn rate_with(bits: u64) -> Scalar
-    ensures { λ r. ⌜ r ≡ rateWith bits ⌝ }
+fn rate_of(bits: u64) -> Scalar
+    ensures { λ r. ⌜ r ≡ rateOf bits ⌝ }
 {
     if bits % SIGN > INFINITY {
         Scalar::NanRate(bits)
@@ -46,10 +46,10 @@ fn one_zero(bits: u64) -> u64
 }
 
 // The rate that a reader puts into a row, for any 64 bits.
-pub fn rate_of(bits: u64) -> Scalar
-    ensures { λ r. ⌜ r ≡ rateOf bits ⌝ }
+pub fn row_rate(bits: u64) -> Scalar
+    ensures { λ r. ⌜ r ≡ rowRate bits ⌝ }
 {
-    rate_with(one_zero(bits))
+    rate_of(one_zero(bits))
 }
 
 // A float's bits, for every float: of a NaN, the pattern that the definition names.
@@ -115,7 +115,7 @@ pub fn from_cells(kind: u16, payload: u64) -> Decoded
         3 => if payload == MINUS_ZERO {
             Decoded::Not
         } else {
-            Decoded::Is(rate_with(payload))
+            Decoded::Is(rate_of(payload))
         },
         4 => if payload < NAMES {
             Decoded::Is(Scalar::Name(payload as u32))
@@ -126,7 +126,7 @@ pub fn from_cells(kind: u16, payload: u64) -> Decoded
     }
 }
 
-// Whether a scalar is what a row's kind and payload say, for any of them: of a rate, all bits agree.
+// The equality of scalars, of one by value and one in a row's cells: it matches on the enum and compares a rate's bits.
 pub fn held(s: Scalar, kind: u16, bits: u64) -> bool
     ensures { λ r. ⌜ r ≡ hasKindPayload s kind bits ⌝ }
 {

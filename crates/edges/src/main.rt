@@ -222,7 +222,10 @@ fn zeros() {
     let mut text = [0u8; 64];
     let n = match spelling::write(&E, b"", b"", &cells, &mut text) {
         TermWritten::Bytes(n) => n,
-        TermWritten::Refused(_) => 0,
+        TermWritten::Refused(n) => {
+            refused(n);
+            0
+        },
     };
     if n > 64 {
         return;

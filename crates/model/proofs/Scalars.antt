@@ -1,12 +1,15 @@
 -- Scalars kind by kind: what their payloads are at most, and which rates stand in rows. Assumes nothing.
 use mathlib.Core.Path.{_≡_, refl, sym, ap, subst, _∙_}
+use mathlib.Core.List.{List}
 use mathlib.Core.Logic.{_⊎_, inl, inr, ⊎-elim}
 use mathlib.Core.Bool.{Bool, true, false, _&&_, _||_, not}
 use Prim.Native.Nat.{ℕ, _^_, _<_}
 use native.Mathlib.Omega.{arith}
 use borrow.Author.Tests.{ne-eqb, lt-ltb, eqb-true, eqb-false}
 use lib.Dec.{T, eqb, ltb, eqb→eq, ltb→lt}
-use Rattle.model.specs.Table.{minusZero, rate?, oneZero, scalar?}
+use lib.ListN.{length}
+use Rattle.model.specs.Automaton.{Automaton}
+use Rattle.model.specs.Table.{Row, rowAt, minusZero, rate?, oneZero, scalar?, SoundTable}
 use Rattle.model.proofs.Members.{T-and}
 
 either : {C : Type 0} (a b : Bool) → (T a → C) → (T b → C) → T (a || b) → C
@@ -30,7 +33,7 @@ by-kind C p bare flag count rate name k =
     of-kind : (j : ℕ) (test : Bool) → (T test → C j) → T (eqb k j && test) → C k
     of-kind j test f h = let (e, t) = T-and (eqb k j) test h in subst C (sym (eqb→eq k j e)) (f t)
 
--- a rate that may stand in a row, as facts
+-- a rate that may stand in a row has 64 bits
 pub rate-below : (p : ℕ) → T (rate? p) → p < 2 ^ 64
 rate-below p h = ltb→lt p (2 ^ 64) (T-and (ltb p (2 ^ 64)) (not (eqb p minusZero)) h .0)
 
@@ -51,6 +54,10 @@ not-minus p h e = rw e at h
 -- Of all 64 bits, only minus zero may not stand in a row.
 pub stands-exactly : (p : ℕ) → p < 2 ^ 64 → (T (rate? p) → p ≡ minusZero → ⊥) × ((p ≡ minusZero → ⊥) → T (rate? p))
 stands-exactly p l = (not-minus p, λ n. rw (lt-ltb p (2 ^ 64) l, ne-eqb p minusZero n) tt)
+
+-- NO ROW OF A SOUND TABLE HOLDS MINUS ZERO.
+pub none-holds : (A : Automaton) (rows : List Row) → SoundTable A rows → (i : ℕ) → i < length rows → (rowAt rows i) .kind ≡ 3 → (rowAt rows i) .payload ≡ minusZero → ⊥
+none-holds A rows sound i l kind payload = subst (λ b. T b) (λ j. scalar? (kind j) (payload j)) (sound .each i l .scalar)
 
 -- What a reader puts into a row: minus zero becomes zero, any other rate stays, and the result may stand there.
 pub minus-zero-is-zero : oneZero minusZero ≡ 0

@@ -1,4 +1,4 @@
--- Row tables and their trees (document 01, section "Documents"). Assumes nothing.
+-- Row tables and their trees (document 01, section "Documents"; which rates stand in rows: document 02, Wish 6). Assumes nothing.
 use mathlib.Core.Path.{_≡_}
 use mathlib.Core.List.{List, [], _∷_, map, List·Memᴰ as In}
 use mathlib.Core.Bool.{Bool, true, false, _&&_, _||_, not, cond}
@@ -38,15 +38,15 @@ treeAt rows i = treeIn rows (suc i) i
 abbrev pub treeOf : List Row → Tree
 treeOf rows = treeAt rows (length rows - 1)
 
--- The rate with only its sign bit set (document 02, Wish 6).
+-- Minus zero: the rate with only its sign bit set (document 02, Wish 6).
 abbrev pub minusZero : ℕ
 minusZero = 2 ^ 63
 
--- A rate that may stand in a row: any 64 bits but that one.
+-- A rate that may stand in a row: any 64 bits but those of minus zero.
 abbrev pub rate? : ℕ → Bool
 rate? p = ltb p (2 ^ 64) && not (eqb p minusZero)
 
--- The rate that a reader puts into a row: that one becomes positive zero, and any other stays as it is.
+-- The rate that a reader puts into a row: minus zero becomes positive zero, and any other stays as it is.
 unfoldable pub oneZero : ℕ → ℕ
 oneZero p = cond (eqb p minusZero) 0 p
 

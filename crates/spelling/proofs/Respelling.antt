@@ -6,12 +6,11 @@ use mathlib.Core.Option.{Option, some}
 use Prim.Native.Nat.{ℕ, zero, suc, _+_, _-_, _*_, _/_, _%_, _^_, _<_, _≤_}
 use native.Mathlib.Numerals.{add-one}
 use native.Mathlib.Omega.{arith}
-use borrow.Author.Tests.{eqb-true, eqb-false, lt-ltb, le-ltb, le-leb}
-use lib.Dec.{T, eqb, leb, ltb, ltb→lt}
+use borrow.Author.Tests.{eqb-true, eqb-false, lt-ltb, le-ltb}
+use lib.Dec.{T, eqb, ltb, ltb→lt}
 use lib.ListN.{length, getD, take, drop, take-append-drop, List·getD-append}
 use lib.Seq.{getD-drop, drop-drop, drop-cons, drop-length}
 use Rattle.model.specs.Lists.{allBelow}
-use Rattle.model.specs.Refusal.{gives, refuses}
 use Rattle.model.specs.Tree.{Tree, Forest, fnil, fcons}
 use Rattle.model.specs.Table.{minusZero, oneZero, Row, treeOf}
 use Rattle.model.proofs.Below.{all-at}
@@ -79,6 +78,9 @@ module _ (t : List ℕ) where
   -- a byte that stands at a place
   byte-there : (i b : ℕ) → byteAt t i ≡ b → 0 < b → drop i t ≡ b ∷ drop (suc i) t
   byte-there i b e h = drop-cons t i 0 (inside t i (omega arith)) ∙ ap (λ x. x ∷ drop (suc i) t) e
+
+  mark-there : (c i : ℕ) → 0 < c → byteAt t i ≡ c → drop i t ≡ c ∷ drop (i + 1) t
+  mark-there c i l e = byte-there i c e l ∙ ap (λ m. c ∷ drop m t) (sym (add-one i))
 
   -- what stood before, and a byte more
   one-more : (w : List ℕ) (i b : ℕ) → byteAt t i ≡ b → 0 < b → w ++ drop i t ≡ (w ++ b ∷ []) ++ drop (suc i) t
@@ -177,10 +179,14 @@ module _ (t : List ℕ) where
   rate-of n x (got v m) e = let y : m ≡ n = cc in (v, ap (got v) y, cc)
   rate-of n x (fault p) e = not-got x p n e
 
-  abbrev Back : ℕ → ℕ → Scalar → Type 0
-  Back i n x = drop i t ≡ scalarText (x .kind) (x .payload) ++ drop n t
+  -- a part of the text is a scalar's, and what stands from place n on
+  abbrev Back : List ℕ → ℕ → Scalar → Type 0
+  Back part n x = part ≡ scalarText (x .kind) (x .payload) ++ drop n t
 
-  value-back : (i n : ℕ) (x : Scalar) → valueAt t i ≡ got x n → 61 ∷ drop i t ≡ scalarText (x .kind) (x .payload) ++ drop n t
+  being : {y x : Scalar} (part : List ℕ) (n : ℕ) → y ≡ x → Back part n y → Back part n x
+  being part n e h = subst (Back part n) e h
+
+  value-back : (i n : ℕ) (x : Scalar) → valueAt t i ≡ got x n → Back (61 ∷ drop i t) n x
   unfolding valueAt scalarText allBelow
   value-back i n x e = go (eqb (byteAt t i) 116) (eqb (byteAt t i) 102) e
     where
@@ -191,13 +197,10 @@ module _ (t : List ℕ) where
             | false ↦ elim b [ true ↦ wordAt (scalar 1 0) (102 ∷ 97 ∷ 108 ∷ 115 ∷ 101 ∷ []) t i | false ↦ ofKind 2 (numberAt (2 ^ 64) t i) ]
           ]
 
-      being : (y : Scalar) → y ≡ x → 61 ∷ drop i t ≡ scalarText (y .kind) (y .payload) ++ drop n t → 61 ∷ drop i t ≡ scalarText (x .kind) (x .payload) ++ drop n t
-      being y q h = subst (λ z. 61 ∷ drop i t ≡ scalarText (z .kind) (z .payload) ++ drop n t) q h
-
-      go : (a b : Bool) → step a b ≡ got x n → 61 ∷ drop i t ≡ scalarText (x .kind) (x .payload) ++ drop n t
-      go true b q = let (v, h) = word-back (scalar 1 1) x (116 ∷ 114 ∷ 117 ∷ 101 ∷ []) i n tt q in being (scalar 1 1) v (ap (61 ∷_) h)
-      go false true q = let (v, h) = word-back (scalar 1 0) x (102 ∷ 97 ∷ 108 ∷ 115 ∷ 101 ∷ []) i n tt q in being (scalar 1 0) v (ap (61 ∷_) h)
-      go false false q = let (v, h, s) = number-of 2 n x (numberAt (2 ^ 64) t i) q in being (scalar 2 v) s (ap (61 ∷_) (number-back (2 ^ 64) i v n h))
+      go : (a b : Bool) → step a b ≡ got x n → Back (61 ∷ drop i t) n x
+      go true b q = let (v, h) = word-back (scalar 1 1) x (116 ∷ 114 ∷ 117 ∷ 101 ∷ []) i n tt q in being (61 ∷ drop i t) n v (ap (61 ∷_) h)
+      go false true q = let (v, h) = word-back (scalar 1 0) x (102 ∷ 97 ∷ 108 ∷ 115 ∷ 101 ∷ []) i n tt q in being (61 ∷ drop i t) n v (ap (61 ∷_) h)
+      go false false q = let (v, h, s) = number-of 2 n x (numberAt (2 ^ 64) t i) q in being (61 ∷ drop i t) n s (ap (61 ∷_) (number-back (2 ^ 64) i v n h))
 
   module _ (clean : (i : ℕ) → signDigit? t i ≡ false) where
     -- no rate that stands here is minus zero
@@ -206,34 +209,28 @@ module _ (t : List ℕ) where
     rate-stays i v n b e = others-stay v (λ q. refuted (drop-behind (bits-back (i + 1) v n e ∙ ap (λ x. hexDigits 16 x ++ drop n t) q)))
       where
         drop-behind : drop (i + 1) t ≡ hexDigits 16 minusZero ++ drop n t → drop i t ≡ minusZeroText ++ drop n t
-        drop-behind h = byte-there i 126 b (omega arith) ∙ ap (126 ∷_) (ap (λ x. drop x t) (sym (add-one i)) ∙ h)
+        drop-behind h = mark-there 126 i (omega arith) b ∙ ap (126 ∷_) h
 
         refuted : drop i t ≡ minusZeroText ++ drop n t → ⊥
         refuted h =
             let z : true ≡ false = sym (minus-there t i (λ k l. sym (getD-drop i t k 0) ∙ ap (λ x. getD x k 0) h ∙ List·getD-append minusZeroText (drop n t) 0 k l)) ∙ clean (suc i) in
             let y : _≡_ {A = ℕ} 0 1 = cc in omega arith
 
-    scalar-back : (i n : ℕ) (x : Scalar) → scalarAt t i ≡ got x n → Back i n x
+    scalar-back : (i n : ℕ) (x : Scalar) → scalarAt t i ≡ got x n → Back (drop i t) n x
     unfolding scalarAt scalarText
     scalar-back i n x e = go (eqb (byteAt t i) 61) (eqb (byteAt t i) 126) (eqb (byteAt t i) 35) refl refl refl e
       where
         step : Bool → Bool → Bool → Got Scalar
         step a b c = elim a [ true ↦ valueAt t (i + 1) | false ↦ elim b [ true ↦ ofRate (hexFrom 16 t 0 (i + 1)) | false ↦ elim c [ true ↦ ofKind 4 (numberAt (2 ^ 32) t (i + 1)) | false ↦ got (scalar 0 0) i ] ] ]
 
-        being : (y : Scalar) → y ≡ x → Back i n y → Back i n x
-        being y q h = subst (Back i n) q h
-
-        sign : (c : ℕ) → 0 < c → eqb (byteAt t i) c ≡ true → drop i t ≡ c ∷ drop (i + 1) t
-        sign c l h = byte-there i c (eqb-true _ _ h) l ∙ ap (λ m. c ∷ drop m t) (sym (add-one i))
-
-        go : (a b c : Bool) → eqb (byteAt t i) 61 ≡ a → eqb (byteAt t i) 126 ≡ b → eqb (byteAt t i) 35 ≡ c → step a b c ≡ got x n → Back i n x
-        go true b c p q r h = sign 61 (omega arith) p ∙ value-back (i + 1) n x h
+        go : (a b c : Bool) → eqb (byteAt t i) 61 ≡ a → eqb (byteAt t i) 126 ≡ b → eqb (byteAt t i) 35 ≡ c → step a b c ≡ got x n → Back (drop i t) n x
+        go true b c p q r h = mark-there 61 i (omega arith) (eqb-true _ _ p) ∙ value-back (i + 1) n x h
         go false true c p q r h =
             let (v, f, s) = rate-of n x (hexFrom 16 t 0 (i + 1)) h in
             let stays = rate-stays i v n (eqb-true _ _ q) f in
-            being (scalar 3 (oneZero v)) s (sign 126 (omega arith) q ∙ ap (126 ∷_) (bits-back (i + 1) v n f ∙ ap (λ y. hexDigits 16 y ++ drop n t) (sym stays)))
-        go false false true p q r h = let (v, f, s) = number-of 4 n x (numberAt (2 ^ 32) t (i + 1)) h in being (scalar 4 v) s (sign 35 (omega arith) r ∙ ap (35 ∷_) (number-back (2 ^ 32) (i + 1) v n f))
-        go false false false p q r h = let s : scalar 0 0 ≡ x = cc in let m : i ≡ n = cc in being (scalar 0 0) s (ap (λ y. drop y t) m)
+            being (drop i t) n s (mark-there 126 i (omega arith) (eqb-true _ _ q) ∙ ap (126 ∷_) (bits-back (i + 1) v n f ∙ ap (λ y. hexDigits 16 y ++ drop n t) (sym stays)))
+        go false false true p q r h = let (v, f, s) = number-of 4 n x (numberAt (2 ^ 32) t (i + 1)) h in being (drop i t) n s (mark-there 35 i (omega arith) (eqb-true _ _ r) ∙ ap (35 ∷_) (number-back (2 ^ 32) (i + 1) v n f))
+        go false false false p q r h = let s : scalar 0 0 ≡ x = cc in let m : i ≡ n = cc in being (drop i t) n s (ap (λ y. drop y t) m)
 
     -- names that are found are shown
     module _ (symbol : List ℕ → Option ℕ) (name : ℕ → List ℕ) (shown : (w : List ℕ) (s : ℕ) → symbol w ≡ some s → name s ≡ w) where
@@ -263,9 +260,6 @@ module _ (t : List ℕ) where
       joined : {a b : List ℕ} (v w c : List ℕ) → a ≡ v ++ b → b ≡ w ++ c → a ≡ (v ++ w) ++ c
       joined v w c p q = p ∙ ap (v ++_) q ∙ sym (append-assoc v w c)
 
-      sign-back : (c i : ℕ) → 0 < c → byteAt t i ≡ c → drop i t ≡ c ∷ drop (i + 1) t
-      sign-back c i l e = byte-there i c e l ∙ ap (λ m. c ∷ drop m t) (sym (add-one i))
-
       mutual
         unfolding termText
 
@@ -273,12 +267,12 @@ module _ (t : List ℕ) where
         pub term-back : {i n : ℕ} {u : Tree} → TermAt symbol t i u n → drop i t ≡ termText name u ++ drop n t
         term-back (leaf {next = next} {n = n} {s = s} {k = k} {p = p} h b q) = joined (name s) (scalarText k p) (drop n t) (name-back h) (scalar-back next n (scalar k p) q)
         term-back (branch {next = next} {n = n} {s = s} {f = f} h b a) =
-            joined (name s) (behindText name (scalarText 0 0) f) (drop n t) (name-back h) (sign-back 40 next (omega arith) b ∙ ap (40 ∷_) (args-back a) ∙ ap (_++ drop n t) (sym (behind-args (scalarText 0 0) a)))
+            joined (name s) (behindText name (scalarText 0 0) f) (drop n t) (name-back h) (mark-there 40 next (omega arith) b ∙ ap (40 ∷_) (args-back a) ∙ ap (_++ drop n t) (sym (behind-args (scalarText 0 0) a)))
 
         args-back : {i n : ℕ} {f : Forest} → ArgsAt symbol t i f n → drop i t ≡ argsText f ++ drop n t
-        args-back (last {next = next} {n = n} {u = u} h b m) = joined (termText name u) (41 ∷ []) (drop n t) (term-back h) (sign-back 41 next (omega arith) b ∙ ap (λ x. 41 ∷ drop x t) (sym m))
+        args-back (last {next = next} {n = n} {u = u} h b m) = joined (termText name u) (41 ∷ []) (drop n t) (term-back h) (mark-there 41 next (omega arith) b ∙ ap (λ x. 41 ∷ drop x t) (sym m))
         args-back (more {next = next} {n = n} {u = u} {f = f} h b a) =
-            joined (termText name u) (restText name f) (drop n t) (term-back h) (sign-back 44 next (omega arith) b ∙ ap (44 ∷_) (args-back a) ∙ ap (_++ drop n t) (sym (rest-args a)))
+            joined (termText name u) (restText name f) (drop n t) (term-back h) (mark-there 44 next (omega arith) b ∙ ap (44 ∷_) (args-back a) ∙ ap (_++ drop n t) (sym (rest-args a)))
 
 -- a whole text
 text-back : (symbol : List ℕ → Option ℕ) (name : ℕ → List ℕ) → ((w : List ℕ) (s : ℕ) → symbol w ≡ some s → name s ≡ w) → (text : List ℕ) (u : Tree) → TermAt symbol text 0 u (length text) → termText name u ≡ zerosOne text
@@ -287,10 +281,10 @@ text-back symbol name shown text u h =
     let nothing : drop (length text) (zerosOne text) ≡ [] = ap (λ n. drop n (zerosOne text)) (sym (same-length text)) ∙ drop-length (zerosOne text) in
     sym (spelled ∙ ap (termText name u ++_) nothing ∙ append-nil (termText name u))
 
--- WRITING UNDOES READING BUT FOR ZEROS: the rows read from a text are written as the text with its zeros made one, for every set, both lists, every text and every space that is long enough.
-pub written-back : (set site builtIn text : List ℕ) (space : ℕ) (rows : List Row) → readOf set site builtIn text space ≡ rowsRead rows → (room : ℕ) → length text ≤ room → writeOf set site builtIn (encodeRows rows) room ≡ gives (zerosOne text)
-unfolding writeOf fitted
-written-back set site builtIn text space rows e room long =
+-- WRITING UNDOES READING BUT FOR ZEROS: the rows read from a text are written as the text with its zeros made one, for every set, both lists, every text and every space; 68 where that is too short.
+pub written-back : (set site builtIn text : List ℕ) (space : ℕ) (rows : List Row) → readOf set site builtIn text space ≡ rowsRead rows → (room : ℕ) → writeOf set site builtIn (encodeRows rows) room ≡ fitted room (zerosOne text)
+unfolding writeOf
+written-back set site builtIn text space rows e room =
     let (set-passes, names-pass, read) = read-passes set site builtIn text space rows e in
     let m = read-means set site builtIn text space rows e in
     let (again, table-passes) = both-passed (checkOf set) (tableCheckOf (decode set) (encodeRows rows)) (m .passes) in
@@ -299,5 +293,4 @@ written-back set site builtIn text space rows e room long =
     ap (λ r. termText (shownName site builtIn) (treeOf r)) back
     ∙ ap (termText (shownName site builtIn)) (m .same-tree)
     ∙ text-back (findName (length ((decode set) .arities)) site builtIn) (shownName site builtIn) (λ w s q. found-shown (length ((decode set) .arities)) site builtIn w s q .1) text (m .tree) (m .spelled) in
-    let fits : leb (length (zerosOne text)) room ≡ true = le-leb (length (zerosOne text)) room (omega (arith, same-length text)) in
-    (λ i. unlessRefused (set-passes i) (unlessRefused (names-pass i) (unlessRefused (table-passes i) (fitted room (is i))))) ∙ ap (λ b. cond b (gives (zerosOne text)) (refuses 68)) fits
+    λ i. unlessRefused (set-passes i) (unlessRefused (names-pass i) (unlessRefused (table-passes i) (fitted room (is i))))

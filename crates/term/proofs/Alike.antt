@@ -1,4 +1,4 @@
--- Two texts with the same names, scalars and signs at each place spell the same trees, and are read the same. Assumes nothing.
+-- Two texts with the same names, scalars and marks at each place spell the same trees, and are read the same. Assumes nothing.
 use mathlib.Core.Path.{_≡_, refl, sym, ap, _∙_}
 use mathlib.Core.Bool.{Bool, true, false, cond}
 use mathlib.Core.List.{List, [], _∷_}
@@ -17,11 +17,11 @@ use Rattle.term.specs.Grammar.{Setting, Outcome, good, refused, afterArg
 use Rattle.term.specs.Read.{wholeText, readText}
 use Rattle.term.specs.Spelling.{NameAt, TermAt, leaf, branch, ArgsAt, last, more}
 
--- the same length, letters, names and scalars, and the same bytes below the digits, as brackets and the comma are
+-- the same length, letters, names and scalars, and the same marks: bytes below the digits, as brackets and the comma are
 pub record AlikeTexts (t t′ : List ℕ) : Type 0 where
   pub size : length t ≡ length t′
   pub letters : (i : ℕ) → letter? (byteAt t i) ≡ letter? (byteAt t′ i)
-  pub signs : (c : ℕ) → c < 48 → (i : ℕ) → eqb (byteAt t i) c ≡ eqb (byteAt t′ i) c
+  pub marks : (c : ℕ) → c < 48 → (i : ℕ) → eqb (byteAt t i) c ≡ eqb (byteAt t′ i) c
   pub names : (i : ℕ) → letter? (byteAt t i) ≡ true → nameAt t i ≡ nameAt t′ i
   pub scalars : (i : ℕ) → scalarAt t i ≡ scalarAt t′ i
 
@@ -30,18 +30,18 @@ alike-sym t t′ a =
     record {
       size = sym (a .size);
       letters = λ i. sym (a .letters i);
-      signs = λ c s i. sym (a .signs c s i);
+      marks = λ c s i. sym (a .marks c s i);
       names = λ i l. sym (a .names i (a .letters i ∙ l));
       scalars = λ i. sym (a .scalars i);
     }
 
 module _ (t t′ : List ℕ) (a : AlikeTexts t t′) where
-  -- a sign at a place of one stands there in the other
-  sign-there : (c : ℕ) → c < 48 → (i : ℕ) → byteAt t i ≡ c → byteAt t′ i ≡ c
-  sign-there c s i e = eqb-true (byteAt t′ i) c (sym (a .signs c s i) ∙ eq-eqb (byteAt t i) c e)
+  -- a mark at a place of one stands there in the other
+  mark-there : (c : ℕ) → c < 48 → (i : ℕ) → byteAt t i ≡ c → byteAt t′ i ≡ c
+  mark-there c s i e = eqb-true (byteAt t′ i) c (sym (a .marks c s i) ∙ eq-eqb (byteAt t i) c e)
 
-  sign-back : (c : ℕ) → c < 48 → (i : ℕ) → byteAt t′ i ≡ c → byteAt t i ≡ c
-  sign-back c s i e = eqb-true (byteAt t i) c (a .signs c s i ∙ eq-eqb (byteAt t′ i) c e)
+  mark-back : (c : ℕ) → c < 48 → (i : ℕ) → byteAt t′ i ≡ c → byteAt t i ≡ c
+  mark-back c s i e = eqb-true (byteAt t i) c (a .marks c s i ∙ eq-eqb (byteAt t′ i) c e)
 
   module _ (symbol : List ℕ → Option ℕ) where
     name-there : {i s n : ℕ} → NameAt symbol t i s n → NameAt symbol t′ i s n
@@ -50,12 +50,12 @@ module _ (t t′ : List ℕ) (a : AlikeTexts t t′) where
     mutual
       -- THE SAME TREES
       pub term-there : {i n : ℕ} {u : Tree} → TermAt symbol t i u n → TermAt symbol t′ i u n
-      term-there (leaf {next = next} name b q) = leaf (name-there name) (λ e. b (sign-back 40 (omega arith) next e)) (sym (a .scalars next) ∙ q)
-      term-there (branch {next = next} name b args) = branch (name-there name) (sign-there 40 (omega arith) next b) (args-there args)
+      term-there (leaf {next = next} name b q) = leaf (name-there name) (λ e. b (mark-back 40 (omega arith) next e)) (sym (a .scalars next) ∙ q)
+      term-there (branch {next = next} name b args) = branch (name-there name) (mark-there 40 (omega arith) next b) (args-there args)
 
       args-there : {i n : ℕ} {f : Forest} → ArgsAt symbol t i f n → ArgsAt symbol t′ i f n
-      args-there (last {next = next} h b m) = last (term-there h) (sign-there 41 (omega arith) next b) m
-      args-there (more {next = next} h b args) = more (term-there h) (sign-there 44 (omega arith) next b) (args-there args)
+      args-there (last {next = next} h b m) = last (term-there h) (mark-there 41 (omega arith) next b) m
+      args-there (more {next = next} h b args) = more (term-there h) (mark-there 44 (omega arith) next b) (args-there args)
 
   -- argument lists, by readers of terms that do the same
   module _ (term term′ : ℕ → List Row → Outcome ℕ) (same : (at : ℕ) (rows : List Row) → term at rows ≡ term′ at rows) where
@@ -76,7 +76,7 @@ module _ (t t′ : List ℕ) (a : AlikeTexts t t′) where
 
         go : (o : Outcome ℕ) → ((next j : ℕ) (rs : List Row) → withFirst j (readArgs term t n (next + 1) rs) ≡ withFirst j (readArgs term′ t′ n (next + 1) rs)) → turn t (readArgs term t n) o ≡ turn t′ (readArgs term′ t′ n) o
         go (refused w p) f = refl
-        go (good j next rs) f = (λ i. by (a .signs 44 (omega arith) next i) (a .signs 41 (omega arith) next i) (withFirst j (readArgs term t n (next + 1) rs))) ∙ pick (eqb (byteAt t′ next) 44)
+        go (good j next rs) f = (λ i. by (a .marks 44 (omega arith) next i) (a .marks 41 (omega arith) next i) (withFirst j (readArgs term t n (next + 1) rs))) ∙ pick (eqb (byteAt t′ next) 44)
           where
             by : Bool → Bool → Outcome (List ℕ) → Outcome (List ℕ)
             by comma close x = elim comma [ true ↦ x | false ↦ cond close (good (j ∷ []) (next + 1) rs) (refused 63 next) ]
@@ -104,7 +104,7 @@ module _ (t t′ : List ℕ) (a : AlikeTexts t t′) where
 
         by-name : (n : Named) → ((x next : ℕ) → args t x next ≡ args t′ x next) → after t (args t) n ≡ after t′ (args t′) n
         by-name (unnamed w p) f = refl
-        by-name (named x next) f = (λ i. by (a .signs 40 (omega arith) next i) (args t x next) (a .scalars next i)) ∙ pick (eqb (byteAt t′ next) 40)
+        by-name (named x next) f = (λ i. by (a .marks 40 (omega arith) next i) (args t x next) (a .scalars next i)) ∙ pick (eqb (byteAt t′ next) 40)
           where
             by : Bool → Outcome ℕ → Got Scalar → Outcome ℕ
             by b o k = elim b [ true ↦ o | false ↦ afterScalar S at x rows k ]

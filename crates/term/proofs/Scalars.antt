@@ -13,8 +13,8 @@ use Rattle.model.proofs.Members.{T-true}
 use Rattle.model.proofs.Scalars.{one-zero-stands}
 use Rattle.names.specs.Names.{digit?}
 use Rattle.document.specs.declared.scalar.Scalar.{Scalar as Value}
-use Rattle.document.specs.Scalars.{rateOf, kindOf, payloadOf}
-use Rattle.document.proofs.Rates.{kind-rate, payload-rate}
+use Rattle.document.specs.Scalars.{rowRate, kindOf, payloadOf}
+use Rattle.document.proofs.Rates.{kind-row-rate, payload-row-rate}
 use Rattle.term.specs.Scan.{byteAt, Got, got, fault, digitValue, digitsFrom, numberAt, hexDigit?, hexValue, hexFrom, wordBytes, wordAt, Scalar, scalar, ofKind, ofRate, valueAt, scalarAt}
 use Rattle.term.specs.Answer.{numberOf}
 use Rattle.term.specs.declared.scan.NumberRead.{NumberRead}
@@ -230,10 +230,10 @@ module _ (k n e : ℕ) {r : NumberRead} {g : Got ℕ} (read : numberOf r ≡ g) 
 
 -- a rate's answer as a scalar's
 module _ (e : ℕ) {r : NumberRead} {g : Got ℕ} (read : numberOf r ≡ g) where
-  pub rate-number : (s : Value) (n : ℕ) → s ≡ rateOf n → n < 2 ^ 64 → r ≡ Number n e → got (scalar (kindOf s) (payloadOf s)) e ≡ ofRate g
+  pub rate-number : (s : Value) (n : ℕ) → s ≡ rowRate n → n < 2 ^ 64 → r ≡ Number n e → got (scalar (kindOf s) (payloadOf s)) e ≡ ofRate g
   rate-number s n q h f =
-      let k : kindOf s ≡ 3 = ap kindOf q ∙ kind-rate n in
-      let p : payloadOf s ≡ oneZero n = ap payloadOf q ∙ payload-rate n h in
+      let k : kindOf s ≡ 3 = ap kindOf q ∙ kind-row-rate n in
+      let p : payloadOf s ≡ oneZero n = ap payloadOf q ∙ payload-row-rate n h in
       rw (k, p) (ap ofRate (sym (ap numberOf f) ∙ read))
 
   pub rate-fault : r ≡ Fault e → fault e ≡ ofRate g

@@ -173,7 +173,7 @@ module _ (t : List ℕ) where
       go true e r = r e
       go false e r = refl
 
-  -- a rate: where both texts have another digit, it is one zero
+  -- a rate: where the two texts differ in a digit, both say zero
   same-rate : (i : ℕ) → ofRate (hexFrom 16 t′ 0 i) ≡ ofRate (hexFrom 16 t 0 i)
   unfolding hexFrom hexDigit? hexValue digit? oneZero
   same-rate i = go (signDigit? t i) refl
@@ -273,7 +273,7 @@ module _ (t : List ℕ) where
       record {
         size = sym same-length;
         letters = λ i. sym (alike letter? refl i);
-        signs = λ c l i. sym (alike (λ b. eqb b c) (ne-eqb 48 c (λ q. omega arith) ∙ sym (ne-eqb 56 c (λ q. omega arith))) i);
+        marks = λ c l i. sym (alike (λ b. eqb b c) (ne-eqb 48 c (λ q. omega arith) ∙ sym (ne-eqb 56 c (λ q. omega arith))) i);
         names = λ i l. sym (same-name i l);
         scalars = λ i. sym (same-scalar i);
       }

@@ -90,7 +90,7 @@ abbrev pub ofKind : ℕ → Got ℕ → Got Scalar
 ofKind k (got n e) = got (scalar k n) e
 ofKind k (fault p) = fault p
 
--- the bits of a rate as what stands in a row: of two zeros the positive one
+-- the bits of a rate as a row has them: minus zero becomes zero
 abbrev pub ofRate : Got ℕ → Got Scalar
 ofRate (got n e) = got (scalar 3 (oneZero n)) e
 ofRate (fault p) = fault p

@@ -16,6 +16,6 @@ unfoldable pub signDigit? : List ℕ → ℕ → Bool
 signDigit? t zero = false
 signDigit? t (suc i) = eqb (wordBytes minusZeroText t i) (length minusZeroText)
 
--- each `~8000000000000000` became `~0000000000000000`
+-- each `~8000000000000000` becomes `~0000000000000000`
 unfoldable pub zerosOne : List ℕ → List ℕ
 zerosOne t = tab (length t) (λ i. cond (signDigit? t i) 48 (byteAt t i))

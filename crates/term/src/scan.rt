@@ -3,7 +3,7 @@ use classes::is_digit;
 use classes::is_hex_digit;
 use classes::is_letter_or_digit;
 use document::Scalar;
-use document::scalar::rate_of;
+use document::scalar::row_rate;
 use names::lines::MAX_NAME;
 ghost use mathlib.Core.Path.{_≡_};
 ghost use mathlib.Core.Bool.{true, cond};
@@ -171,13 +171,13 @@ fn hex_bits(text: &[u8], classes: &[u8; 256], at: usize) -> NumberRead
     NumberRead::Number(v, i)
 }
 
-// The rate that 16 hex digits say, of two zeros the positive one.
+// The rate that 16 hex digits say; minus zero is taken for zero.
 fn rate(text: &[u8], classes: &[u8; 256], at: usize) -> ScalarRead
     requires lent { ⌜ now classes ≡ classTable ⌝ }
     ensures { λ r. ⌜ scalarOf r ≡ ofRate (hexFrom 16 (now (text .entry)) 0 at) ⌝ }
 {
     match hex_bits(text, classes, at) {
-        NumberRead::Number(n, e) => ScalarRead::Is(rate_of(n), e),
+        NumberRead::Number(n, e) => ScalarRead::Is(row_rate(n), e),
         NumberRead::Fault(p) => ScalarRead::Fault(p),
     }
 }

@@ -31,6 +31,7 @@ fn sets_and_tables() {
 /// Zeros of either sign in text, and the one that may not stand in a row in tables.
 #[test]
 fn zeros() {
+    let mut with_a_sign = 0;
     for seed in 0..SEEDS {
         let random = &mut Random::new(seed);
         let automaton = sets::automaton(random, &sets::small_sizes());
@@ -39,11 +40,13 @@ fn zeros() {
         let Some(text) = texts::of_loads(random, &automaton, &names) else { continue };
         let document = reference::read_term(&set, b"", b"", &text, space).expect("a sound text");
         assert_eq!(baseline::term::read(&set, b"", b"", &text, space), Ok(document.cells()), "seed {seed}");
+        with_a_sign += usize::from(text.windows(17).any(|bytes| bytes == b"~8000000000000000"));
         let table = rows::with_minus_zero(random, &document);
         let found = baseline::set::read(&set).and_then(|set| baseline::table::read(&set, &table));
         assert_eq!(found.err(), Some(14), "seed {seed}");
         assert_eq!(reference::check_document(&set, &table).map_err(number).err(), Some(14), "seed {seed}");
     }
+    assert!(with_a_sign >= 200, "only {with_a_sign} texts have a zero with its sign bit set");
 }
 
 #[test]

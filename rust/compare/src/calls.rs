@@ -1,5 +1,5 @@
 //! Comparisons of one call each, for functions that more than one test program calls. Each answers what both sides
-//! answered.
+//! answered, but for the steps of a yes, which are the library's.
 
 use cidhomba::interface;
 use reference::limits::{ROW_CELLS, STEP_CELLS};

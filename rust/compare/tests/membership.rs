@@ -95,8 +95,10 @@ fn the_examples_with_every_room_and_run_space() {
     let equal = example_document(&[Scalar::Count(7)]);
     let unequal = example_document(&[Scalar::Count(7), Scalar::Count(8)]);
     let zeros = example_document(&[Scalar::Rate(0), Scalar::Rate(MINUS_ZERO)]);
+    let one_zero = example_document(&[Scalar::Rate(0)]);
+    let next_rate = example_document(&[Scalar::Rate(0), Scalar::Rate(MINUS_ZERO + 1)]);
     for set in [set_e(), set_b(), set_d()] {
-        for document in [&equal, &unequal, &zeros] {
+        for document in [&equal, &unequal, &zeros, &one_zero, &next_rate] {
             for work in 0..=140 {
                 for run in [0, 5, 6, 11, 12, 17, 18, 23, 24, 30] {
                     compare(&set.encode(), &document.cells(), work, run);
@@ -108,6 +110,8 @@ fn the_examples_with_every_room_and_run_space() {
     assert_eq!(compare_with_room(&set_e(), &equal, 1).number(), Some(31));
     assert_eq!(compare_with_room(&set_e(), &unequal, 9), Answer::Value(0));
     assert_eq!(compare_with_room(&set_e(), &zeros, 9).number(), Some(14));
+    assert_eq!(compare_with_room(&set_e(), &one_zero, 9), Answer::Value(2));
+    assert_eq!(compare_with_room(&set_e(), &next_rate, 9), Answer::Value(0));
     assert_eq!(compare_with_room(&set_b(), &equal, 3), Answer::Value(3));
     assert_eq!(compare_with_room(&set_d(), &equal, 0), Answer::Value(0));
 }

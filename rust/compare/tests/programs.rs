@@ -139,17 +139,27 @@ fn seeded_sets_for_the_sample_program() {
 
 #[test]
 fn seeded_texts_for_the_judging_program() {
+    let mut two_zeros_let_in = 0;
     let outputs: Vec<String> = (0..INPUTS)
         .map(|seed| {
             let random = &mut Random::new(seed);
             let (automaton, text) = set_and_text(random);
             let set = set_bytes::stored(random, &automaton, 15);
-            JUDGE.compare(&[set, text].concat())
+            let output = JUDGE.compare(&[&set[..], &text].concat());
+            two_zeros_let_in += usize::from(has_two_zeros(&text) && output == "yes\n");
+            output
         })
         .collect();
+    assert!(two_zeros_let_in >= 10, "a text with both zeros was let in only {two_zeros_let_in} times");
     let refusals = ["refused 2\n", "refused 3\n", "refused 6\n", "refused 31\n", "refused 63 at "];
     must_have_seen(&outputs, &refusals);
     must_have_seen(&outputs, &["refused 64 at ", "refused 65 at ", "refused 66 at ", "yes\n", "no\n"]);
+}
+
+/// Whether a text spells a zero with its sign bit set, and one without.
+fn has_two_zeros(text: &[u8]) -> bool {
+    let spells = |rate: &[u8; 17]| text.windows(17).any(|bytes| bytes == rate);
+    spells(b"~0000000000000000") && spells(b"~8000000000000000")
 }
 
 /// A set and a text: of loads that are mostly zeros of either sign, of a document grown along the rules, or any.

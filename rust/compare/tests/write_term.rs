@@ -105,8 +105,11 @@ fn every_hex_digit_at_every_place_of_a_rate() {
     for bits in alone.chain(all_digits).chain(edges) {
         let row = Row { symbol: 1, children: vec![], scalar: Scalar::Rate(bits) };
         let answer = compare(&set_e().encode(), b"\na", b"", &row.cells(), 18);
-        let expected = if bits == MINUS_ZERO { Some(14) } else { None };
-        assert_eq!(answer.number(), expected, "{bits:016x}");
+        let expected = match bits {
+            MINUS_ZERO => Answer::Refused { number: 14, place: 0 },
+            _ => Answer::Value(18),
+        };
+        assert_eq!(answer, expected, "{bits:016x}");
     }
 }
 

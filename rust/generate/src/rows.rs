@@ -117,8 +117,8 @@ fn damage_once(random: &mut Random, cells: &mut Vec<u16>) {
     }
 }
 
-/// The cells of a sound table in which one leaf or several have the rate that may stand in no row (14, and 15 where two
-/// of them have one symbol).
+/// The cells of a sound table in which one leaf or several have the rate that may stand in no row: 14, which is tried
+/// before 15, due too where two of them have one symbol.
 pub fn with_minus_zero(random: &mut Random, document: &Document) -> Vec<u16> {
     let mut cells = document.cells();
     for _ in 0..random.pick(&[1, 1, 2, 4]) {

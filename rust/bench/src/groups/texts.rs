@@ -5,30 +5,37 @@ use generate::export::{agreed_set, export, Columns};
 use generate::Random;
 use reference::{Document, Row, Scalar};
 
-/// A text with its rows.
+/// A text with its rows, under a name that tells its length.
 pub struct Text {
+    pub name: String,
     pub bytes: Vec<u8>,
     pub rows: Vec<u16>,
 }
 
 impl Text {
-    fn of(rows: Vec<u16>, names: Names) -> Text {
+    fn of(rows: Vec<u16>, names: Names, name: fn(&str) -> String) -> Text {
         let set = agreed_set().encode();
         let bytes = reference::write_term(&set, names.site, names.built_in, &rows, usize::MAX);
-        Text { bytes: bytes.expect("a sound table"), rows }
+        let bytes = bytes.expect("a sound table");
+        let name = name(&format!("{:.1} KB", bytes.len() as f64 / 1000.0));
+        Text { name, bytes, rows }
     }
 
-    /// The length, to be shown.
-    pub fn size(&self) -> String {
-        format!("{:.1} KB", self.bytes.len() as f64 / 1000.0)
+    /// The same text with its rows as a reader numbers them, by first finishing.
+    pub fn renumbered(self, names: Names) -> Text {
+        let set = agreed_set().encode();
+        let document = reference::read_term(&set, names.site, names.built_in, &self.bytes, self.rows.len());
+        Text { rows: document.expect("a sound text").cells(), ..self }
     }
 }
 
-/// The three texts, with the names given.
-pub fn all(names: Names) -> [Text; 3] {
+/// The three exports and the text of rates, with the names given.
+pub fn all(names: Names) -> [Text; 4] {
     let [small, middling] = [7, 75].map(|servers| export(servers, Columns::Agreed).cells());
     let large = a_hundred_times(&middling);
-    [small, middling, large].map(|rows| Text::of(rows, names))
+    let [small, middling, large] =
+        [small, middling, large].map(|rows| Text::of(rows, names, |size| format!("text of {size}")));
+    [small, middling, large, of_rates(names)]
 }
 
 /// A table a hundred times over, by rows over four others: no table has more than 1,024 rows.
@@ -41,9 +48,9 @@ fn a_hundred_times(rows: &[u16]) -> Vec<u16> {
     rows
 }
 
-/// A text of 1,024 rates of any bits, over five levels of rows with four children. 683 of the rates differ, which
+/// A text of 1,024 random rates, over five levels of rows with four children. 683 of the rates differ, which
 /// with the 341 rows over them is as many rows as a table can have.
-pub fn of_rates(names: Names) -> Text {
+fn of_rates(names: Names) -> Text {
     const DIFFERENT: usize = 683;
     let random = &mut Random::new(4);
     let rate = |_| Row { symbol: DOWNTIME, children: vec![], scalar: Scalar::Rate(random.word()) };
@@ -58,7 +65,7 @@ pub fn of_rates(names: Names) -> Text {
         }));
         level = (first..rows.len()).collect();
     }
-    Text::of(Document { rows }.cells(), names)
+    Text::of(Document { rows }.cells(), names, |size| format!("{size} of rates"))
 }
 
 /// The symbol `fields`.

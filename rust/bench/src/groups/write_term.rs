@@ -12,16 +12,13 @@ pub fn measure() {
     let list = name_list();
     let names = Names { site: list.as_bytes(), built_in: b"" };
     let table = Table::open("Writing term text");
-    let exports = texts::all(names).map(|text| (format!("text of {}", text.size()), text));
-    let rates = texts::of_rates(names);
-    let rates = (format!("{} of rates", rates.size()), rates);
-    for (input, text) in exports.into_iter().chain([rates]) {
+    for text in texts::all(names) {
         let space = text.bytes.len();
         let mut out = vec![0; space];
         let rust = || baseline::term::write(&set, names.site, names.built_in, &text.rows, space);
         assert_eq!(write_term(&set, names, &text.rows, &mut out), Ok(&text.bytes[..]));
         assert_eq!(rust().as_ref(), Ok(&text.bytes));
         let library = || write_term(&set, names, &text.rows, &mut out).map(<[u8]>::len);
-        table.row(&input, library, rust);
+        table.row(&text.name, library, rust);
     }
 }

@@ -39,7 +39,7 @@ rate c =
       c .before .before .match .keys4,
       lt-ltb (c .before .before .before .args .payload) (2 ^ 64) (search needs),
       ne-eqb _ _ (c .before .if3 .left),
-    ) (ap Is (c .rate-with .ensures))
+    ) (ap Is (c .rate-of .ensures))
 
 name : tie.Need-returns-8
 unfolding scalarAt

@@ -1,4 +1,4 @@
--- Every 64 bits are a rate's, of two zeros the positive one's. Assumes nothing.
+-- Every 64 bits are a rate's; those of minus zero give zero. Assumes nothing.
 use Prim.Native.Nat.{_^_}
 use mathlib.Core.Path.{sym, ap, _∙_}
 use native.Mathlib.Omega.{arith}
@@ -11,7 +11,7 @@ use Rattle.term.proofs.scan.rate.Tie as tie
 returns : tie.Need-returns
 returns c =
     let small = read-is (NumberFrom (2 ^ 64) _) _ _ (sym (c .before .before .before .before .hex-bits .ensures) ∙ ap numberOf (c .before .before .n .given .1)) (hex-below _ 16 0 _ 0 (omega arith)) in
-    rate-number _ (c .before .before .before .before .hex-bits .ensures) _ _ (c .rate-of .ensures) (small .0) (c .before .before .n .given .1)
+    rate-number _ (c .before .before .before .before .hex-bits .ensures) _ _ (c .row-rate .ensures) (small .0) (c .before .before .n .given .1)
 
 pub rate-spec : {M : Type 1} → statement M
 rate-spec =
