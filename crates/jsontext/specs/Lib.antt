@@ -1,4 +1,5 @@
 pub mod Utf8
 pub mod Strings
+pub mod Decoded
 pub mod Number
 pub mod Spaces

@@ -129,12 +129,7 @@ stringFrom (suc f) t i =
       | bad p ↦ fault p
     ]
 
--- the string whose opening quote stands at i: its decoded bytes and the place after it, or the fault's place
+-- the string at i, from its opening quote on: its decoded bytes and the place after it, or the fault's place
 unfoldable pub stringAt : List ℕ → ℕ → Got (List ℕ)
 unfolding stringFrom
-stringAt t i = stringFrom (length t - i) t (i + 1)
-
--- the place alone
-abbrev pub placeOf : Got (List ℕ) → Stretch
-placeOf (got bs n) = upTo n
-placeOf (fault p) = brokenAt p
+stringAt t i = elim (eqb (byteAt t i) 34) [ true ↦ stringFrom (length t - i) t (i + 1) | false ↦ fault i ]
