@@ -23,3 +23,4 @@ pub mod Sound
 pub mod Lent
 pub mod Building
 pub mod Floats
+pub mod Ready

@@ -14,7 +14,7 @@ use Rattle.document.specs.declared.index.Probed.{Probed}
 use Rattle.document.specs.declared.index.Probed.the-variants.{Found, Free, Crowded}
 use Rattle.document.specs.declared.builder.Placed.{Placed}
 use Rattle.document.specs.declared.builder.Placed.the-variants.{Known, Added, Full}
-use Rattle.document.specs.Rows.{rowCells, rowIn, rowsBelow, encodeRow}
+use Rattle.document.specs.Rows.{rowCells, rowIn, rowsBelow, encodeRow, encodeRows}
 use Rattle.document.specs.Fields.{asRow}
 use Rattle.document.specs.Index.{startSlot, probe, Indexed}
 
@@ -60,3 +60,10 @@ pub record Grows (cells slots : List ℕ) (n limit : ℕ) (r : Row) (p : Placing
   pub full : p .answer ≡ Full → (findRow r (rowsBelow cells n) ≡ none) × (roomFor? cells n limit ≡ false) × (p .cells ≡ cells) × (p .slots ≡ slots)
   pub earlier : take (n * rowCells) (p .cells) ≡ take (n * rowCells) cells
   pub size : length (p .cells) ≡ length cells
+
+-- What a reader builds on: so many rows in the cells, which the slots index, and room for as many as the limit.
+pub record Ready (cells slots : List ℕ) (rows limit : ℕ) : Type 0 where
+  pub built : Built cells slots rows
+  pub encoded : take (rows * rowCells) cells ≡ encodeRows (rowsBelow cells rows)
+  pub few : limit ≤ maxRows
+  pub room : limit * rowCells ≤ length cells

@@ -1,0 +1,3 @@
+pub mod Holding
+pub mod Nodes
+pub mod Closing

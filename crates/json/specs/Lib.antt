@@ -1,0 +1,6 @@
+pub mod Signature
+pub mod Keys
+pub mod Value
+pub mod Grammar
+pub mod Read
+pub mod State

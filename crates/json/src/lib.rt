@@ -1,0 +1,2 @@
+// The reader of JSON text (document 02, Wish 1).
+pub mod rows; // rows.rt: rows of what was read
