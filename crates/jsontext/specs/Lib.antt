@@ -2,4 +2,5 @@ pub mod Utf8
 pub mod Strings
 pub mod Decoded
 pub mod Number
+pub mod Rate
 pub mod Spaces

@@ -1,1 +1,3 @@
 // JSON (RFC 8259) at a place of a text: white space, strings, numbers.
+mod rate; // rate.rt: a decimal number as a rate
+pub mod spaces; // spaces.rt: white space

@@ -30,9 +30,10 @@ use Rattle.term.specs.Read.{rowsRead, readOf}
 use Rattle.term.specs.Spelling.{NameAt, TermAt, leaf, branch, ArgsAt, last, more}
 use Rattle.term.proofs.Symbols.{named-bytes}
 use Rattle.term.proofs.TextTable.{read-passes, read-means}
-use Rattle.term.proofs.Leading.{counted}
+use Rattle.base.proofs.Leading.{counted}
 use Rattle.term.proofs.Zeros.{minus-there, same-length, none-left, zeros-tree}
-use Rattle.term.proofs.Bytes.{inside, digit-range, hex-above, low-hex, high-hex}
+use Rattle.base.proofs.Bytes.{inside}
+use Rattle.term.proofs.Bytes.{digit-range, hex-above, low-hex, high-hex}
 use Rattle.spelling.specs.Text.{hexDigit, hexDigits, scalarText, termText, behindText, restText}
 use Rattle.spelling.specs.Write.{fitted, unlessRefused, tableText, writeOf}
 use Rattle.spelling.proofs.Decimal.{decimal-last, decimal-more}

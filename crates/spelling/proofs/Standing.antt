@@ -15,7 +15,7 @@ use Rattle.model.proofs.Members.{T-and, T-true}
 use Rattle.names.specs.Names.{letter?, nameByte?, maxName, name?}
 use Rattle.term.specs.Scan.{byteAt, got, fault, nameBytes, nameAt, wordBytes, wordAt}
 use Rattle.term.specs.Grammar.{named, knownAs, symbolOf}
-use Rattle.term.proofs.Leading.{Led, led-stop, led-all}
+use Rattle.base.proofs.Leading.{Led, led-stop, led-all}
 use Rattle.term.proofs.Symbols.{name-whole}
 
 -- from place i on the text is l

@@ -1,5 +1,4 @@
 pub mod Bytes
-pub mod Leading
 pub mod Numbers
 pub mod Scalars
 pub mod Ending

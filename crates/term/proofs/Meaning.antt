@@ -24,10 +24,12 @@ use Rattle.term.specs.Scan.{byteAt, Got, got, fault, nameAt, Scalar, sca
 use Rattle.term.specs.Grammar.{Setting, Outcome, good, refused, rowOf, placeRow, endTerm, afterArgs, afterScalar, withFirst, readArgs, Named, named, unnamed, knownAs, symbolOf, readTerm}
 use Rattle.term.specs.Spelling.{NameAt, TermAt, leaf, branch, ArgsAt, last, more as after-comma}
 use Rattle.term.specs.State.{settingOf}
-use Rattle.term.proofs.Bytes.{past, letter-inside}
+use Rattle.base.proofs.Bytes.{past}
+use Rattle.base.proofs.Got.{Reads, read-is}
+use Rattle.term.proofs.Bytes.{letter-inside}
 use Rattle.term.proofs.Listing.{Ahead, Ends}
 use Rattle.term.proofs.Reading.{no-letter}
-use Rattle.term.proofs.Scalars.{Reads, ScalarFrom, read-is, scalar-reads}
+use Rattle.term.proofs.Scalars.{ScalarFrom, scalar-reads}
 use Rattle.term.proofs.Symbols.{named-after}
 
 -- what was read passes a test; a refusal has a number of document 01

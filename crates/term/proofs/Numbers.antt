@@ -2,21 +2,14 @@
 use mathlib.Core.Path.{_≡_, refl, sym, _∙_}
 use mathlib.Core.Bool.{true, false}
 use mathlib.Core.List.{List}
-use Prim.Native.Nat.{ℕ, suc, _+_, _-_, _*_, _/_, _^_, _<_, _≤_}
-use native.Mathlib.Nat.{le-div-iff-mul-le, div-lt-iff-lt-mul, pow-le-pow-right, pow-suc}
+use Prim.Native.Nat.{ℕ, suc, _+_, _-_, _*_, _^_, _<_, _≤_}
+use native.Mathlib.Nat.{pow-le-pow-right, pow-suc}
 use native.Mathlib.Numerals.{add-one}
 use native.Mathlib.Omega.{arith}
 use borrow.Author.Tests.{lt-ltb, le-ltb}
 use lib.ListN.{length}
 use Rattle.names.specs.Names.{digit?}
 use Rattle.term.specs.Scan.{byteAt, got, fault, digitValue, digitsFrom, hexDigit?, hexValue, hexFrom}
-
--- after the number v a digit d stays at most `most` exactly where v is at most a tenth of what d leaves
-pub tenth-fits : (v d most : ℕ) → d ≤ most → v ≤ (most - d) / 10 → v * 10 + d ≤ most
-tenth-fits v d most l h = let k : v * 10 ≤ most - d = le-div-iff-mul-le {k = 10} (omega arith) .0 h in omega arith
-
-pub tenth-past : (v d most : ℕ) → (most - d) / 10 < v → most < v * 10 + d
-tenth-past v d most h = let k : most - d < v * 10 = div-lt-iff-lt-mul {k = 10} (omega arith) .0 h in omega arith
 
 -- one digit
 module _ (limit : ℕ) (t : List ℕ) (v i n : ℕ) where

@@ -11,6 +11,7 @@ use lib.ListN.{length, getD}
 use Rattle.model.specs.Table.{rate?, oneZero, scalar?}
 use Rattle.model.proofs.Members.{T-true}
 use Rattle.model.proofs.Scalars.{one-zero-stands}
+use Rattle.base.proofs.Got.{Reads, reads, none-read, read-as}
 use Rattle.names.specs.Names.{digit?}
 use Rattle.document.specs.declared.scalar.Scalar.{Scalar as Value}
 use Rattle.document.specs.Scalars.{rowRate, kindOf, payloadOf}
@@ -20,7 +21,6 @@ use Rattle.term.specs.Answer.{numberOf}
 use Rattle.term.specs.declared.scan.NumberRead.{NumberRead}
 use Rattle.term.specs.declared.scan.NumberRead.the-variants.{Number, Fault}
 use Rattle.term.proofs.Bytes.{digit-range, hex-value-below}
-use Rattle.term.proofs.Leading.{counted}
 
 -- a number, b being the byte at i
 module _ (limit : ℕ) (t : List ℕ) (i b : ℕ) (here : b ≡ byteAt t i) where
@@ -59,19 +59,6 @@ rate-is n h = rw (T-true (rate? (oneZero n)) .0 (one-zero-stands n h)) tt
 
 name-is : (n : ℕ) → n < 2 ^ 32 → T (scalar? 4 n)
 name-is n h = rw (lt-ltb n (2 ^ 32) h) tt
-
--- what was read, with the place after it, passes a test
-pub data Reads {A : Type 0} (P : A → ℕ → Type 0) : Got A → Type 0 where
-  reads : {v : A} {e : ℕ} → P v e → Reads P (got v e)
-  none-read : {p : ℕ} → Reads P (fault p)
-
-pub read-is : {A : Type 0} (P : A → ℕ → Type 0) (v : A) (e : ℕ) {g : Got A} → g ≡ got v e → Reads P g → P v e
-read-is P v e q (reads {v = w} {e = f} h) = let y : w ≡ v = cc in let z : f ≡ e = cc in rw (y, z) at h
-read-is P v e q none-read = let z : _≡_ {A = ℕ} 0 1 = cc in absurd (omega arith)
-
-pub read-as : {A : Type 0} (P Q : A → ℕ → Type 0) {g : Got A} → ((v : A) (e : ℕ) → P v e → Q v e) → Reads P g → Reads Q g
-read-as P Q f (reads h) = reads (f _ _ h)
-read-as P Q f none-read = none-read
 
 pub read-kind : (P : ℕ → ℕ → Type 0) (Q : Scalar → ℕ → Type 0) (k : ℕ) {g : Got ℕ} → ((n e : ℕ) → P n e → Q (scalar k n) e) → Reads P g → Reads Q (ofKind k g)
 read-kind P Q k f (reads h) = reads (f _ _ h)
@@ -126,20 +113,6 @@ hex-below t (suc n) v i k h = go (hexDigit? (byteAt t i)) refl (λ d. next (hex-
         → Reads (NumberFrom (16 ^ (k + suc n)) i) (elim a [ true ↦ hexFrom n t (v * 16 + hexValue (byteAt t i)) (suc i) | false ↦ fault i ])
     go true e f = f e
     go false e f = none-read
-
-pub word-short : (w t : List ℕ) (i n : ℕ) → n ≡ wordBytes w t i → n ≤ length w
-unfolding wordBytes
-word-short w t i n e = let k = counted (λ k. eqb (byteAt t (i + k)) (getD w k 0)) (length w) .inside in omega arith
-
--- a word
-module _ {A : Type 0} (v : A) (w t : List ℕ) (i n : ℕ) (count : n ≡ wordBytes w t i) where
-  pub word-whole : n ≡ length w → got v (i + n) ≡ wordAt v w t i
-  unfolding wordAt
-  word-whole e = let f : eqb (wordBytes w t i) (length w) ≡ true = eq-eqb _ _ (sym count ∙ e) in rw (f, ← count)
-
-  pub word-broken : (n ≡ length w → ⊥) → fault (i + n) ≡ wordAt v w t i
-  unfolding wordAt
-  word-broken h = let f : eqb (wordBytes w t i) (length w) ≡ false = ne-eqb _ _ (λ e. h (count ∙ e)) in rw (f, ← count)
 
 -- after `=`, b being the byte at i
 module _ (t : List ℕ) (i b : ℕ) (here : b ≡ byteAt t i) where

@@ -24,10 +24,11 @@ use Rattle.term.specs.Scan.{byteAt, got, scalar, scalarAt}
 use Rattle.term.specs.Grammar.{Setting, good, rowOf, placeRow, endTerm, afterArgs, afterScalar, withFirst, readArgs, named, readTerm}
 use Rattle.term.specs.Read.{rowsRead, refusedAt, wholeText, readText, settingFor, readOf}
 use Rattle.term.specs.Spelling.{NameAt, TermAt, leaf, branch, ArgsAt, last, more, Ranked, RankedIn}
+use Rattle.base.proofs.Got.{read-is}
 use Rattle.term.proofs.Bytes.{letter-inside}
 use Rattle.term.proofs.Listing.{turn-comma, turn-end}
 use Rattle.term.proofs.Reading.{term-leaf, term-args}
-use Rattle.term.proofs.Scalars.{ScalarFrom, read-is, scalar-reads}
+use Rattle.term.proofs.Scalars.{ScalarFrom, scalar-reads}
 use Rattle.term.proofs.Symbols.{named-after}
 use Rattle.term.proofs.Whole.{passed}
 

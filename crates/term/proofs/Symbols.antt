@@ -15,7 +15,7 @@ use Rattle.names.specs.declared.table.Found.the-variants.{Symbol, Unknown}
 use Rattle.term.specs.Scan.{byteAt, leading, nameBytes, nameAt}
 use Rattle.term.specs.Grammar.{named, unnamed, knownAs, symbolOf}
 use Rattle.term.proofs.Bytes.{name-inside}
-use Rattle.term.proofs.Leading.{counted}
+use Rattle.base.proofs.Leading.{counted}
 
 letter-in-name : (b : ℕ) → letter? b ≡ true → nameByte? b ≡ true
 unfolding nameByte?

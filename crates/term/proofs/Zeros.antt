@@ -23,8 +23,9 @@ use Rattle.term.specs.Scan.{byteAt, Got, got, fault, leading, nameBytes,
 use Rattle.term.specs.Zeros.{minusZeroText, signDigit?, zerosOne}
 use Rattle.term.specs.Spelling.{TermAt}
 use Rattle.term.specs.Read.{settingFor, unlessRefused, readOf}
-use Rattle.term.proofs.Bytes.{inside, letter-range}
-use Rattle.term.proofs.Leading.{led-all, counted}
+use Rattle.base.proofs.Bytes.{inside}
+use Rattle.term.proofs.Bytes.{letter-range}
+use Rattle.base.proofs.Leading.{led-all, counted}
 use Rattle.term.proofs.Symbols.{name-fits}
 use Rattle.term.proofs.Alike.{AlikeTexts, alike-sym, term-there, text-same}
 

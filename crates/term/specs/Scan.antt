@@ -3,23 +3,11 @@ use mathlib.Core.List.{List, [], _∷_}
 use mathlib.Core.Bool.{Bool, true, false, _&&_, _||_, cond}
 use Prim.Native.Nat.{ℕ, zero, suc, _+_, _-_, _*_, _^_}
 use lib.Dec.{eqb, leb, ltb}
-use lib.ListN.{length, getD, take, drop}
+use lib.ListN.{length, take, drop}
+pub use Rattle.base.specs.Text.{byteAt, Got, got, fault}
+unfoldable pub use Rattle.base.specs.Text.{leading, wordBytes, wordAt}
 use Rattle.model.specs.Table.{oneZero}
 use Rattle.names.specs.Names.{digit?, nameByte?, maxName}
-
--- the byte at i; past the end 0, which no rule allows
-abbrev pub byteAt : List ℕ → ℕ → ℕ
-byteAt t i = getD t i 0
-
--- what stands at a place: a value and the place after it, or the place of the byte that no rule allows
-pub data Got (A : Type 0) : Type 0 where
-  got : A → ℕ → Got A
-  fault : ℕ → Got A
-
--- how many of the tests p 0, p 1, .. pass before one fails, at most n
-unfoldable pub leading : ℕ → (ℕ → Bool) → ℕ
-leading zero p = 0
-leading (suc n) p = elim (p 0) [ true ↦ suc (leading n (λ k. p (suc k))) | false ↦ 0 ]
 
 -- how many name bytes stand at i, counted up to one more than a name may have
 unfoldable pub nameBytes : List ℕ → ℕ → ℕ
@@ -28,14 +16,6 @@ nameBytes t i = leading (suc maxName) (λ k. nameByte? (byteAt t (i + k)))
 -- the name at i; a 17th name byte is a fault
 unfoldable pub nameAt : List ℕ → ℕ → Got (List ℕ)
 nameAt t i = cond (leb (nameBytes t i) maxName) (got (take (nameBytes t i) (drop i t)) (i + nameBytes t i)) (fault (i + maxName))
-
--- how many bytes of the word w stand at i
-unfoldable pub wordBytes : List ℕ → List ℕ → ℕ → ℕ
-wordBytes w t i = leading (length w) (λ k. eqb (byteAt t (i + k)) (getD w k 0))
-
--- the word w at i, which says v; a fault at the first byte that differs
-unfoldable pub wordAt : {A : Type 0} → A → List ℕ → List ℕ → ℕ → Got A
-wordAt v w t i = cond (eqb (wordBytes w t i) (length w)) (got v (i + wordBytes w t i)) (fault (i + wordBytes w t i))
 
 -- a digit's value
 abbrev pub digitValue : ℕ → ℕ

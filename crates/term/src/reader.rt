@@ -1,12 +1,12 @@
 // Terms and argument lists: the two readers call each other, the level falling; siblings are a loop.
 use crate::scan::ScalarRead;
-use crate::scan::byte_at;
 use crate::scan::name_bytes;
 use crate::scan::scalar_at;
 use automaton::arity;
 use base::limits::PLACES;
 use base::limits::UNUSED;
 use base::numbers::size;
+use base::text::byte_at;
 use classes::is_letter;
 use document::Scalar;
 use document::builder::Placed;

@@ -1,4 +1,6 @@
 // Names and scalars at a place of a text; a byte past the end counts as 0, which no rule allows.
+use base::text::byte_at;
+use base::text::word_bytes;
 use classes::is_digit;
 use classes::is_hex_digit;
 use classes::is_letter_or_digit;
@@ -11,7 +13,7 @@ ghost use Prim.Native.Nat.{_+_, _-_, _<_, _≤_, _^_};
 ghost use lib.ListN.{length};
 ghost use Rattle.classes.specs.Classes.{classTable};
 ghost use Rattle.names.specs.Names.{digit?};
-ghost use Rattle.term.specs.Scan.{byteAt, nameBytes, wordBytes, wordAt, digitValue, digitsFrom, numberAt, hexDigit?, hexValue, hexFrom, scalar, ofKind, ofRate, valueAt, scalarAt};
+ghost use Rattle.term.specs.Scan.{nameBytes, wordAt, digitValue, digitsFrom, numberAt, hexDigit?, hexValue, hexFrom, scalar, ofKind, ofRate, valueAt, scalarAt};
 ghost use Rattle.term.specs.Answer.{numberOf, scalarOf};
 
 const HEX_DIGITS: usize = 16;
@@ -32,13 +34,6 @@ pub(crate) enum ScalarRead {
     Fault(usize),
 }
 
-// The byte at a place; past the end 0.
-pub(crate) fn byte_at(text: &[u8], i: usize) -> u8
-    ensures { λ r. ⌜ r ≡ byteAt (now (text .entry)) i ⌝ }
-{
-    if i < text.len() { text[i] } else { 0 }
-}
-
 // How many name bytes stand at a place, counted up to one more than a name may have.
 pub(crate) fn name_bytes(text: &[u8], classes: &[u8; 256], at: usize) -> usize
     requires lent { ⌜ now classes ≡ classTable ⌝ }
@@ -52,21 +47,6 @@ pub(crate) fn name_bytes(text: &[u8], classes: &[u8; 256], at: usize) -> usize
         }
         n += 1;
         i += 1;
-    }
-    n
-}
-
-// How many bytes of a word stand at a place.
-fn word_bytes(text: &[u8], at: usize, word: &[u8]) -> usize
-    requires { ⌜ at + length (now word) < 2 ^ 64 ⌝ }
-    ensures { λ r. ⌜ r ≡ wordBytes (now (word .entry)) (now (text .entry)) at ⌝ }
-{
-    let mut n = 0;
-    while n < word.len() {
-        if byte_at(text, at + n) != word[n] {
-            return n;
-        }
-        n += 1;
     }
     n
 }

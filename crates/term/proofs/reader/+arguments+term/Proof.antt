@@ -13,7 +13,7 @@ use Rattle.names.specs.Names.{letter?, findIn}
 use Rattle.names.specs.Table.{nameIn}
 use Rattle.term.specs.Grammar.{afterArgs, readTerm}
 use Rattle.term.specs.State.{settingOf, namedOf}
-use Rattle.term.proofs.Bytes.{byte-inside}
+use Rattle.base.proofs.Bytes.{byte-inside}
 use Rattle.term.proofs.Ending.{says-by}
 use Rattle.term.proofs.Reading.{no-letter, too-deep, term-unnamed, term-leaf, term-args}
 use Rattle.term.proofs.Listing.{Listing, list-start, list-refused, list-ready, list-ahead, list-held, list-last, list-other, list-more, says-bare}
@@ -26,13 +26,13 @@ use Rattle.term.proofs.reader.+arguments+term.Lts-arguments as argument
 use Rattle.term.proofs.reader.term.Reads as term
 use Rattle.term.proofs.reader.term.Kinds as term-kinds
 use Rattle.term.proofs.reader.+arguments+term.Lts-term as term-lts
+use Rattle.base.proofs.text.byte_at.Reads as byte-at-reads
 use Rattle.classes.proofs.is_letter.Reads as is-letter-reads
 use Rattle.term.proofs.reader.end_term.Reads as end-term-reads
 use Rattle.term.proofs.reader.leaf.Reads as leaf-reads
 use Rattle.term.proofs.reader.no_children.Reads as no-children-reads
 use Rattle.term.proofs.reader.symbol_at.Reads as symbol-at-reads
 use Rattle.term.proofs.reader.with_child.Reads as with-child-reads
-use Rattle.term.proofs.scan.byte_at.Reads as byte-at-reads
 use Rattle.term.proofs.reader.+arguments+term.{statement}
 use Rattle.term.proofs.reader.+arguments+term.Tie.{close}
 

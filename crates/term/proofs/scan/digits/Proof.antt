@@ -9,7 +9,8 @@ use borrow.Author.Needs.{needs}
 use borrow.Author.Tests.{not-true, not-false}
 use Rattle.names.specs.Names.{digit?}
 use Rattle.term.specs.Scan.{byteAt}
-use Rattle.term.proofs.Numbers.{Digits, digits-none, digits-end, digits-stop, digits-past, digits-more, tenth-fits, tenth-past}
+use Rattle.base.proofs.Tenths.{tenth-fits, tenth-past}
+use Rattle.term.proofs.Numbers.{Digits, digits-none, digits-end, digits-stop, digits-past, digits-more}
 use Rattle.term.proofs.scan.digits.Statement.{statement}
 use Rattle.term.proofs.scan.digits.Tie as tie
 

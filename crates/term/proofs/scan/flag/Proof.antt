@@ -1,7 +1,7 @@
 -- The word is whole, or it breaks off. Assumes nothing.
 use native.Mathlib.Omega.{arith}
 use borrow.Author.Needs.{needs}
-use Rattle.term.proofs.Scalars.{word-whole, word-broken, word-short}
+use Rattle.base.proofs.Words.{word-whole, word-broken, word-short}
 use Rattle.term.proofs.scan.flag.Statement.{statement}
 use Rattle.term.proofs.scan.flag.Tie as tie
 

@@ -8,7 +8,7 @@ use denote.Ref.{now}
 use Rattle.names.specs.Names.{nameByte?}
 use Rattle.term.specs.Scan.{byteAt, nameBytes}
 use Rattle.term.proofs.Bytes.{name-inside}
-use Rattle.term.proofs.Leading.{Led, led-none, led-more, led-stop, led-all}
+use Rattle.base.proofs.Leading.{Led, led-none, led-more, led-stop, led-all}
 use Rattle.term.proofs.scan.name_bytes.Statement.{statement}
 use Rattle.term.proofs.scan.name_bytes.Tie as tie
 

@@ -4,7 +4,8 @@ use mathlib.Core.Path.{sym, ap, _∙_}
 use native.Mathlib.Omega.{arith}
 use borrow.Author.Needs.{needs}
 use Rattle.term.specs.Answer.{numberOf}
-use Rattle.term.proofs.Scalars.{NumberFrom, read-is, number-below, kind-number, kind-fault}
+use Rattle.base.proofs.Got.{read-is}
+use Rattle.term.proofs.Scalars.{NumberFrom, number-below, kind-number, kind-fault}
 use Rattle.term.proofs.scan.name_number.Statement.{statement}
 use Rattle.term.proofs.scan.name_number.Tie as tie
 

@@ -4,7 +4,8 @@ use mathlib.Core.Path.{sym, ap, _∙_}
 use native.Mathlib.Omega.{arith}
 use borrow.Author.Needs.{needs}
 use Rattle.term.specs.Answer.{numberOf}
-use Rattle.term.proofs.Scalars.{NumberFrom, read-is, hex-below, rate-number, rate-fault}
+use Rattle.base.proofs.Got.{read-is}
+use Rattle.term.proofs.Scalars.{NumberFrom, hex-below, rate-number, rate-fault}
 use Rattle.term.proofs.scan.rate.Statement.{statement}
 use Rattle.term.proofs.scan.rate.Tie as tie
 

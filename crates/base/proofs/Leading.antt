@@ -4,7 +4,7 @@ use mathlib.Core.Bool.{Bool, true, false}
 use Prim.Native.Nat.{ℕ, zero, suc, _+_, _<_, _≤_}
 use native.Mathlib.Omega.{arith}
 use borrow.Author.Count.{below-more}
-use Rattle.term.specs.Scan.{leading}
+use Rattle.base.specs.Text.{leading}
 
 -- of m tests the first n pass
 pub record Led (p : ℕ → Bool) (m n : ℕ) : Type 0 where

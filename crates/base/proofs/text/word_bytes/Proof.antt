@@ -5,10 +5,10 @@ use borrow.Author.Needs.{needs}
 use borrow.Author.Tests.{eq-eqb, ne-eqb}
 use lib.Dec.{eqb}
 use lib.ListN.{length, getD}
-use Rattle.term.specs.Scan.{byteAt, wordBytes}
-use Rattle.term.proofs.Leading.{Led, led-none, led-more, led-stop, led-all}
-use Rattle.term.proofs.scan.word_bytes.Statement.{statement}
-use Rattle.term.proofs.scan.word_bytes.Tie as tie
+use Rattle.base.specs.Text.{byteAt, wordBytes}
+use Rattle.base.proofs.Leading.{Led, led-none, led-more, led-stop, led-all}
+use Rattle.base.proofs.text.word_bytes.Statement.{statement}
+use Rattle.base.proofs.text.word_bytes.Tie as tie
 
 abbrev Inv-loop : tie.InvT-loop
 Inv-loop text at word n₀ n = Led (λ k. eqb (byteAt text (at + k)) (getD word k 0)) (length word) n
@@ -20,12 +20,12 @@ returns : tie.Need-returns Inv-loop μ-loop
 unfolding wordBytes
 returns c =
     led-stop _ _ _ (c .before .before .before .before .loop .inv) (c .before .before .before .loop-test .taken)
-    (ne-eqb _ _ (λ e. c .if1 .taken (c .before .before .byte-at .ensures ∙ e)))
+    (ne-eqb _ _ (λ e. c .if1 .taken (c .before .before .byte-behind .ensures ∙ e)))
 
 loop-again : tie.Need-loop-again Inv-loop μ-loop
 loop-again c =
     led-more _ _ _ (c .before .before .before .before .loop .inv) (c .before .before .before .loop-test .taken)
-    (eq-eqb _ _ (sym (c .before .before .byte-at .ensures) ∙ c .if1 .left))
+    (eq-eqb _ _ (sym (c .before .before .byte-behind .ensures) ∙ c .if1 .left))
 
 returns-2 : tie.Need-returns-2 Inv-loop μ-loop
 unfolding wordBytes
@@ -38,7 +38,6 @@ word-bytes-spec =
     Inv-loop
     μ-loop
     (λ c. led-none _ _)
-    (λ c. search needs)
     (λ c κs. search needs)
     (λ c. search needs)
     returns
