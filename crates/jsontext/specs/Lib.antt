@@ -3,3 +3,4 @@ pub mod Strings
 pub mod Decoded
 pub mod Number
 pub mod Spaces
+pub mod Productions
