@@ -1,3 +1,7 @@
 pub mod Places
 pub mod SpaceProductions
 pub mod NumberProductions
+pub mod SequenceProductions
+pub mod HexProductions
+pub mod CharProductions
+pub mod StringProductions

@@ -1,12 +1,13 @@
 -- Bytes at places of a text and tests on them, for the productions, and what is said of anything that was read. Assumes nothing.
-use mathlib.Core.Path.{_≡_, refl, sym, _∙_}
+use mathlib.Core.Path.{_≡_, refl, sym, ap, _∙_}
 use mathlib.Core.Bool.{Bool, true, false, _&&_, _||_}
-use mathlib.Core.List.{List, [], _∷_}
+use mathlib.Core.List.{List, [], _∷_, List·Memᴰ as In, List·Memᴰ·head as here, List·Memᴰ·tail as there}
 use Prim.Native.Nat.{ℕ, zero, suc, _<_, _≤_}
 use native.Mathlib.Omega.{arith}
-use borrow.Author.Tests.{leb-true, leb-false, le-leb, lt-leb, eq-eqb}
-use lib.Dec.{eqb, leb}
+use borrow.Author.Tests.{leb-true, leb-false, le-leb, lt-leb, lt-ltb, eq-eqb}
+use lib.Dec.{eqb, leb, ltb}
 use lib.ListN.{length}
+use Rattle.model.specs.Lists.{any}
 use Rattle.base.specs.Text.{byteAt, Got, got, fault}
 use Rattle.jsontext.specs.Utf8.{between}
 
@@ -18,6 +19,9 @@ pub stands : (t : List ℕ) (i : ℕ) (p : ℕ → Bool) → p 0 ≡ false → p
 stands [] i p none e = never (sym e ∙ none)
 stands (x ∷ xs) zero p none e = omega arith
 stands (x ∷ xs) (suc i) p none e = let k = stands xs i p none e in omega arith
+
+pub stands-above : (t : List ℕ) (i : ℕ) → 0 < byteAt t i → i < length t
+stands-above t i h = stands t i (ltb 0) refl (lt-ltb 0 (byteAt t i) h)
 
 pub stands-as : (t : List ℕ) (i b : ℕ) → eqb 0 b ≡ false → byteAt t i ≡ b → i < length t
 stands-as t i b other e = stands t i (λ x. eqb x b) other (eq-eqb _ _ e)
@@ -33,6 +37,11 @@ either false b f g h = g h
 pub neither : (a b : Bool) → (a || b) ≡ false → (a ≡ false) × (b ≡ false)
 neither true b e = never e
 neither false b e = (refl, e)
+
+-- none of a list
+pub none-of : {A : Type 0} (p : A → Bool) {xs : List A} {x : A} → any p xs ≡ false → In x xs → p x ≡ false
+none-of p {x = x} none (here {x = y} {xs = xs} e) = ap p e ∙ neither (p y) (any p xs) none .0
+none-of p none (there {x = y} {xs = xs} h) = none-of p (neither (p y) (any p xs) none .1) h
 
 -- a test between two bounds
 module _ (lo hi b : ℕ) where

@@ -2,7 +2,7 @@
 use mathlib.Core.Path.{_≡_}
 use mathlib.Core.Bool.{Bool, true, false, _||_}
 use mathlib.Core.List.{List, [], _∷_, _++_, List·Memᴰ as In}
-use Prim.Native.Nat.{ℕ, _+_, _-_, _*_, _<_}
+use Prim.Native.Nat.{ℕ, _+_, _-_, _*_}
 use lib.Dec.{eqb}
 use lib.ListN.{take, drop}
 use Rattle.classes.specs.Classes.{digit?, eitherHexDigit?, space?}
@@ -90,20 +90,16 @@ pub record SequenceAt (t : List ℕ) (i n : ℕ) : Type 0 where
   pub leads : row .lead (byteAt t i) ≡ true
   pub follow : PassAt t (row .more) (i + 1) n
 
--- the letter after an escape, and the byte that the two stand for
-pub data Letter : ℕ → ℕ → Type 0 where
-  quotation-mark : Letter 34 34
-  reverse-solidus : Letter 92 92
-  solidus : Letter 47 47
-  backspace : Letter 98 8
-  form-feed : Letter 102 12
-  line-feed : Letter 110 10
-  carriage-return : Letter 114 13
-  tab : Letter 116 9
+-- the letters after an escape and the bytes that they stand for: quotation mark, reverse solidus, solidus, backspace, form feed, line feed, carriage return, tab
+abbrev pub letters : List (ℕ × ℕ)
+letters = (34, 34) ∷ (92, 92) ∷ (47, 47) ∷ (98, 8) ∷ (102, 12) ∷ (110, 10) ∷ (114, 13) ∷ (116, 9) ∷ []
 
 -- 4HEXDIG: the number v
 pub record Hex4 (t : List ℕ) (i v : ℕ) : Type 0 where
-  pub digits : (k : ℕ) → k < 4 → eitherHexDigit? (byteAt t (i + k)) ≡ true
+  pub first : eitherHexDigit? (byteAt t i) ≡ true
+  pub second : eitherHexDigit? (byteAt t (i + 1)) ≡ true
+  pub third : eitherHexDigit? (byteAt t (i + 2)) ≡ true
+  pub fourth : eitherHexDigit? (byteAt t (i + 3)) ≡ true
   pub value : v ≡ ((hexValue (byteAt t i) * 16 + hexValue (byteAt t (i + 1))) * 16 + hexValue (byteAt t (i + 2))) * 16 + hexValue (byteAt t (i + 3))
 
 -- escape %x75 4HEXDIG; escape = %x5C
@@ -123,7 +119,7 @@ lowSurrogate? v = between 56320 57343 v
 pub data CharAt (t : List ℕ) : ℕ → List ℕ → ℕ → Type 0 where
   unescaped : {i n : ℕ} → unescaped? (byteAt t i) ≡ true → n ≡ i + 1 → CharAt t i (byteAt t i ∷ []) n
   above-7F : {i n : ℕ} → SequenceAt t i n → CharAt t i (take (n - i) (drop i t)) n
-  letter : {i n b : ℕ} → byteAt t i ≡ 92 → Letter (byteAt t (i + 1)) b → n ≡ i + 2 → CharAt t i (b ∷ []) n
+  letter : {i n b : ℕ} → byteAt t i ≡ 92 → In (byteAt t (i + 1), b) letters → n ≡ i + 2 → CharAt t i (b ∷ []) n
   unicode : {i n v : ℕ} → UnicodeAt t i v → surrogate? v ≡ false → n ≡ i + 6 → CharAt t i (utf8 v) n
   pair : {i n v w : ℕ} → UnicodeAt t i v → high? v ≡ true → UnicodeAt t (i + 6) w → lowSurrogate? w ≡ true → n ≡ i + 12 → CharAt t i (utf8 (paired v w)) n
 
