@@ -1,10 +1,10 @@
 -- A piece of a string that is read is a char by its production, and a char by its production is read as a piece. Assumes nothing.
 use mathlib.Core.Path.{_≡_, refl, sym, ap, subst, _∙_}
-use mathlib.Core.Bool.{Bool, true, false, not, _&&_, _||_, cond}
+use mathlib.Core.Bool.{Bool, true, false, not, _||_, cond}
 use mathlib.Core.List.{List, [], _∷_, List·Memᴰ as In, List·Memᴰ·head as here, List·Memᴰ·tail as there}
 use Prim.Native.Nat.{ℕ, _+_, _-_, _<_, _≤_}
 use native.Mathlib.Omega.{arith}
-use borrow.Author.Tests.{eq-eqb, ne-eqb, eqb-true, eqb-false, lt-ltb, le-ltb, ltb-true, ltb-false, not-true, not-false}
+use borrow.Author.Tests.{eq-eqb, ne-eqb, eqb-true, eqb-false, lt-ltb, le-ltb, ltb-true, ltb-false, not-false}
 use lib.Dec.{eqb, ltb}
 use lib.ListN.{length, take, drop}
 use lib.Seq.{drop-cons}
@@ -13,8 +13,8 @@ use Rattle.classes.specs.Classes.{control?}
 use Rattle.base.specs.Text.{byteAt, Got, got, fault}
 use Rattle.jsontext.specs.Utf8.{between, Stretch, upTo, brokenAt, sequenceAt, utf8}
 use Rattle.jsontext.specs.Strings.{simple, firstUnit, secondUnit, high?, paired, Piece, closed, raw, code, bad, asPair, pairAt, unicodeAt, escapeAt, asRaw, pieceAt}
-use Rattle.jsontext.specs.Productions.{unescaped?, SequenceAt, letters, Hex4, UnicodeAt, surrogate?, lowSurrogate?, CharAt, unescaped, above-7F, letter, unicode, pair}
-use Rattle.jsontext.proofs.Places.{stands, stands-above, stands-as, both, either, none-of, in-range, range-in, range-below, range-above, past-range}
+use Rattle.jsontext.specs.Productions.{unescaped?, letters, Hex4, UnicodeAt, surrogate?, lowSurrogate?, CharAt, unescaped, above-7F, letter, unicode, pair}
+use Rattle.jsontext.proofs.Places.{stands-above, either, none-of, in-range, range-below, past-range}
 use Rattle.jsontext.proofs.SequenceProductions.{sequence-read, read-sequence, sequence-above, sequence-ahead}
 use Rattle.jsontext.proofs.HexProductions.{first-read, read-first, second-read, read-second, hex-inside}
 

@@ -2,7 +2,7 @@
 use mathlib.Core.Path.{_≡_, refl, sym, ap, _∙_}
 use mathlib.Core.Bool.{Bool, true, false, _&&_, _||_}
 use mathlib.Core.List.{List}
-use Prim.Native.Nat.{ℕ, zero, suc, _+_, _*_, _<_, _≤_}
+use Prim.Native.Nat.{ℕ, suc, _+_, _*_, _<_}
 use native.Mathlib.Omega.{arith}
 use borrow.Author.Tests.{eqb-true, eqb-false, ltb-true, ltb-false, leb-true, leb-false}
 use lib.Dec.{eqb, leb, ltb}
@@ -10,7 +10,7 @@ use lib.ListN.{length, getD}
 use Rattle.model.specs.Lists.{tab}
 use Rattle.model.proofs.Tab.{tab-at}
 use Rattle.classes.specs.Classes.{digit?, eitherHexDigit?}
-use Rattle.base.specs.Text.{byteAt, Got, got, fault}
+use Rattle.base.specs.Text.{byteAt, got, fault}
 use Rattle.jsontext.specs.Utf8.{between}
 use Rattle.jsontext.specs.Strings.{hexValue, hexFrom, dee?, low?, firstUnit, secondUnit}
 use Rattle.jsontext.specs.Productions.{Hex4, lowSurrogate?}
@@ -27,9 +27,9 @@ module _ (b : ℕ) (hex : eitherHexDigit? b ≡ true) where
 
   by-byte : (f g : ℕ → Bool) → tab 256 (λ x. eitherHexDigit? x && f x) ≡ tab 256 (λ x. eitherHexDigit? x && g x) → f b ≡ g b
   by-byte f g e =
-      let r : (eitherHexDigit? b && f b) ≡ (eitherHexDigit? b && g b) =
-        sym (tab-at false 256 (λ x. eitherHexDigit? x && f x) b byte) ∙ ap (λ (l : List Bool). getD l b false) e ∙ tab-at false 256 (λ x. eitherHexDigit? x && g x) b byte in
-      rw hex at r
+      let p = tab-at false 256 (λ x. eitherHexDigit? x && f x) b byte in
+      let q = tab-at false 256 (λ x. eitherHexDigit? x && g x) b byte in
+      rw hex at (sym p ∙ ap (λ (l : List Bool). getD l b false) e ∙ q)
 
   small : hexValue b < 16
   unfolding eitherHexDigit? digit? hexValue

@@ -5,3 +5,4 @@ pub mod SequenceProductions
 pub mod HexProductions
 pub mod CharProductions
 pub mod StringProductions
+pub mod Tries

@@ -1,5 +1,5 @@
 -- A number that is read is one by its production, and one by its production that nothing could make longer is read. Assumes nothing.
-use mathlib.Core.Path.{_≡_, refl, sym, ap, subst, _∙_}
+use mathlib.Core.Path.{_≡_, refl, sym, ap, _∙_}
 use mathlib.Core.Bool.{Bool, true, false, _||_, cond}
 use mathlib.Core.List.{List}
 use Prim.Native.Nat.{ℕ, zero, suc, _+_, _-_, _<_, _≤_}
@@ -11,7 +11,7 @@ use Rattle.classes.specs.Classes.{digit?}
 use Rattle.base.specs.Text.{byteAt, Got, got, fault}
 use Rattle.jsontext.specs.Utf8.{between}
 use Rattle.jsontext.specs.Number.{Digits, digitsOf, noDigits, withDigit, Number, digitsFrom, someDigits, wholeAt, signEnd, withExponent, exponentAt, plainNumber, afterFraction, fractionAt, afterWhole, numberAt}
-use Rattle.jsontext.specs.Productions.{DigitsAt, no-digit, digit, SomeDigitsAt, IntAt, only-zero, digit1-9, FracAt, e?, SignAt, no-sign, sign-minus, sign-plus, ExpAt, exp, MinusOption, no-minus, minus, FracOption, no-frac, frac, ExpOption, no-exp, with-exp, NumberAt, number, continues?}
+use Rattle.jsontext.specs.Productions.{DigitsAt, no-digit, digit, SomeDigitsAt, IntAt, only-zero, digit1-9, e?, SignAt, no-sign, sign-minus, sign-plus, exp, MinusOption, no-minus, minus, FracOption, no-frac, frac, ExpOption, no-exp, with-exp, NumberAt, number, continues?}
 use Rattle.jsontext.proofs.Places.{stands, stands-as, either, neither, in-range, range-in, range-below, range-above, Reads, reads, none-read, read-is, read-as}
 
 -- digits and other bytes

@@ -1,13 +1,13 @@
 -- UTF-8 sequences of two bytes or more: what is read is a row of the table, and a row of the table is read, since the rows begin with different bytes. Assumes nothing.
 use mathlib.Core.Path.{_≡_, refl, sym, ap, subst, _∙_}
-use mathlib.Core.Bool.{Bool, true, false, _||_}
+use mathlib.Core.Bool.{Bool, true, false}
 use mathlib.Core.List.{List, [], _∷_, List·Memᴰ as In, List·Memᴰ·head as here, List·Memᴰ·tail as there}
 use Prim.Native.Nat.{ℕ, suc, _+_, _<_, _≤_}
 use native.Mathlib.Omega.{arith}
 use lib.ListN.{length}
 use Rattle.model.specs.Lists.{any}
 use Rattle.base.specs.Text.{byteAt}
-use Rattle.jsontext.specs.Utf8.{between, upTo, brokenAt, Sequence, sequence, tail, sequences, passAt, sequenceIn, sequenceAt}
+use Rattle.jsontext.specs.Utf8.{between, upTo, brokenAt, Sequence, sequences, passAt, sequenceIn, sequenceAt}
 use Rattle.jsontext.specs.Productions.{PassAt, no-more, pass, SequenceAt}
 use Rattle.jsontext.proofs.Places.{stands, stands-above, neither, none-of, in-range}
 

@@ -68,7 +68,7 @@ pub data ExpOption (t : List ℕ) : ℕ → Bool → ℕ → Type 0 where
 -- number = [ minus ] int [ frac ] [ exp ]
 pub data NumberAt (t : List ℕ) : ℕ → Number → ℕ → Type 0 where
   number : {i j k l n places : ℕ} {d e : Digits} {negative fraction exponent : Bool} → MinusOption t i negative j → IntAt t j d k → FracOption t d k e places fraction l → ExpOption t l exponent n
-    → NumberAt t i (record { negative = negative; digits = e; places = places; fraction = fraction; exponent = exponent }) n
+      → NumberAt t i (record { negative = negative; digits = e; places = places; fraction = fraction; exponent = exponent }) n
 
 -- a byte that could make the number before it longer: a digit, the decimal point, e; a number ends before another
 unfoldable pub continues? : ℕ → Bool
