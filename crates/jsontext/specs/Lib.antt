@@ -4,3 +4,4 @@ pub mod Decoded
 pub mod Number
 pub mod Rate
 pub mod Spaces
+pub mod Productions
