@@ -3,3 +3,6 @@ pub mod Strings
 pub mod Decoded
 pub mod Number
 pub mod Spaces
+pub mod Lead
+pub mod Scanned
+pub mod StringAnswers
