@@ -8,3 +8,10 @@ pub mod HexProductions
 pub mod CharProductions
 pub mod StringProductions
 pub mod Tries
+pub mod Tested
+pub mod LeadRows
+pub mod HexDigits
+pub mod Ways
+pub mod PieceEnds
+pub mod PlainRuns
+pub mod Scanning

@@ -5,3 +5,6 @@ pub mod Number
 pub mod Rate
 pub mod Spaces
 pub mod Productions
+pub mod Lead
+pub mod Scanned
+pub mod StringAnswers

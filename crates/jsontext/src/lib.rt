@@ -1,3 +1,7 @@
 // JSON (RFC 8259) at a place of a text: white space, strings, numbers.
 mod rate; // rate.rt: a decimal number as a rate
 pub mod spaces; // spaces.rt: white space
+mod utf8; // utf8.rt: sequences of bytes above 127
+mod pieces; // pieces.rt: what stands at a place of a string
+mod plain; // plain.rt: bytes that stand for themselves
+pub mod strings; // strings.rt: a string's end

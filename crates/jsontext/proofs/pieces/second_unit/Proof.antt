@@ -1,0 +1,43 @@
+-- The definition's tests. Assumes nothing.
+use mathlib.Core.Path.{_≡_, sym, ap, _∙_}
+use mathlib.Core.Bool.{true}
+use Prim.Native.Nat.{_+_}
+use borrow.Author.Needs.{needs}
+use native.Mathlib.Omega.{arith}
+use borrow.Author.Tests.{not-true, not-false}
+use denote.Ref.{now}
+use Rattle.base.specs.Text.{byteAt}
+use Rattle.jsontext.specs.Strings.{dee?, low?}
+use Rattle.jsontext.proofs.Tested.{tested}
+use Rattle.jsontext.proofs.Ways.{dee-inside, second-other, second-high, second-low}
+use Rattle.jsontext.proofs.pieces.second_unit.Statement.{statement}
+use Rattle.jsontext.proofs.pieces.second_unit.Tie as tie
+
+-- the first digit is d
+module _ (c : tie.Else1) where
+  dee : dee? (byteAt (now (c .before .before .before .before .args .text)) (c .before .before .before .before .args .at)) ≡ true
+  dee = tested dee? (c .before .before .byte-at .ensures) (c .before .is-dee .ensures) (not-false (c .before .is-dee .result) (c .if1 .left))
+
+returns : tie.Need-returns
+returns c = second-other _ _ (tested dee? (c .before .before .byte-at .ensures) (c .before .is-dee .ensures) (not-true (c .before .is-dee .result) (c .if1 .taken)))
+
+returns-2 : tie.Need-returns-2
+returns-2 c = second-high _ _ (dee (c .before .before .before)) (tested low? (c .before .before .byte-at2 .ensures) (c .before .is-low .ensures) (not-true (c .before .is-low .result) (c .if2 .taken)))
+
+returns-3 : tie.Need-returns-3
+returns-3 c = c .hex .ensures ∙ second-low _ _ (dee (c .before .before .before .before)) (tested low? (c .before .before .before .byte-at2 .ensures) (c .before .before .is-low .ensures) (not-false (c .before .before .is-low .result) (c .before .if2 .left)))
+
+pub second-unit-spec : {M : Type 1} → statement M
+second-unit-spec =
+    tie.close
+    (tie.spec
+    (λ c κs. search needs)
+    (λ c κs. search needs)
+    returns
+    (λ c. omega (arith, dee-inside (now (c .before .before .before .before .args .text)) (c .before .before .before .before .args .at) (dee c)))
+    (λ c κs. search needs)
+    (λ c κs. search needs)
+    (λ c. omega (arith, dee-inside (now (c .before .before .before .before .before .before .before .args .text)) (c .before .before .before .before .before .before .before .args .at) (dee (c .before .before .before))))
+    returns-2
+    (λ c κs. search needs)
+    returns-3)
