@@ -1,3 +1,4 @@
 pub mod Holding
 pub mod Nodes
 pub mod Closing
+pub mod Finding
