@@ -2,3 +2,4 @@ pub mod Holding
 pub mod Nodes
 pub mod Closing
 pub mod Finding
+pub mod Texting
