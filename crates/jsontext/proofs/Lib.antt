@@ -1,2 +1,6 @@
 pub mod Blanks
 pub mod Rates
+pub mod DigitRuns
+pub mod NumberWays
+pub mod NumberSizes
+pub mod NumberScalars
