@@ -15,3 +15,7 @@ pub mod Ways
 pub mod PieceEnds
 pub mod PlainRuns
 pub mod Scanning
+pub mod DigitRuns
+pub mod NumberWays
+pub mod NumberSizes
+pub mod NumberScalars
