@@ -5,3 +5,6 @@ pub mod Ways
 pub mod PieceEnds
 pub mod PlainRuns
 pub mod Scanning
+pub mod Packing
+pub mod Handing
+pub mod Comparing

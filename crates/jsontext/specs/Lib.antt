@@ -6,3 +6,5 @@ pub mod Spaces
 pub mod Lead
 pub mod Scanned
 pub mod StringAnswers
+pub mod Streams
+pub mod Compared
