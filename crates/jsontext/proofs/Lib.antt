@@ -19,3 +19,6 @@ pub mod DigitRuns
 pub mod NumberWays
 pub mod NumberSizes
 pub mod NumberScalars
+pub mod Packing
+pub mod Handing
+pub mod Comparing

@@ -33,8 +33,13 @@ part-cons t i n h k =
     let z : n - i ≡ suc (n - (i + 1)) = omega arith in
     rw (z, drop-cons t i 0 (omega arith), add-one i)
 
+pub part-snoc : (t : List ℕ) (i n : ℕ) → i ≤ n → n < length t → part t i (n + 1) ≡ part t i n ++ byteAt t n ∷ []
+part-snoc t i n h k =
+    sym (part-join t i n (n + 1) h (omega arith))
+    ∙ ap (λ (l : List ℕ). part t i n ++ l) (part-cons t n (n + 1) (omega arith) (omega arith) ∙ ap (λ (l : List ℕ). byteAt t n ∷ l) (part-none t (n + 1)))
+
 -- ---- one piece more
-front-join : (a b : List ℕ) (g : Got (List ℕ)) → withFront a (withFront b g) ≡ withFront (a ++ b) g
+pub front-join : (a b : List ℕ) (g : Got (List ℕ)) → withFront a (withFront b g) ≡ withFront (a ++ b) g
 front-join a b (got more n) = ap (λ (l : List ℕ). got l n) (sym (append-assoc a b more))
 front-join a b (fault p) = refl
 

@@ -9,3 +9,5 @@ pub mod Productions
 pub mod Lead
 pub mod Scanned
 pub mod StringAnswers
+pub mod Streams
+pub mod Compared

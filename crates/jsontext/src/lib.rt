@@ -6,3 +6,5 @@ mod utf8; // utf8.rt: sequences of bytes above 127
 mod pieces; // pieces.rt: what stands at a place of a string
 mod plain; // plain.rt: bytes that stand for themselves
 pub mod strings; // strings.rt: a string's end
+mod streams; // streams.rt: the decoded bytes of a string, one by one
+pub mod decoded; // decoded.rt: strings compared after decoding
