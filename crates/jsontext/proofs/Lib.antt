@@ -18,7 +18,9 @@ pub mod Scanning
 pub mod DigitRuns
 pub mod NumberWays
 pub mod NumberSizes
+pub mod NumberParts
 pub mod NumberScalars
 pub mod Packing
 pub mod Handing
 pub mod Comparing
+pub mod NumberNearest

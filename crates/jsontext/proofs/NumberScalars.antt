@@ -14,7 +14,7 @@ use Rattle.document.specs.declared.scalar.Scalar.the-variants.{Count}
 use Rattle.jsontext.specs.Number.{Digits, Number, withExponent, plainNumber, count?, decimal?, rate, numberScalar, asScalar}
 use Rattle.jsontext.specs.NumberAnswer.{carried}
 use Rattle.jsontext.specs.declared.number.DigitRun.{DigitRun}
-use Rattle.jsontext.proofs.Rates.{power-below}
+use Rattle.jsontext.proofs.NumberSizes.{few-digits}
 
 -- a number with an exponent is neither a count nor a rate
 abbrev raised : Number → Number
@@ -36,10 +36,6 @@ module _ (m : Number) (g : Got Digits) (e : ℕ) where
 
   pub exponent-faults : g ≡ fault e → fault e ≡ asScalar (withExponent m g)
   exponent-faults q = ap (λ (x : Got Digits). asScalar (withExponent m x)) (sym q)
-
--- at most 15 digits that are as long as they are many
-pub few-digits : (v n : ℕ) → v < 10 ^ n → n ≤ 15 → v < 10 ^ 15
-few-digits v n h l = let p = power-below n 15 l in omega arith
 
 module _ (s f : Bool) (k : ℕ) (r : DigitRun) (d : Digits) (held : r ≡ carried d) (next : ℕ) where
   v-is : r .value ≡ min (d .value) (2 ^ 64 - 1)

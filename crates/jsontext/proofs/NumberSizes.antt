@@ -1,27 +1,22 @@
 -- Digits are as long as they are many, so at most 15 of them are below 10^15. Assumes nothing.
-use mathlib.Core.Path.{_≡_, refl, sym, ap, _∙_}
-use mathlib.Core.Bool.{Bool, true, false, cond}
+use mathlib.Core.Path.{_≡_, refl}
+use mathlib.Core.Bool.{Bool, true, false, _||_, cond}
 use mathlib.Core.List.{List}
-use mathlib.Core.Option.{Option}
-use Prim.Native.Nat.{ℕ, zero, suc, _+_, _-_, _^_, _<_, _≤_, min}
+use Prim.Native.Nat.{ℕ, zero, suc, _+_, _-_, _^_, _<_, _≤_}
 use native.Mathlib.Nat.{le-refl}
 use native.Mathlib.Omega.{arith}
 use lib.Dec.{eqb}
 use lib.ListN.{length}
 use Rattle.base.specs.Text.{byteAt, Got, got, fault}
-use Rattle.base.proofs.Got.{Reads, reads, none-read, read-is, read-as}
+use Rattle.base.proofs.Got.{Reads, reads, none-read, read-as}
 use Rattle.classes.specs.Classes.{digit?}
 use Rattle.classes.proofs.Ranges.{digit-range}
-use Rattle.document.specs.declared.scalar.Scalar.{Scalar}
-use Rattle.jsontext.specs.Number.{Digits, Number, digitsOf, noDigits, withDigit, digitsFrom, someDigits, wholeAt, exponentAt, plainNumber, afterFraction, fractionAt, afterWhole, asScalar}
-use Rattle.jsontext.specs.NumberAnswer.{carried, carriedAt, Sized, Carried}
-use Rattle.jsontext.specs.declared.number.DigitRun.{DigitRun}
-use Rattle.jsontext.specs.declared.number.DigitsRead.{DigitsRead}
-use Rattle.jsontext.specs.declared.number.DigitsRead.the-variants.{Digits as Run, Fault as NoDigits}
-use Rattle.jsontext.proofs.Rates.{power-more}
+use Rattle.jsontext.specs.Number.{Digits, Number, digitsOf, noDigits, withDigit, digitsFrom, someDigits, wholeAt, signEnd, withExponent, exponentAt, plainNumber, afterFraction, fractionAt, afterWhole, numberAt}
+use Rattle.jsontext.specs.NumberAnswer.{Sized}
+use Rattle.jsontext.proofs.Rates.{power-more, power-below}
 
 -- digits that follow n others
-abbrev SizedFrom : ℕ → Digits → ℕ → Type 0
+abbrev pub SizedFrom : ℕ → Digits → ℕ → Type 0
 SizedFrom n d i = Sized d i × (n ≤ d .count)
 
 digit-sized : (d : Digits) (i b : ℕ) → digit? b ≡ true → Sized d i → Sized (withDigit d b) (i + 1)
@@ -40,7 +35,7 @@ digits-sized (suc f) t d i s = go (digit? (byteAt t i)) refl (λ e. digits-sized
     go true e k = read-as _ _ (λ x n p. (p .0, omega (arith, p .1))) (k e)
     go false e k = reads {v = d} {e = i} (s, le-refl (d .count))
 
-some-sized : (t : List ℕ) (d : Digits) (i : ℕ) → Sized d i → Reads (SizedFrom (d .count)) (someDigits t d i)
+pub some-sized : (t : List ℕ) (d : Digits) (i : ℕ) → Sized d i → Reads (SizedFrom (d .count)) (someDigits t d i)
 unfolding someDigits
 some-sized t d i s = go (digit? (byteAt t i))
   where
@@ -48,7 +43,7 @@ some-sized t d i s = go (digit? (byteAt t i))
     go true = digits-sized (length t - i) t d i s
     go false = none-read
 
-whole-sized : (t : List ℕ) (i : ℕ) → Reads Sized (wholeAt t i)
+pub whole-sized : (t : List ℕ) (i : ℕ) → Reads Sized (wholeAt t i)
 unfolding wholeAt
 whole-sized t i = go (eqb (byteAt t i) 48) (digit? (byteAt t (i + 1)))
   where
@@ -57,65 +52,47 @@ whole-sized t i = go (eqb (byteAt t i) 48) (digit? (byteAt t (i + 1)))
     go true false = reads {v = digitsOf 0 1} {e = i + 1} (record { small = omega arith; few = omega arith })
     go false b = read-as _ _ (λ x n p. p .0) (some-sized t noDigits i (record { small = omega arith; few = omega arith }))
 
--- digits that were answered are those of the definition
-pub record Found (g : Got Digits) (r : DigitRun) (n : ℕ) : Type 0 where
-  pub digits : Digits
-  pub is : g ≡ got digits n
-  pub held : r ≡ carried digits
+-- at most 15 digits that are as long as they are many
+pub few-digits : (v n : ℕ) → v < 10 ^ n → n ≤ 15 → v < 10 ^ 15
+few-digits v n h l = let p = power-below n 15 l in omega arith
 
-pub found : (g : Got Digits) (r : DigitRun) (n : ℕ) (a : DigitsRead) → a ≡ Run r n → a ≡ carriedAt g → Found g r n
-found (got d m) r n a given is = let p : r ≡ carried d = cc in let q : n ≡ m = cc in record { digits = d; is = ap (got d) (sym q); held = p }
-found (fault p) r n a given is = let z : _≡_ {A = ℕ} 0 1 = cc in absurd (omega arith)
+-- a number's digits, of which those behind the point are some
+abbrev pub SizedNumber : Number → ℕ → Type 0
+SizedNumber m n = (m .digits .value < 10 ^ (m .digits .count)) × (m .places ≤ m .digits .count)
 
-pub not-found : (g : Got Digits) (p : ℕ) (a : DigitsRead) → a ≡ NoDigits p → a ≡ carriedAt g → g ≡ fault p
-not-found (got d n) p a given is = let z : _≡_ {A = ℕ} 0 1 = cc in absurd (omega arith)
-not-found (fault q) p a given is = let e : q ≡ p = cc in ap fault e
+module _ (t : List ℕ) where
+  raised : (m : Number) (i : ℕ) → SizedNumber m i → (g : Got Digits) → Reads SizedNumber (withExponent m g)
+  raised m i h (got d n) = reads h
+  raised m i h (fault p) = none-read
 
--- what is carried of them is as small
-pub carried-small : (r : DigitRun) (i : ℕ) → Carried r i → r .value < 10 ^ (r .count)
-carried-small r i c =
-    let d = c .digits in
-    let v : r .value ≡ min (d .value) (2 ^ 64 - 1) = ap (λ (s : DigitRun). s .value) (c .held) in
-    let n : r .count ≡ d .count = ap (λ (s : DigitRun). s .count) (c .held) in
-    let s : d .value < 10 ^ (d .count) = c .sized .small in
-    rw n (omega arith)
+  exponent-sized : (m : Number) (i : ℕ) → SizedNumber m i → Reads SizedNumber (exponentAt t m i)
+  unfolding exponentAt
+  exponent-sized m i h = go (eqb (byteAt t i) 101 || eqb (byteAt t i) 69)
+    where
+      go : (a : Bool) → Reads {A = Number} SizedNumber (elim a [ true ↦ withExponent m (someDigits t noDigits (signEnd t (i + 1))) | false ↦ got m i ])
+      go true = raised m i h (someDigits t noDigits (signEnd t (i + 1)))
+      go false = reads {v = m} {e = i} h
 
-pub carried-few : (r : DigitRun) (i : ℕ) → Carried r i → r .count ≤ i
-carried-few r i c = let n : r .count ≡ c .digits .count = ap (λ (s : DigitRun). s .count) (c .held) in omega (arith, c .sized .few)
+  behind-fraction : (s : Bool) (d : Digits) (g : Got Digits) → Reads (SizedFrom (d .count)) g → Reads SizedNumber (afterFraction t s d g)
+  behind-fraction s d (got e n) (reads h) = exponent-sized (plainNumber s e (e .count - d .count) true) n (h .0 .small, omega arith)
+  behind-fraction s d (fault p) h = none-read
 
--- digits after those that were carried
-pub record Grown (before after : DigitRun) (n : ℕ) : Type 0 where
-  pub more : before .count ≤ after .count
-  pub all : Carried after n
+  fraction-sized : (s : Bool) (d : Digits) (i : ℕ) → Sized d i → Reads SizedNumber (fractionAt t s d i)
+  unfolding fractionAt
+  fraction-sized s d i h = go (eqb (byteAt t i) 46)
+    where
+      go : (a : Bool) → Reads {A = Number} SizedNumber (elim a [ true ↦ afterFraction t s d (someDigits t d (i + 1)) | false ↦ exponentAt t (plainNumber s d 0 false) i ])
+      go true = behind-fraction s d (someDigits t d (i + 1)) (some-sized t d (i + 1) (record { small = h .small; few = omega (arith, h .few) }))
+      go false = exponent-sized (plainNumber s d 0 false) i (h .small, omega arith)
 
-pub some-grown : (t : List ℕ) (before : DigitRun) (at i : ℕ) → Carried before at → at ≤ i → (a : DigitsRead) → ((d : Digits) → before ≡ carried d → a ≡ carriedAt (someDigits t d i)) → (after : DigitRun) (n : ℕ) → a ≡ Run after n → Grown before after n
-some-grown t before at i c h a answer after n given =
-    let d = c .digits in
-    let f = found (someDigits t d i) after n a given (answer d (c .held)) in
-    let s = read-is (SizedFrom (d .count)) (f .digits) n (f .is) (some-sized t d i (record { small = c .sized .small; few = omega (arith, c .sized .few) })) in
-    let p : before .count ≡ d .count = ap (λ (s : DigitRun). s .count) (c .held) in
-    let q : after .count ≡ f .digits .count = ap (λ (s : DigitRun). s .count) (f .held) in
-    record { more = omega (arith, s .1); all = record { digits = f .digits; held = f .held; sized = s .0 } }
+  behind-whole : (s : Bool) (g : Got Digits) → Reads Sized g → Reads SizedNumber (afterWhole t s g)
+  behind-whole s (got d n) (reads h) = fraction-sized s d n h
+  behind-whole s (fault p) h = none-read
 
-pub whole-carried : (t : List ℕ) (i : ℕ) (a : DigitsRead) → a ≡ carriedAt (wholeAt t i) → (r : DigitRun) (n : ℕ) → a ≡ Run r n → Carried r n
-whole-carried t i a answer r n given =
-    let f = found (wholeAt t i) r n a given answer in
-    record { digits = f .digits; held = f .held; sized = read-is Sized (f .digits) n (f .is) (whole-sized t i) }
-
--- behind the whole part, and behind a point after the whole part d: what the digits read there lead to
-module _ (t : List ℕ) (s : Bool) where
-  pub whole-read : (i : ℕ) (r : DigitRun) (n : ℕ) (f : Found (wholeAt t i) r n) → asScalar (fractionAt t s (f .digits) n) ≡ asScalar (afterWhole t s (wholeAt t i))
-  whole-read i r n f = ap (λ (g : Got Digits). asScalar (afterWhole t s g)) (sym (f .is))
-
-  pub whole-faults : (g : Got Digits) (p : ℕ) → g ≡ fault p → fault p ≡ asScalar (afterWhole t s g)
-  whole-faults g p e = ap (λ (x : Got Digits). asScalar (afterWhole t s x)) (sym e)
-
-  pub fraction-read : (d : Digits) (i : ℕ) (whole all : DigitRun) (n : ℕ) → whole ≡ carried d → (f : Found (someDigits t d i) all n)
-      → (x : Got (Option Scalar)) → x ≡ asScalar (exponentAt t (plainNumber s (f .digits) (all .count - whole .count) true) n) → (m : Got Number) → m ≡ afterFraction t s d (someDigits t d i) → x ≡ asScalar m
-  fraction-read d i whole all n held f x answer m is =
-      let w : whole .count ≡ d .count = ap (λ (r : DigitRun). r .count) held in
-      let a : all .count ≡ f .digits .count = ap (λ (r : DigitRun). r .count) (f .held) in
-      (rw (w, a) at answer) ∙ ap asScalar (ap (afterFraction t s d) (sym (f .is)) ∙ sym is)
-
-  pub fraction-faults : (d : Digits) (g : Got Digits) (p : ℕ) → g ≡ fault p → fault p ≡ asScalar (afterFraction t s d g)
-  fraction-faults d g p e = ap (λ (x : Got Digits). asScalar (afterFraction t s d x)) (sym e)
+  pub number-sized : (i : ℕ) → Reads SizedNumber (numberAt t i)
+  unfolding numberAt
+  number-sized i = go (eqb (byteAt t i) 45)
+    where
+      go : (a : Bool) → Reads {A = Number} SizedNumber (elim a [ true ↦ afterWhole t true (wholeAt t (i + 1)) | false ↦ afterWhole t false (wholeAt t i) ])
+      go true = behind-whole true (wholeAt t (i + 1)) (whole-sized t (i + 1))
+      go false = behind-whole false (wholeAt t i) (whole-sized t i)

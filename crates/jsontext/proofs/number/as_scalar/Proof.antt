@@ -1,7 +1,8 @@
 -- A count, a rate of at most 15 digits, or none. Assumes nothing.
 use native.Mathlib.Omega.{arith}
 use borrow.Author.Needs.{needs}
-use Rattle.jsontext.proofs.NumberScalars.{few-digits, as-count, as-none, as-rate}
+use Rattle.jsontext.proofs.NumberSizes.{few-digits}
+use Rattle.jsontext.proofs.NumberScalars.{as-count, as-none, as-rate}
 use Rattle.jsontext.proofs.number.as_scalar.Statement.{statement}
 use Rattle.jsontext.proofs.number.as_scalar.Tie as tie
 

@@ -2,7 +2,7 @@
 use mathlib.Core.Path.{_∙_}
 use borrow.Author.Needs.{needs}
 use Rattle.jsontext.specs.Number.{wholeAt}
-use Rattle.jsontext.proofs.NumberSizes.{found, not-found, whole-carried, whole-read, whole-faults}
+use Rattle.jsontext.proofs.NumberParts.{found, not-found, whole-carried, whole-read, whole-faults}
 use Rattle.jsontext.proofs.number.behind_sign.Statement.{statement}
 use Rattle.jsontext.proofs.number.behind_sign.Tie as tie
 

@@ -7,7 +7,7 @@ use native.Mathlib.Omega.{arith}
 use borrow.Author.Needs.{needs}
 use Rattle.base.proofs.Bytes.{byte-inside}
 use Rattle.jsontext.specs.Number.{asScalar, someDigits}
-use Rattle.jsontext.proofs.NumberSizes.{Grown, found, not-found, carried-few, carried-small, some-grown, fraction-read, fraction-faults}
+use Rattle.jsontext.proofs.NumberParts.{Grown, found, not-found, carried-few, carried-small, some-grown, fraction-read, fraction-faults}
 use Rattle.jsontext.proofs.NumberWays.{fraction-none, fraction-there}
 use Rattle.jsontext.proofs.number.behind_whole.Statement.{statement}
 use Rattle.jsontext.proofs.number.behind_whole.Tie as tie

@@ -7,7 +7,7 @@ use Rattle.base.specs.Text.{Got}
 use Rattle.jsontext.specs.Number.{Digits, noDigits, someDigits, signEnd}
 use Rattle.jsontext.specs.NumberAnswer.{carriedAt}
 use Rattle.jsontext.proofs.NumberScalars.{exponent-ends, exponent-faults}
-use Rattle.jsontext.proofs.NumberSizes.{found, not-found}
+use Rattle.jsontext.proofs.NumberParts.{found, not-found}
 use Rattle.jsontext.proofs.number.exponent.Statement.{statement}
 use Rattle.jsontext.proofs.number.exponent.Tie as tie
 
