@@ -3,3 +3,4 @@ pub mod Nodes
 pub mod Closing
 pub mod Finding
 pub mod Texting
+pub mod TextLeaves

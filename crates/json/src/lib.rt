@@ -1,2 +1,3 @@
 // The reader of JSON text (document 02, Wish 1).
 pub mod rows; // rows.rt: rows of what was read
+pub mod texts; // texts.rt: texts by number
