@@ -5,6 +5,9 @@ pub mod Ways
 pub mod PieceEnds
 pub mod PlainRuns
 pub mod Scanning
+pub mod Joining
 pub mod Packing
 pub mod Handing
 pub mod Comparing
+pub mod Keeping
+pub mod DecodedSlots

@@ -8,3 +8,4 @@ pub mod Scanned
 pub mod StringAnswers
 pub mod Streams
 pub mod Compared
+pub mod Kept
