@@ -119,6 +119,10 @@ no-text texts {r} {q} f plain k l =
 pub numbered-text : (texts n : ℕ) → n < texts → Old texts (leafRow textLeaf (Name n))
 numbered-text texts n h k l = let e : eqb k n ≡ false = ne-eqb k n (λ q. omega (arith, h, l, q)) in rw e
 
+-- fields whose row is that leaf
+pub old-leaf : (texts n : ℕ) {r : Row} → r ≡ leafRow textLeaf (Name n) → n < texts → Old texts r
+old-leaf texts n e l k m = ap (eqRow (leafRow textLeaf (Name k))) e ∙ numbered-text texts n l k m
+
 -- the part that the builder's answer becomes
 abbrev pub partAfter : ℕ → ℕ → ℕ → Placed → Part
 partAfter next used texts (Known i) = Read i next used texts

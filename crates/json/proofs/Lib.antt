@@ -4,3 +4,4 @@ pub mod Closing
 pub mod Finding
 pub mod Texting
 pub mod Keying
+pub mod TextLeaves

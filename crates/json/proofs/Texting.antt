@@ -20,7 +20,7 @@ use Rattle.document.specs.Fields.{asRow}
 use Rattle.document.specs.Index.{slotCount, probe, Indexed}
 use Rattle.document.specs.Builder.{Ready}
 use Rattle.document.specs.declared.index.Probed.{Probed}
-use Rattle.document.specs.declared.index.Probed.the-variants.{Found, Free}
+use Rattle.document.specs.declared.index.Probed.the-variants.{Found, Free, Crowded}
 use Rattle.document.specs.declared.scalar.Scalar.the-variants.{Name}
 use Rattle.document.proofs.Probing.{scan, Opens, Answers, known, free, answers, indexed-same, indexed-more}
 use Rattle.jsontext.specs.Strings.{stringAt}
@@ -127,3 +127,22 @@ module _ (t cells slots starts found : List ℕ) (used texts limit : ℕ) (h : H
               ap (findRow (leafRow textLeaf (Name k))) e
               ∙ find-more (leafRow textLeaf (Name k)) (leafRow textLeaf (Name texts)) (rowsBelow cells used) (numbered-text (texts + 1) texts (omega arith) k l) (h .fresh k (omega (arith, l)));
         }
+
+-- what a text that is new has
+pub record Fresh (t starts found bs : List ℕ) (texts s : ℕ) : Type 0 where
+  pub new : (k : ℕ) → k < texts → textAt t starts k ≡ bs → ⊥
+  pub nowhere : findText bs (textsIn t starts texts) ≡ none
+  pub slot-free : Opens found (textSlot bs) s
+
+module _ {t starts found bs : List ℕ} {texts : ℕ} where
+  pub probed-known : {q : Probed} → ProbedText t starts found bs texts q → (k : ℕ) → Found (asRow k) ≡ q → (k < texts) × (textAt t starts k ≡ bs) × (findText bs (textsIn t starts texts) ≡ some k)
+  probed-known (old-text i l e f) k q = let r : asRow k ≡ asRow i = cc in let a : k ≡ i = ap (λ x. x .0) r in (omega (arith, l, a), ap (textAt t starts) a ∙ e, f ∙ ap some (sym a))
+  probed-known (new-text s a b o) k q = let z : _≡_ {A = ℕ} 0 1 = cc in absurd (omega arith)
+
+  pub probed-free : {q : Probed} → ProbedText t starts found bs texts q → (s : ℕ) → Free s ≡ q → Fresh t starts found bs texts s
+  probed-free (old-text i l e f) s q = let z : _≡_ {A = ℕ} 0 1 = cc in absurd (omega arith)
+  probed-free (new-text r a b o) s q = let e : r ≡ s = cc in record { new = a; nowhere = b; slot-free = subst (Opens found (textSlot bs)) e o }
+
+  pub probed-some : {q : Probed} → ProbedText t starts found bs texts q → Crowded ≡ q → ⊥
+  probed-some (old-text i l e f) q = let z : _≡_ {A = ℕ} 0 1 = cc in omega arith
+  probed-some (new-text r a b o) q = let z : _≡_ {A = ℕ} 0 1 = cc in omega arith

@@ -6,4 +6,5 @@ pub mod Productions
 pub mod Grammar
 pub mod Read
 pub mod State
+pub mod Texts
 pub mod Meaning

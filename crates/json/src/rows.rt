@@ -64,7 +64,7 @@ pub(crate) fn node(symbol: u16, key: Row, value: Row, rest: Row) -> RowFields
 // The row of the fields, which is not that of a text still to come, is finished before `next`.
 pub(crate) fn finish(
     text: &[u8],
-    starts: &[usize; TEXTS],
+    starts: &[usize],
     found: &[u16; SLOTS],
     rows: &mut [u16],
     slots: &mut [u16; SLOTS],
@@ -89,7 +89,7 @@ pub(crate) fn finish(
 // The row of a member or an element, whose value and rest are read.
 pub(crate) fn join(
     text: &[u8],
-    starts: &[usize; TEXTS],
+    starts: &[usize],
     found: &[u16; SLOTS],
     rows: &mut [u16],
     slots: &mut [u16; SLOTS],
@@ -126,7 +126,7 @@ pub(crate) fn join(
 // The closing mark of an object or an array, and its leaf.
 pub(crate) fn close(
     text: &[u8],
-    starts: &[usize; TEXTS],
+    starts: &[usize],
     found: &[u16; SLOTS],
     rows: &mut [u16],
     slots: &mut [u16; SLOTS],
@@ -163,7 +163,7 @@ pub(crate) fn close(
 // A member or an element that nothing follows: the closing mark, its leaf, then the row.
 pub(crate) fn last(
     text: &[u8],
-    starts: &[usize; TEXTS],
+    starts: &[usize],
     found: &[u16; SLOTS],
     rows: &mut [u16],
     slots: &mut [u16; SLOTS],

@@ -94,17 +94,17 @@ begins-with t start out s v =
     record { rest = withFront (coming t s) more; is = v .scanned .string ∙ sym (front-join out (coming t s) more) }
 
 -- what a step says of every string that the stream may be of
-abbrev Step : List ℕ → Stream → StreamStep → Type 0
+abbrev pub Step : List ℕ → Stream → StreamStep → Type 0
 Step t s r = (start : ℕ) (out : List ℕ) → Handed t start out s → Steps t start out s r
 
 module _ (t : List ℕ) (start : ℕ) (out : List ℕ) (s : Stream) (v : Handed t start out s) (r : StreamStep) (f : Step t s r) where
-  at-end : r ≡ End → (n : ℕ) × (stringAt t start ≡ got out n)
+  pub at-end : r ≡ End → (n : ℕ) × (stringAt t start ≡ got out n)
   at-end e = subst (Steps t start out s) e (f start out v)
 
-  at-fault : r ≡ Broken → (p : ℕ) × (stringAt t start ≡ fault p)
+  pub at-fault : r ≡ Broken → (p : ℕ) × (stringAt t start ≡ fault p)
   at-fault e = subst (Steps t start out s) e (f start out v)
 
-  at-byte : (b : ℕ) (s′ : Stream) → r ≡ Byte b s′ → Next t start out s b s′
+  pub at-byte : (b : ℕ) (s′ : Stream) → r ≡ Byte b s′ → Next t start out s b s′
   at-byte b s′ e = subst (Steps t start out s) e (f start out v)
 
   byte-begins : (b : ℕ) (s′ : Stream) → r ≡ Byte b s′ → Begins (stringAt t start) (out ++ b ∷ [])

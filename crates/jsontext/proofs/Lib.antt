@@ -24,3 +24,6 @@ pub mod Packing
 pub mod Handing
 pub mod Comparing
 pub mod NumberNearest
+pub mod Joining
+pub mod Keeping
+pub mod DecodedSlots

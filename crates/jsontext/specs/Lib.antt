@@ -11,3 +11,4 @@ pub mod Scanned
 pub mod StringAnswers
 pub mod Streams
 pub mod Compared
+pub mod Kept

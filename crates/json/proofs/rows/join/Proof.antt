@@ -8,7 +8,7 @@ returns : tie.Need-returns
 returns c = says-row _ _ (c .before .before .before .before .before .node .ensures .0) (c .before .before .finish .ensures)
 
 finish-requires : tie.Need-finish-requires
-finish-requires c κs = (c .before .before .before .before .before .pre .0, (c .before .before .before .before .before .pre .1 .0, no-text _ (c .before .before .node .ensures .0) (c .before .before .before .before .before .pre .1 .1 .0)))
+finish-requires c κs = (c .before .before .before .before .before .before .pre .0, (c .before .before .before .before .before .before .pre .1 .0, no-text _ (c .before .before .node .ensures .0) (c .before .before .before .before .before .before .pre .1 .1 .0)))
 
 pub join-spec : {M : Type 1} → statement M
 join-spec = tie.close (tie.spec (λ c κs. search needs) finish-requires (λ c. search needs) returns)
