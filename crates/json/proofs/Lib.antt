@@ -3,5 +3,8 @@ pub mod Nodes
 pub mod Closing
 pub mod Finding
 pub mod Texting
+pub mod Numbered
+pub mod KeyLines
 pub mod Keying
+pub mod KeyFilling
 pub mod TextLeaves

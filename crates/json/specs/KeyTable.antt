@@ -1,16 +1,20 @@
 -- The lines of a key list by their places, and an index over them. Assumes nothing.
 use mathlib.Core.Path.{_≡_}
 use mathlib.Core.List.{List, []}
-use mathlib.Core.Bool.{true}
+use mathlib.Core.Bool.{Bool, true, false}
 use mathlib.Core.Option.{Option, none, some}
 use Prim.Native.Nat.{ℕ, _+_, _-_, _*_, _<_, _≤_}
 use lib.ListN.{length, getD, take, drop}
 use Rattle.document.specs.Index.{Indexed}
+use Rattle.document.specs.declared.index.Probed.{Probed}
+use Rattle.document.specs.declared.index.Probed.the-variants.{Found, Free, Crowded}
 use Rattle.names.specs.Lines.{lines}
 use Rattle.jsontext.specs.Decoded.{textSlot}
-use Rattle.json.specs.Keys.{maxKeys, key?}
+use Rattle.json.specs.Keys.{maxKeys, key?, keysFit?}
 use Rattle.json.specs.declared.keys.KeyFound.{KeyFound}
 use Rattle.json.specs.declared.keys.KeyFound.the-variants.{Listed, Unlisted}
+use Rattle.json.specs.declared.keys.LineSlot.{LineSlot}
+use Rattle.json.specs.declared.keys.LineSlot.the-variants.{FreeSlot, Taken}
 
 -- line k, empty where there is none
 abbrev pub keyAt : List ℕ → ℕ → List ℕ
@@ -32,15 +36,32 @@ pub record Stands (list places : List ℕ) (k : ℕ) : Type 0 where
 -- The first n lines are keys, no two of them equal; the places are theirs, and the slots are an index of them.
 pub record Entered (list places slots : List ℕ) (n : ℕ) : Type 0 where
   pub few : n ≤ maxKeys
+  pub room : length places ≡ 128
   pub inside : n ≤ length (lines list)
   pub stands : (k : ℕ) → k < n → Stands list places k
   pub keys : (k : ℕ) → k < n → key? (keyAt list k) ≡ true
   pub distinct : (j k : ℕ) → j < n → k < n → keyAt list j ≡ keyAt list k → j ≡ k
   pub indexed : Indexed slots n (λ k. textSlot (keyAt list k))
 
+-- What the answer for line n says: it is entered behind the others, or the list does not fit.
+pub data Told (list places slots : List ℕ) (n : ℕ) : Bool → Type 0 where
+  line-entered : Entered list places slots (n + 1) → Told list places slots n true
+  list-unfit : keysFit? list ≡ false → Told list places slots n false
+
 -- The places and the slots are those of all lines.
 abbrev pub KeyTable : List ℕ → List ℕ → List ℕ → Type 0
 KeyTable list places slots = Entered list places slots (length (lines list))
+
+-- the empty slot that a probe found, if it did
+abbrev pub freeIn : Probed → Option ℕ
+freeIn (Found i) = none
+freeIn (Free s) = some s
+freeIn Crowded = none
+
+-- the slot where a line belongs, if it is new
+abbrev pub freeOf : LineSlot → Option ℕ
+freeOf (FreeSlot s) = some s
+freeOf Taken = none
 
 -- the line that was found, if one was
 abbrev pub keyOf : KeyFound → Option ℕ
