@@ -4,3 +4,4 @@ pub mod Closing
 pub mod Finding
 pub mod Texting
 pub mod TextLeaves
+pub mod LeafWays
