@@ -1,5 +1,6 @@
 pub mod Signature
 pub mod Keys
+pub mod KeyTable
 pub mod Value
 pub mod Productions
 pub mod Grammar
