@@ -8,3 +8,4 @@ pub mod KeyLines
 pub mod Keying
 pub mod KeyFilling
 pub mod TextLeaves
+pub mod LeafWays
