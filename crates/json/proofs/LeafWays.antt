@@ -12,7 +12,7 @@ use Rattle.jsontext.specs.Number.{Number, numberAt, asScalar}
 use Rattle.jsontext.specs.Decoded.{textSlot, asSlot, sameText}
 use Rattle.document.specs.Index.{probe}
 use lib.ListN.{getD}
-use Rattle.json.specs.Texts.{probedOf, ProbedAt}
+use Rattle.json.specs.Texts.{probedOf, ProbedAt, WholeString}
 use Rattle.json.specs.declared.texts.TextProbed.{TextProbed}
 use Rattle.jsontext.proofs.StringProductions.{string-read, string-ahead}
 use Rattle.jsontext.proofs.NumberProductions.{number-read, number-ahead}
@@ -49,13 +49,6 @@ scalar-behind t at {o} {n} e = go (numberAt t at) refl e
     go : (g : Got Number) → numberAt t at ≡ g → got o n ≡ asScalar g → 0 < n
     go (got m k) q f = let a : n ≡ k = cc in let l = number-ahead t (number-read t q) in omega (arith, a, l)
     go (fault p) q f = let z : _≡_ {A = ℕ} 0 1 = cc in absurd (omega arith)
-
--- a string that was read, by its slot
-pub record WholeString (t : List ℕ) (at slot next : ℕ) : Type 0 where
-  pub bytes : List ℕ
-  pub string : stringAt t at ≡ got bytes next
-  pub slot-is : slot ≡ textSlot bytes
-  pub behind : at < next
 
 pub whole-string : (t : List ℕ) (at : ℕ) {slot next : ℕ} → got slot next ≡ asSlot (stringAt t at) → WholeString t at slot next
 whole-string t at {slot} {next} e = go (stringAt t at) refl e

@@ -9,3 +9,8 @@ pub mod Keying
 pub mod KeyFilling
 pub mod TextLeaves
 pub mod LeafWays
+pub mod Entries
+pub mod KeyWays
+pub mod SeenKeys
+pub mod OtherKeys
+pub mod ListedKeys

@@ -7,4 +7,5 @@ pub mod Grammar
 pub mod Read
 pub mod State
 pub mod Texts
+pub mod Seen
 pub mod Meaning

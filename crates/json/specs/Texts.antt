@@ -1,7 +1,7 @@
 -- What the probe for a text answers. Assumes nothing.
 use mathlib.Core.Path.{_≡_}
 use mathlib.Core.List.{List}
-use Prim.Native.Nat.{ℕ}
+use Prim.Native.Nat.{ℕ, _<_}
 use lib.ListN.{getD}
 use Rattle.base.specs.Text.{got}
 use Rattle.document.specs.Fields.{asRow}
@@ -24,3 +24,10 @@ pub record ProbedAt (t starts found : List ℕ) (at next : ℕ) (p : TextProbed)
   pub bytes : List ℕ
   pub string : stringAt t at ≡ got bytes next
   pub answer : probedOf p ≡ probe found (λ k. sameText (stringAt t at) (stringAt t (getD starts k 0))) (textSlot bytes)
+
+-- A whole string that was read, by its slot.
+pub record WholeString (t : List ℕ) (at slot next : ℕ) : Type 0 where
+  pub bytes : List ℕ
+  pub string : stringAt t at ≡ got bytes next
+  pub slot-is : slot ≡ textSlot bytes
+  pub behind : at < next

@@ -3,3 +3,4 @@ pub mod rows; // rows.rt: rows of what was read
 pub mod keys; // keys.rt: the key list, and the lookup of a key
 pub mod texts; // texts.rt: texts by number
 pub mod leaves; // leaves.rt: words, numbers and strings
+pub mod members; // members.rt: the keys of an object

@@ -1,0 +1,185 @@
+// The keys of an object: which of them stood before, and a key's symbol or text.
+use crate::keys::KEY_PLACES;
+use crate::keys::KeyFound;
+use crate::keys::find_key;
+use crate::rows::OTHER;
+use crate::rows::Part;
+use crate::texts::TextProbed;
+use crate::texts::look_up;
+use crate::texts::text_leaf;
+use document::index::SLOTS;
+use document::rows::Row;
+use jsontext::strings::StringRead;
+use jsontext::strings::read;
+ghost use mathlib.Core.Path.{_≡_};
+ghost use mathlib.Core.List.{List};
+ghost use Prim.Native.Nat.{ℕ, _+_, _<_, _≤_, _^_};
+ghost use lib.Dec.{eqb};
+ghost use lib.ListN.{length, drop};
+ghost use Rattle.classes.specs.Classes.{classTable};
+ghost use Rattle.model.specs.Lists.{any};
+ghost use Rattle.names.specs.Lines.{lines};
+ghost use mathlib.Core.Option.{none};
+ghost use Rattle.base.specs.Text.{got};
+ghost use Rattle.jsontext.specs.Strings.{stringAt};
+ghost use Rattle.json.specs.Keys.{findText};
+ghost use Rattle.json.specs.Texts.{WholeString};
+ghost use Rattle.json.specs.KeyTable.{KeyTable};
+ghost use Rattle.json.specs.Grammar.{Setting};
+ghost use Rattle.json.specs.State.{builtIn, Holds};
+ghost use Rattle.json.specs.Seen.{firstListed, entries, listedPart, listedEntry, numberOf, Seen, keyOf, keyAt, KeySays};
+
+// The symbol of the first key on the list.
+const FIRST_KEY: u16 = 8;
+
+// The entry of the first key on the list; a text's entry is its number.
+const FIRST_LISTED: u16 = 2048;
+
+// A key's symbol, the row of its text where it is not listed, the place after it, and how many rows and texts there are then; or a refusal's number and place.
+pub(crate) enum KeyPart {
+    Key(u16, Row, usize, u16, u16),
+    NoKey(u16, usize),
+}
+
+// Whether an entry stands from place lo up to place hi.
+fn has_entry(pending: &[u16], lo: usize, hi: usize, entry: u16) -> bool
+    requires { ⌜ hi ≤ length (now pending) ⌝ }
+    ensures { λ r. ⌜ r ≡ any (eqb entry) (entries (now (pending .entry)) lo hi) ⌝ }
+{
+    let mut i = lo;
+    while i < hi {
+        if pending[i] == entry {
+            return true;
+        }
+        i += 1;
+    }
+    false
+}
+
+// A listed key, line k, that ends before `next`: 72 where it stood before.
+fn listed_key(
+    pending: &mut [u16],
+    used: u16,
+    texts: u16,
+    level: usize,
+    top: usize,
+    k: u16,
+    at: usize,
+    next: usize,
+) -> KeyPart
+    requires few { ⌜ k < 56 ⌝ }
+    requires bounds { ⌜ (level < top) × (top ≤ length (now pending)) ⌝ }
+    ensures told { λ r. ⌜ r ≡ listedPart (any (eqb (firstListed + k)) (entries (now (pending .entry)) (level + 1) top)) k at next used texts ⌝ }
+    ensures entered { λ r. ⌜ now (pending .exit) ≡ listedEntry (any (eqb (firstListed + k)) (entries (now (pending .entry)) (level + 1) top)) (now (pending .entry)) level k ⌝ }
+{
+    let entry = FIRST_LISTED + k;
+    if has_entry(&*pending, level + 1, top, entry) {
+        return KeyPart::NoKey(72, at);
+    }
+    pending[level] = entry;
+    KeyPart::Key(FIRST_KEY + k, Row(0), next, used, texts)
+}
+
+// The number of a text by what the probe for it found; the next one for a text that is new.
+fn number_of(probed: TextProbed, texts: u16) -> u16
+    ensures { λ r. ⌜ r ≡ numberOf probed texts ⌝ }
+{
+    match probed {
+        TextProbed::Known(k) => k,
+        TextProbed::Free(_) => texts,
+        TextProbed::Crowded => texts,
+    }
+}
+
+// A key that is not listed, a whole string at a place: 64 where its text would stand past the last level, 72 where it stood before, else the text's leaf.
+fn other_key(
+    text: &[u8],
+    classes: &[u8; 256],
+    rows: &mut [u16],
+    slots: &mut [u16; SLOTS],
+    starts: &mut [usize],
+    found: &mut [u16; SLOTS],
+    pending: &mut [u16],
+    used: u16,
+    texts: u16,
+    limit: u16,
+    level: usize,
+    top: usize,
+    slot: u16,
+    at: usize,
+    next: usize,
+) -> KeyPart
+    requires holds { ⌜ Holds (now text) (now rows) (now slots) (now starts) (now found) used texts limit ⌝ }
+    requires lent { ⌜ now classes ≡ classTable ⌝ }
+    requires bounds { ⌜ (level < top) × (top ≤ length (now pending)) ⌝ }
+    requires whole { ⌜ WholeString (now text) at slot next ⌝ }
+    ensures { λ r. ⌜ ((keys seen : List (List ℕ)) (key : List ℕ) → stringAt (now (text .entry)) at ≡ got key next → findText key keys ≡ none → Seen keys (now (text .entry)) (now (starts .entry)) (now (pending .entry)) texts (level + 1) top seen → KeySays keys (now (text .entry)) (now (rows .exit)) (now (slots .exit)) (now (starts .exit)) (now (found .exit)) (now (pending .exit)) (now (starts .entry)) texts limit level top seen r (keyOf (record { keys = keys; limit = limit }) level seen at key next (builtIn (now (text .entry)) (now (rows .entry)) (now (starts .entry)) used texts))) ⌝ }
+    ensures kept { λ r. ⌜ drop (level + 1) (now (pending .exit)) ≡ drop (level + 1) (now (pending .entry)) ⌝ }
+{
+    if level == 0 {
+        return KeyPart::NoKey(64, at);
+    }
+    let probed = look_up(text, classes, &*starts, &*found, slot, at);
+    let number = number_of(probed, texts);
+    if has_entry(&*pending, level + 1, top, number) {
+        return KeyPart::NoKey(72, at);
+    }
+    match text_leaf(text, rows, slots, starts, found, used, texts, limit, at, next, probed) {
+        Part::Refused(w, p) => KeyPart::NoKey(w, p),
+        Part::Read(row, after, n, m) => {
+            pending[level] = number;
+            KeyPart::Key(OTHER, row, after, n, m)
+        },
+    }
+}
+
+// The key at a place: a listed one by its line, another by its text.
+pub(crate) fn key_at(
+    text: &[u8],
+    classes: &[u8; 256],
+    list: &[u8],
+    places: &[usize; KEY_PLACES],
+    key_slots: &[u16; SLOTS],
+    rows: &mut [u16],
+    slots: &mut [u16; SLOTS],
+    starts: &mut [usize],
+    found: &mut [u16; SLOTS],
+    pending: &mut [u16],
+    used: u16,
+    texts: u16,
+    limit: u16,
+    level: usize,
+    top: usize,
+    at: usize,
+) -> KeyPart
+    requires holds { ⌜ Holds (now text) (now rows) (now slots) (now starts) (now found) used texts limit ⌝ }
+    requires lent { ⌜ now classes ≡ classTable ⌝ }
+    requires bounds { ⌜ (level < top) × (top ≤ length (now pending)) ⌝ }
+    requires table { ⌜ KeyTable (now list) (now places) (now «key_slots») ⌝ }
+    ensures { λ r. ⌜ ((seen : List (List ℕ)) → Seen (lines (now (list .entry))) (now (text .entry)) (now (starts .entry)) (now (pending .entry)) texts (level + 1) top seen → KeySays (lines (now (list .entry))) (now (text .entry)) (now (rows .exit)) (now (slots .exit)) (now (starts .exit)) (now (found .exit)) (now (pending .exit)) (now (starts .entry)) texts limit level top seen r (keyAt (record { keys = lines (now (list .entry)); limit = limit }) (now (text .entry)) level seen at (builtIn (now (text .entry)) (now (rows .entry)) (now (starts .entry)) used texts))) ⌝ }
+    ensures kept { λ r. ⌜ drop (level + 1) (now (pending .exit)) ≡ drop (level + 1) (now (pending .entry)) ⌝ }
+{
+    match read(text, classes, at) {
+        StringRead::Fault(p) => KeyPart::NoKey(71, p),
+        StringRead::Whole(slot, next) => match find_key(text, classes, list, places, key_slots, slot, at) {
+            KeyFound::Listed(k) => listed_key(pending, used, texts, level, top, k, at, next),
+            KeyFound::Unlisted => other_key(
+                text,
+                classes,
+                rows,
+                slots,
+                starts,
+                found,
+                pending,
+                used,
+                texts,
+                limit,
+                level,
+                top,
+                slot,
+                at,
+                next,
+            ),
+        },
+    }
+}
