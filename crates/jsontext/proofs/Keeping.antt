@@ -21,10 +21,10 @@ abbrev kept : ℕ → ℕ → ℕ → ℕ → Kept
 kept n f a z = record { count = n; few = f; first = a; last = z }
 
 -- ---- parts of bytes are bytes
-bytes-drop : (n : ℕ) (bs : List ℕ) → Bytes bs → Bytes (drop n bs)
+pub bytes-drop : (n : ℕ) (bs : List ℕ) → Bytes bs → Bytes (drop n bs)
 bytes-drop n bs h i l = let e : n + i < length bs = omega (arith, length-drop n bs) in rw (getD-drop n bs i 0) (h (n + i) e)
 
-bytes-take : (n : ℕ) (bs : List ℕ) → Bytes bs → Bytes (take n bs)
+pub bytes-take : (n : ℕ) (bs : List ℕ) → Bytes bs → Bytes (take n bs)
 bytes-take n bs h i l =
     let e = length-take n bs in
     let p : i < n = omega arith in

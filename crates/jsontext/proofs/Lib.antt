@@ -11,3 +11,4 @@ pub mod Handing
 pub mod Comparing
 pub mod Keeping
 pub mod DecodedSlots
+pub mod Bytewise
