@@ -11,7 +11,7 @@ use Rattle.classes.specs.Classes.{eitherHexDigit?, control?}
 use Rattle.model.specs.Lists.{any}
 use Rattle.base.specs.Text.{byteAt, Got, got, fault}
 use Rattle.base.proofs.Bytes.{inside, class-inside}
-use Rattle.jsontext.specs.Utf8.{between, Stretch, upTo, brokenAt, Sequence, sequences, passAt, sequenceIn, sequenceAt}
+use Rattle.jsontext.specs.Utf8.{Stretch, upTo, brokenAt, Sequence, sequences, passAt, sequenceIn, sequenceAt}
 use Rattle.jsontext.specs.Strings.{Piece, closed, raw, code, bad, simple, hexValue, hexFrom, dee?, low?, high?, asPair, asRaw, firstUnit, secondUnit, pairAt, unicodeAt, escapeAt, pieceAt}
 use Rattle.jsontext.proofs.HexDigits.{hex-inside}
 use Rattle.jsontext.proofs.Ways.{simple-inside, plain-inside, piece-control}

@@ -6,13 +6,13 @@ use Prim.Native.Nat.{ℕ, zero, suc, _+_, _-_, _<_, _≤_}
 use native.Mathlib.Numerals.{add-one}
 use native.Mathlib.Omega.{arith}
 use lib.Dec.{eqb}
-use lib.ListN.{length, take, drop, getD}
+use lib.ListN.{length, take, drop}
 use lib.Seq.{take-add, drop-drop, drop-cons}
 use borrow.Author.Tests.{eq-eqb, ne-eqb, eqb-true, eqb-false}
 use Rattle.base.specs.Text.{byteAt, Got, got, fault}
 use Rattle.base.proofs.Bytes.{past, byte-inside}
-use Rattle.jsontext.specs.Utf8.{Stretch, utf8, upTo, brokenAt}
-use Rattle.jsontext.specs.Strings.{Piece, closed, raw, code, bad, pieceAt, plain?, withFront, stringFrom, stringAt}
+use Rattle.jsontext.specs.Utf8.{utf8, upTo, brokenAt}
+use Rattle.jsontext.specs.Strings.{closed, raw, code, bad, pieceAt, plain?, withFront, stringFrom, stringAt}
 use Rattle.jsontext.specs.Scanned.{part, Scanned}
 use Rattle.jsontext.specs.StringAnswers.{Plains, placeOf, RawString}
 use Rattle.jsontext.proofs.Ways.{plain-piece}

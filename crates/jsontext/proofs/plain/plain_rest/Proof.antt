@@ -1,9 +1,7 @@
 -- At the loop's head the bytes so far stand for themselves. Assumes nothing.
-use mathlib.Core.Path.{_≡_, refl, sym, ap, _∙_}
 use Prim.Native.Nat.{_-_}
 use borrow.Author.Needs.{needs}
-use native.Mathlib.Omega.{arith}
-use borrow.Author.Tests.{not-true, not-false}
+use borrow.Author.Tests.{not-false}
 use lib.ListN.{length}
 use Rattle.jsontext.specs.StringAnswers.{Plains}
 use Rattle.jsontext.proofs.PlainRuns.{plains-none, plains-more}
