@@ -12,3 +12,4 @@ pub mod Comparing
 pub mod Keeping
 pub mod DecodedSlots
 pub mod Bytewise
+pub mod StringEnds
