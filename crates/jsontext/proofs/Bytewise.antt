@@ -1,5 +1,5 @@
 -- Operations on words that work on each byte apart, and the zeros below a word's lowest mark. Assumes nothing.
-use mathlib.Core.Path.{_≡_, refl, sym, ap, ap₂, _∙_}
+use mathlib.Core.Path.{_≡_, refl, sym, ap, ap₂, _∙_, subst}
 use mathlib.Core.Bool.{Bool, true, false, cond}
 use mathlib.Core.List.{List, [], _∷_, map}
 use Prim.Native.Nat.{ℕ, zero, suc, _+_, _-_, _*_, _/_, _%_, _^_, _<_, _≤_}
@@ -7,7 +7,7 @@ use native.Mathlib.Nat.{zero-mod}
 use native.Mathlib.Numerals.{add-one}
 use native.Mathlib.Omega.{arith}
 use lib.Bits.{bitAnd, bitOr, bitXor, and-block, or-block, xor-block, and-lt, and-le-r, or-lt, xor-lt}
-use lib.Count.{under, trailingZeros, trailing-le}
+use lib.Count.{under, trailingZeros, trailing-le, trailing-of-zero}
 use lib.Pow.{mod-pow-add, mod-mod-pow}
 use lib.ListN.{length, take, drop, getD, replicate, length-take, length-drop}
 use lib.Seq.{getD-take, getD-drop}
@@ -183,20 +183,24 @@ module _ (xs : List ℕ) (m : ℕ) (e : m ≡ joinBytes (map mark xs)) where
       mark-at (y ∷ ys) zero l = refl
       mark-at (y ∷ ys) (suc i) l = mark-at ys i (omega arith)
 
--- the same of the word w at a place of a text
-module _ (t : List ℕ) (i w m : ℕ) (v : Bytes t) (h : i + 8 ≤ length t) (e : w ≡ joinBytes (take 8 (drop i t)))
-    (marks : (xs : List ℕ) → length xs ≡ 8 → Bytes xs → w ≡ joinBytes xs → m ≡ joinBytes (map mark xs)) where
-  front : length (take 8 (drop i t)) ≡ 8
-  front = omega (arith, length-take 8 (drop i t), length-drop i t)
+-- the same of the word at a place of a text
+word-eight : (t : List ℕ) (i : ℕ) → i + 8 ≤ length t → length (take 8 (drop i t)) ≡ 8
+word-eight t i h = omega (arith, length-take 8 (drop i t), length-drop i t)
 
-  pub plain-front : Plains t i (i + trailingZeros 64 m / 8) × (trailingZeros 64 m / 8 ≤ 8)
-  plain-front =
-      let b = trailing-le 64 m in
-      (record { forward = omega arith; inside = omega arith; each = λ k a l. go k a (omega arith) (omega arith) }, omega arith)
+pub word-marked : (t : List ℕ) (i w m : ℕ) → Bytes t → i + 8 ≤ length t → w ≡ joinBytes (take 8 (drop i t))
+    → ((xs : List ℕ) → length xs ≡ 8 → Bytes xs → w ≡ joinBytes xs → m ≡ joinBytes (map mark xs)) → m ≡ joinBytes (map mark (take 8 (drop i t)))
+word-marked t i w m v h e f = f (take 8 (drop i t)) (word-eight t i h) (bytes-take 8 (drop i t) (bytes-drop i t v)) e
+
+module _ (t : List ℕ) (i m : ℕ) (h : i + 8 ≤ length t) (e : m ≡ joinBytes (map mark (take 8 (drop i t)))) where
+  pub plains-front : Plains t i (i + trailingZeros 64 m / 8)
+  plains-front = let b = trailing-le 64 m in record { forward = omega arith; inside = omega arith; each = λ k a l. go k a (omega arith) (omega arith) }
     where
       go : (k : ℕ) → i ≤ k → k - i < 8 → k - i < trailingZeros 64 m / 8 → plain? (byteAt t k) ≡ true
       go k a l g =
           let s : i + (k - i) ≡ k = omega arith in
           let q : byteAt (take 8 (drop i t)) (k - i) ≡ byteAt t k = getD-take 8 (drop i t) (k - i) 0 l ∙ getD-drop i t (k - i) 0 ∙ ap (byteAt t) s in
-          let n = marks (take 8 (drop i t)) front (bytes-take 8 (drop i t) (bytes-drop i t v)) e in
-          ap plain? (sym q) ∙ plain-below (take 8 (drop i t)) m n (k - i) (omega (arith, front)) g
+          ap plain? (sym q) ∙ plain-below (take 8 (drop i t)) m e (k - i) (omega (arith, word-eight t i h)) g
+
+  -- no mark
+  pub plains-word : m ≡ 0 → Plains t i (i + 8)
+  plains-word z = subst (λ (n : ℕ). Plains t i (i + n / 8)) (ap (trailingZeros 64) z ∙ trailing-of-zero 64) plains-front

@@ -4,7 +4,7 @@ use crate::words::word;
 ghost use mathlib.Core.Path.{_≡_};
 ghost use mathlib.Core.List.{List, map};
 ghost use Prim.Native.Nat.{ℕ, _+_, _≤_};
-ghost use lib.ListN.{length};
+ghost use lib.ListN.{length, take, drop};
 ghost use Rattle.jsontext.specs.Strings.{plain?};
 ghost use Rattle.jsontext.specs.Decoded.{joinBytes};
 ghost use Rattle.jsontext.specs.StringAnswers.{Plains, mark};
@@ -39,12 +39,12 @@ fn marks(w: u64) -> u64
     (((above & no_quote & no_backslash) ^ HIGH) | w) & HIGH
 }
 
-// How many bytes of the word at a place stand for themselves before one that does not.
-fn plain_count(text: &[u8], i: usize) -> usize
+// The marks of the eight bytes at a place.
+fn word_marks(text: &[u8], i: usize) -> u64
     requires { ⌜ i + 8 ≤ length (now text) ⌝ }
-    ensures { λ r. ⌜ (Plains (now (text .entry)) i (i + r)) × (r ≤ 8) ⌝ }
+    ensures { λ r. ⌜ r ≡ joinBytes (map mark (take 8 (drop i (now (text .entry))))) ⌝ }
 {
-    (u64::trailing_zeros(marks(word(text, i))) / 8) as usize
+    marks(word(text, i))
 }
 
 // A place up to which all bytes stand for themselves, one by one.
@@ -69,11 +69,11 @@ pub(crate) fn plain_end(text: &[u8], at: usize) -> usize
 {
     let mut i = at;
     while text.len() - i >= WORD {
-        let n = plain_count(text, i);
-        i += n;
-        if n < WORD {
-            return i;
+        let m = word_marks(text, i);
+        if m != 0 {
+            return i + (u64::trailing_zeros(m) / 8) as usize;
         }
+        i += WORD;
     }
     plain_rest(text, i)
 }
