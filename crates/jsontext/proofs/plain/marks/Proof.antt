@@ -1,5 +1,4 @@
 -- Each operation works on each byte apart. Assumes nothing.
-use borrow.Author.Needs.{needs}
 use native.Mathlib.Omega.{arith}
 use Rattle.jsontext.proofs.Bytewise.{marks-of, above-room, other-room}
 use Rattle.jsontext.proofs.plain.marks.Statement.{statement}
