@@ -1,9 +1,8 @@
 -- A stream's next byte, by where it comes from. Assumes nothing.
-use mathlib.Core.Path.{_≡_, refl, sym, ap, _∙_, subst}
-use mathlib.Core.List.{List, [], _∷_, _++_, append-assoc, append-nil}
-use Prim.Native.Nat.{ℕ, _+_, _-_, _*_, _/_, _%_, _<_, _≤_}
+use mathlib.Core.Path.{_≡_, sym, ap, _∙_, subst}
+use mathlib.Core.List.{List, [], _∷_, _++_, append-nil}
+use Prim.Native.Nat.{ℕ, _+_, _-_, _/_, _%_, _<_, _≤_}
 use native.Mathlib.Omega.{arith}
-use lib.ListN.{length}
 use lib.Seq.{append-snoc}
 use Rattle.base.specs.Text.{byteAt, got, fault}
 use Rattle.jsontext.specs.Utf8.{utf8}
@@ -12,7 +11,7 @@ use Rattle.jsontext.specs.Scanned.{part, Scanned}
 use Rattle.jsontext.specs.declared.streams.Stream.{Stream}
 use Rattle.jsontext.specs.declared.streams.StreamStep.{StreamStep}
 use Rattle.jsontext.specs.declared.streams.StreamStep.the-variants.{Byte, End, Broken}
-use Rattle.jsontext.specs.Streams.{unpack, Packs, fresh, coming, Handed, remaining, Next, Steps}
+use Rattle.jsontext.specs.Streams.{unpack, Packs, fresh, coming, Handed, Next, Steps}
 use Rattle.jsontext.proofs.PieceEnds.{raw-ahead, code-ahead}
 use Rattle.jsontext.proofs.Scanning.{part-none, part-cons, scan-raw, scan-code, scan-closed, scan-bad}
 use Rattle.jsontext.proofs.Packing.{packed, unpack-cons}

@@ -1,14 +1,13 @@
 -- What is kept of bytes, one byte more at a time, and the slot that comes of it. Assumes nothing.
 use mathlib.Core.Path.{_≡_, refl, sym, ap, ap₂, _∙_, subst}
-use mathlib.Core.Bool.{Bool, true, false}
 use mathlib.Core.Logic.{_⊎_, inl, inr}
 use mathlib.Core.List.{List, [], _∷_, _++_}
-use Prim.Native.Nat.{ℕ, zero, suc, _+_, _-_, _*_, _/_, _%_, _^_, _<_, _≤_, min}
+use Prim.Native.Nat.{ℕ, zero, suc, _+_, _-_, _*_, _/_, _%_, _^_, _<_, _≤_}
 use native.Mathlib.Nat.{pow-suc, mod-eq-of-lt, eq-or-lt-of-le}
 use native.Mathlib.Omega.{arith}
 use lib.Bits.{bitOr, or-shifted-r}
 use lib.Pow.{pow-add, shl-exact}
-use lib.ListN.{length, take, drop, getD, length-append, length-take, length-drop, List·getD-append}
+use lib.ListN.{length, take, drop, length-append, length-take, length-drop, List·getD-append}
 use lib.Seq.{drop-cons, take-nil, take-all, take-length, take-take, take-append-le, drop-append-le, drop-drop, getD-take, getD-drop, getD-append-seam}
 use Rattle.document.specs.Hash.{fnv1a}
 use Rattle.base.specs.Text.{byteAt}
@@ -21,10 +20,10 @@ abbrev kept : ℕ → ℕ → ℕ → ℕ → Kept
 kept n f a z = record { count = n; few = f; first = a; last = z }
 
 -- ---- parts of bytes are bytes
-bytes-drop : (n : ℕ) (bs : List ℕ) → Bytes bs → Bytes (drop n bs)
+pub bytes-drop : (n : ℕ) (bs : List ℕ) → Bytes bs → Bytes (drop n bs)
 bytes-drop n bs h i l = let e : n + i < length bs = omega (arith, length-drop n bs) in rw (getD-drop n bs i 0) (h (n + i) e)
 
-bytes-take : (n : ℕ) (bs : List ℕ) → Bytes bs → Bytes (take n bs)
+pub bytes-take : (n : ℕ) (bs : List ℕ) → Bytes bs → Bytes (take n bs)
 bytes-take n bs h i l =
     let e = length-take n bs in
     let p : i < n = omega arith in

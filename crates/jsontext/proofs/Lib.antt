@@ -27,3 +27,5 @@ pub mod NumberNearest
 pub mod Joining
 pub mod Keeping
 pub mod DecodedSlots
+pub mod Bytewise
+pub mod StringEnds

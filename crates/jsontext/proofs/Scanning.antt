@@ -6,13 +6,13 @@ use Prim.Native.Nat.{ℕ, zero, suc, _+_, _-_, _<_, _≤_}
 use native.Mathlib.Numerals.{add-one}
 use native.Mathlib.Omega.{arith}
 use lib.Dec.{eqb}
-use lib.ListN.{length, take, drop, getD}
+use lib.ListN.{length, take, drop}
 use lib.Seq.{take-add, drop-drop, drop-cons}
 use borrow.Author.Tests.{eq-eqb, ne-eqb, eqb-true, eqb-false}
 use Rattle.base.specs.Text.{byteAt, Got, got, fault}
 use Rattle.base.proofs.Bytes.{past, byte-inside}
-use Rattle.jsontext.specs.Utf8.{Stretch, utf8, upTo, brokenAt}
-use Rattle.jsontext.specs.Strings.{Piece, closed, raw, code, bad, pieceAt, plain?, withFront, stringFrom, stringAt}
+use Rattle.jsontext.specs.Utf8.{utf8, upTo, brokenAt}
+use Rattle.jsontext.specs.Strings.{closed, raw, code, bad, pieceAt, plain?, withFront, stringFrom, stringAt}
 use Rattle.jsontext.specs.Scanned.{part, Scanned}
 use Rattle.jsontext.specs.StringAnswers.{Plains, placeOf, RawString}
 use Rattle.jsontext.proofs.Ways.{plain-piece}
@@ -44,19 +44,19 @@ front-join a b (got more n) = ap (λ (l : List ℕ). got l n) (sym (append-assoc
 front-join a b (fault p) = refl
 
 module _ (t : List ℕ) (i f : ℕ) where
-  step-closed : pieceAt t i ≡ closed → stringFrom (suc f) t i ≡ got [] (i + 1)
+  pub step-closed : pieceAt t i ≡ closed → stringFrom (suc f) t i ≡ got [] (i + 1)
   unfolding stringFrom
   step-closed e = rw (stringFrom, e)
 
-  step-raw : (n : ℕ) → pieceAt t i ≡ raw n → stringFrom (suc f) t i ≡ withFront (part t i n) (stringFrom f t n)
+  pub step-raw : (n : ℕ) → pieceAt t i ≡ raw n → stringFrom (suc f) t i ≡ withFront (part t i n) (stringFrom f t n)
   unfolding stringFrom
   step-raw n e = rw (stringFrom, e)
 
-  step-code : (c n : ℕ) → pieceAt t i ≡ code c n → stringFrom (suc f) t i ≡ withFront (utf8 c) (stringFrom f t n)
+  pub step-code : (c n : ℕ) → pieceAt t i ≡ code c n → stringFrom (suc f) t i ≡ withFront (utf8 c) (stringFrom f t n)
   unfolding stringFrom
   step-code c n e = rw (stringFrom, e)
 
-  step-bad : (p : ℕ) → pieceAt t i ≡ bad p → stringFrom (suc f) t i ≡ fault p
+  pub step-bad : (p : ℕ) → pieceAt t i ≡ bad p → stringFrom (suc f) t i ≡ fault p
   unfolding stringFrom
   step-bad p e = rw (stringFrom, e)
 

@@ -1,6 +1,6 @@
 -- Each way through the definitions of a string's pieces. Assumes nothing.
 use mathlib.Core.Path.{_≡_, refl, sym, ap, _∙_}
-use mathlib.Core.Bool.{Bool, true, false, not, _&&_}
+use mathlib.Core.Bool.{true, false, not, _&&_}
 use mathlib.Core.List.{List}
 use Prim.Native.Nat.{ℕ, zero, suc, _+_, _<_, _≤_}
 use native.Mathlib.Omega.{arith}
@@ -9,10 +9,10 @@ use lib.ListN.{length}
 use borrow.Author.Tests.{eq-eqb, ne-eqb, lt-ltb, le-ltb, ltb-false, ltb-true, leb-true, eqb-false, not-true}
 use Rattle.classes.specs.Classes.{control?}
 use Rattle.document.proofs.Refusals.{true-and}
-use Rattle.base.specs.Text.{byteAt, Got, got, fault}
+use Rattle.base.specs.Text.{byteAt, got, fault}
 use Rattle.base.proofs.Bytes.{inside, class-inside}
 use Rattle.jsontext.specs.Utf8.{sequenceAt}
-use Rattle.jsontext.specs.Strings.{Piece, closed, raw, code, bad, simple, plain?, hexFrom, dee?, low?, high?, asPair, asRaw, firstUnit, secondUnit, pairAt, unicodeAt, escapeAt, pieceAt}
+use Rattle.jsontext.specs.Strings.{closed, raw, code, bad, simple, plain?, hexFrom, dee?, low?, high?, asPair, asRaw, firstUnit, secondUnit, pairAt, unicodeAt, escapeAt, pieceAt}
 
 -- a byte that stands for an escape is not 0
 simple-above : (b : ℕ) → (simple b ≡ 0 → ⊥) → 0 < b

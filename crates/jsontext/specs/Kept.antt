@@ -1,7 +1,7 @@
 -- What is kept of decoded bytes for their slot: how many they are, the first eight and the last eight. Assumes nothing.
 use mathlib.Core.Path.{_≡_}
 use mathlib.Core.List.{List}
-use Prim.Native.Nat.{ℕ, _+_, _-_, _%_, _^_, _<_, min}
+use Prim.Native.Nat.{ℕ, _-_, _%_, _^_, _<_, min}
 use lib.ListN.{length, take, drop}
 use Rattle.base.specs.Text.{byteAt}
 use Rattle.jsontext.specs.Decoded.{joinBytes}

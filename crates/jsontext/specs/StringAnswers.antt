@@ -1,6 +1,6 @@
 -- What the answers of the functions on strings stand for. Assumes nothing.
 use mathlib.Core.Path.{_≡_}
-use mathlib.Core.Bool.{true}
+use mathlib.Core.Bool.{true, cond}
 use mathlib.Core.List.{List}
 use Prim.Native.Nat.{ℕ, _+_, _-_, _≤_, _<_}
 use lib.Dec.{T}
@@ -65,3 +65,7 @@ pub record Plains (t : List ℕ) (i n : ℕ) : Type 0 where
   pub forward : i ≤ n
   pub inside : n ≤ length t
   pub each : (k : ℕ) → i ≤ k → k < n → plain? (byteAt t k) ≡ true
+
+-- the highest bit of a byte, where the byte does not stand for itself
+abbrev pub mark : ℕ → ℕ
+mark b = cond (plain? b) 0 128

@@ -1,5 +1,5 @@
 -- At the loop's head n bytes agree. Assumes nothing.
-use mathlib.Core.Path.{_≡_, sym, _∙_}
+use mathlib.Core.Path.{sym, _∙_}
 use Prim.Native.Nat.{_+_, _-_, _<_}
 use borrow.Author.Needs.{needs}
 use borrow.Author.Tests.{not-false}

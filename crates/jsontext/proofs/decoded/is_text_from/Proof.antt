@@ -1,5 +1,4 @@
 -- At the loop's head the stream has handed out the first k bytes. Assumes nothing.
-use mathlib.Core.Path.{_≡_}
 use Prim.Native.Nat.{_-_}
 use borrow.Author.Needs.{needs}
 use native.Mathlib.Omega.{arith}

@@ -1,5 +1,4 @@
 -- At the loop's head both streams have handed out the same bytes. Assumes nothing.
-use mathlib.Core.Path.{_≡_}
 use borrow.Author.Needs.{needs}
 use native.Mathlib.Omega.{arith}
 use Rattle.jsontext.specs.Streams.{remaining}

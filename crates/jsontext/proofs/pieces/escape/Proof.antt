@@ -1,8 +1,7 @@
 -- The definition's tests. Assumes nothing.
-use mathlib.Core.Path.{_≡_, refl, sym, ap, _∙_}
+use mathlib.Core.Path.{_∙_}
 use borrow.Author.Needs.{needs}
 use native.Mathlib.Omega.{arith}
-use borrow.Author.Tests.{not-true, not-false}
 use denote.Ref.{now}
 use Rattle.base.proofs.Bytes.{byte-inside}
 use Rattle.jsontext.proofs.Ways.{escape-unicode, escape-bad, escape-simple, simple-inside}

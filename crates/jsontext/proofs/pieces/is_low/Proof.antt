@@ -1,6 +1,4 @@
 -- The definition. Assumes nothing.
-use mathlib.Core.Path.{refl}
-use mathlib.Core.Bool.{_||_}
 use borrow.Author.Needs.{needs}
 use Rattle.jsontext.specs.Strings.{low?}
 use Rattle.jsontext.proofs.pieces.is_low.Statement.{statement}

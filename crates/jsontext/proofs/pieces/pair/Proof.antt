@@ -1,11 +1,11 @@
 -- The definition's tests. Assumes nothing.
-use mathlib.Core.Path.{_≡_, refl, sym, ap, _∙_}
+use mathlib.Core.Path.{sym, ap, _∙_}
 use Prim.Native.Nat.{_+_}
 use borrow.Author.Needs.{needs}
 use native.Mathlib.Omega.{arith}
 use denote.Ref.{now}
 use Rattle.jsontext.specs.Strings.{asPair}
-use Rattle.jsontext.specs.StringAnswers.{hexOf, pieceOf}
+use Rattle.jsontext.specs.StringAnswers.{hexOf}
 use Rattle.base.proofs.Bytes.{byte-inside}
 use Rattle.jsontext.proofs.Ways.{pair-none, pair-other, pair-is}
 use Rattle.jsontext.proofs.pieces.pair.Statement.{statement}

@@ -1,11 +1,7 @@
 -- The definition's tests. Assumes nothing.
-use mathlib.Core.Path.{_≡_, refl, sym, ap, _∙_}
-use mathlib.Core.Bool.{_&&_}
+use mathlib.Core.Path.{sym, ap, _∙_}
 use borrow.Author.Needs.{needs}
-use native.Mathlib.Omega.{arith}
-use borrow.Author.Tests.{not-true, not-false}
-use denote.Ref.{now}
-use Rattle.jsontext.specs.StringAnswers.{hexOf, pieceOf}
+use Rattle.jsontext.specs.StringAnswers.{hexOf}
 use Rattle.jsontext.proofs.Ways.{unicode-bad, unicode-pair, unicode-one}
 use Rattle.jsontext.proofs.pieces.unicode.Statement.{statement}
 use Rattle.jsontext.proofs.pieces.unicode.Tie as tie

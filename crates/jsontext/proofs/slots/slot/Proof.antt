@@ -1,5 +1,5 @@
 -- Five steps of the hash. Assumes nothing.
-use mathlib.Core.Path.{_≡_, ap, _∙_}
+use mathlib.Core.Path.{ap, _∙_}
 use Prim.Native.Nat.{ℕ, _/_}
 use borrow.Author.Needs.{needs}
 use native.Mathlib.Omega.{arith}

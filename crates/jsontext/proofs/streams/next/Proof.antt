@@ -1,7 +1,5 @@
 -- By where the next byte comes from. Assumes nothing.
 use borrow.Author.Needs.{needs}
-use native.Mathlib.Omega.{arith}
-use denote.Ref.{now}
 use Rattle.jsontext.proofs.Handing.{from-packed, from-raw, from-here, as-here}
 use Rattle.jsontext.proofs.streams.next.Statement.{statement}
 use Rattle.jsontext.proofs.streams.next.Tie as tie

@@ -1,6 +1,6 @@
 -- The lead byte's numbers are its row of the table. Assumes nothing.
 use Prim.Native.Nat.{_<_, _+_}
-use mathlib.Core.Path.{_≡_, _∙_}
+use mathlib.Core.Path.{_∙_}
 use borrow.Author.Needs.{needs}
 use native.Mathlib.Omega.{arith}
 use denote.Ref.{now}
