@@ -8,4 +8,5 @@ pub mod Read
 pub mod State
 pub mod Texts
 pub mod Seen
+pub mod Items
 pub mod Meaning

@@ -4,3 +4,4 @@ pub mod keys; // keys.rt: the key list, and the lookup of a key
 pub mod texts; // texts.rt: texts by number
 pub mod leaves; // leaves.rt: words, numbers and strings
 pub mod members; // members.rt: the keys of an object
+pub mod reader; // reader.rt: values, members and elements
