@@ -1,3 +1,6 @@
 pub mod Holding
 pub mod Nodes
 pub mod Closing
+pub mod Planted
+pub mod WordProductions
+pub mod ReadValues
