@@ -4,3 +4,4 @@ pub mod Closing
 pub mod Planted
 pub mod WordProductions
 pub mod ReadValues
+pub mod ValuePlaces

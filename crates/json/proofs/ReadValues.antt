@@ -131,7 +131,7 @@ module _ (S : Setting) (t : List ℕ) where
         gives-as _ _
         (λ j n after h. record { what = element (h .first) (h .behind); spelled = h .follows at (h .first) (h .spelled); formed = both-formed _ _ (h .formed) (h .well); planted = h .planted })
         (both-gives (SomeElements t) ElementsBehind elementsFormed? (elementsTree (S .keys)) no-element 93 stop refl (λ texts. refl)
-        (λ j k n s e q i v h. subst (SomeElements t i (element v no-element)) (sym q) (last-element h s e))
+        (λ j k n s e q i v h. last-element h s e q)
         (λ j k m n x s e h i v g. more-elements g s e h)
         l rest is-rest item [] [] b b (grown-none (S .limit) l (b .rows)) at (is-value at b))
 
@@ -172,7 +172,7 @@ module _ (S : Setting) (t : List ℕ) where
               planted = key-planted s ts more (h .first) (h .behind) texts tree j after (h .planted);
             })
             (both-gives (SomeMembers t) MembersBehind (membersFormed? (seen ++ key ∷ [])) (membersTree (S .keys)) no-member 125 end refl (λ texts. refl)
-            (λ j k n s e q i key v h. subst (SomeMembers t i (member key v no-member)) (sym q) (last-member h s e))
+            (λ j k n s e q i key v h. last-member h s e q)
             (λ j k m n x s e h i key v g. more-members g s e h)
             l (rest (seen ++ key ∷ [])) (is-rest (seen ++ key ∷ [])) s ts js b more before (spaceEnd t (spaceEnd t next + 1)) (is-value (spaceEnd t (spaceEnd t next + 1)) more)))
             (λ e. gives-none)
@@ -268,14 +268,14 @@ module _ (S : Setting) (t : List ℕ) where
         (λ e.
         gives-as _ _
         (λ j n after h. record { what = object (h .what); spelled = is-object (record { mark = eqb-true _ _ e; spaces = spaces-read t (at + 1) }) (h .spelled); formed = h .formed; planted = h .planted })
-        (body-gives (MembersAt t) (SomeMembers t) (membersFormed? []) (membersTree (S .keys)) no-member 125 end refl (λ texts. refl) (λ i n c q. subst (MembersAt t i no-member) (sym q) (no-members c)) (λ i n x. some-members)
+        (body-gives (MembersAt t) (SomeMembers t) (membersFormed? []) (membersTree (S .keys)) no-member 125 end refl (λ texts. refl) (λ i n. no-members) (λ i n x. some-members)
         l level (ms []) (is-ms []) (spaceEnd t (at + 1)) b))
         (λ _.
         choose (eqb (byteAt t at) 91) _ _
         (λ e.
         gives-as _ _
         (λ j n after h. record { what = array (h .what); spelled = is-array (record { mark = eqb-true _ _ e; spaces = spaces-read t (at + 1) }) (h .spelled); formed = h .formed; planted = h .planted })
-        (body-gives (ElementsAt t) (SomeElements t) elementsFormed? (elementsTree (S .keys)) no-element 93 stop refl (λ texts. refl) (λ i n c q. subst (ElementsAt t i no-element) (sym q) (no-elements c)) (λ i n x. some-elements)
+        (body-gives (ElementsAt t) (SomeElements t) elementsFormed? (elementsTree (S .keys)) no-element 93 stop refl (λ texts. refl) (λ i n. no-elements) (λ i n x. some-elements)
         l level es is-es (spaceEnd t (at + 1)) b))
         (λ _.
         choose (eqb (byteAt t at) 34) _ _ (λ _. text-value)
