@@ -5,3 +5,5 @@ pub mod Planted
 pub mod WordProductions
 pub mod ReadValues
 pub mod ValuePlaces
+pub mod TextNumbers
+pub mod TreeTexts
