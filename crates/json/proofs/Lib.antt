@@ -7,3 +7,5 @@ pub mod ReadValues
 pub mod ValuePlaces
 pub mod TextNumbers
 pub mod TreeTexts
+pub mod AddedRows
+pub mod FittingValues

@@ -8,7 +8,7 @@ use Prim.Native.Nat.{ℕ, _+_, _<_, _≤_}
 use native.Mathlib.Omega.{arith}
 use borrow.Author.Tests.{ne-eqb}
 use lib.Dec.{eqb}
-use lib.ListN.{length, getD}
+use lib.ListN.{length, getD, length-append}
 use Rattle.model.specs.Lists.{only}
 use Rattle.model.specs.Tree.{Tree, forest}
 use Rattle.json.specs.Signature.{textLeaf, keySymbol}
@@ -20,6 +20,13 @@ use Rattle.json.proofs.TextNumbers.{numberAll, number-append, AllNumber
 -- a tree has the numbers of these texts, after others
 abbrev pub Has : Tree × List (List ℕ) → List (List ℕ) → List (List ℕ) → Type 0
 Has p xs texts = (textNumbers (p .0), p .1) ≡ numberAll xs texts
+
+-- the texts before keep their numbers, so there are as many or more
+pub has-longer : (p : Tree × List (List ℕ)) (xs texts : List (List ℕ)) → Has p xs texts → length texts ≤ length (p .1)
+has-longer p xs texts e =
+    let h = all-numbered xs texts in
+    let q : length (p .1) ≡ length texts + length (h .more) = ap (λ r. length (r .1)) e ∙ ap length (h .kept) ∙ length-append texts (h .more) in
+    omega arith
 
 -- one after the other
 then : (ks ms : List ℕ) (xs ys texts texts₁ texts₂ : List (List ℕ)) → (ks, texts₁) ≡ numberAll xs texts → (ms, texts₂) ≡ numberAll ys texts₁ → (ks ++ ms, texts₂) ≡ numberAll (xs ++ ys) texts
@@ -52,14 +59,14 @@ module _ (keys : List (List ℕ)) where
     value-has (array vs) texts = elements-have vs texts
     value-has (object ms) texts = members-have ms texts
 
-    elements-have : (vs : Elements) (texts : List (List ℕ)) → Has (elementsTree keys vs texts) (elementsTexts keys vs) texts
+    pub elements-have : (vs : Elements) (texts : List (List ℕ)) → Has (elementsTree keys vs texts) (elementsTexts keys vs) texts
     elements-have no-element texts = refl
     elements-have (element v vs) texts =
         let (x, texts₁) = valueTree keys v texts in
         let (rest, texts₂) = elementsTree keys vs texts₁ in
         pair-has x rest (leafTexts keys v) (elementsTexts keys vs) texts texts₁ texts₂ (value-has v texts) (elements-have vs texts₁)
 
-    members-have : (ms : Members) (texts : List (List ℕ)) → Has (membersTree keys ms texts) (membersTexts keys ms) texts
+    pub members-have : (ms : Members) (texts : List (List ℕ)) → Has (membersTree keys ms texts) (membersTexts keys ms) texts
     members-have no-member texts = refl
     members-have (member key v ms) texts =
         let (x, texts₁) = valueTree keys v (keyTexts key texts (findText key keys)) in
