@@ -9,3 +9,4 @@ pub mod TextNumbers
 pub mod TreeTexts
 pub mod AddedRows
 pub mod FittingValues
+pub mod ReadTexts

@@ -10,8 +10,16 @@ use lib.ListN.{length, getD}
 use Rattle.model.specs.Lists.{only}
 use Rattle.model.specs.Tree.{Tree, Forest, node, fnil, fcons, levels}
 use Rattle.model.specs.Limits.{maxLevels}
-use Rattle.json.specs.Signature.{textLeaf}
-use Rattle.json.specs.Keys.{findText}
+use Rattle.model.specs.Automaton.{Automaton}
+use Rattle.model.specs.Table.{Row, treeOf, SoundTable}
+use Rattle.model.specs.Build.{rowsOf}
+use Rattle.automaton.specs.Stored.{decode}
+use Rattle.automaton.specs.Check.{checkOf}
+use Rattle.document.specs.Rows.{encodeRows}
+use Rattle.document.specs.Check.{documentCheckOf}
+use Rattle.names.specs.Lines.{lines}
+use Rattle.json.specs.Signature.{textLeaf, Over}
+use Rattle.json.specs.Keys.{keysFit?, findText}
 use Rattle.json.specs.Value.{Value, Elements, Members, null, boolean, number, string, array, object, no-element, element, no-member, member, valueTree, formed?}
 use Rattle.json.specs.Productions.{JsonText}
 
@@ -21,6 +29,17 @@ pub record TreeOfText (keys : List (List ℕ)) (t : List ℕ) (tree : Tree) : Ty
   pub text : JsonText t value
   pub formed : formed? value ≡ true
   pub is : valueTree keys value [] .0 ≡ tree
+
+-- The text has a tree by the listed keys, of at most 256 levels, and the rows are its table in order of first finishing: a sound one of every automaton that has the keys' symbols, whose cells pass 11 to 17 with every set of them.
+pub record RowsOfText (list text : List ℕ) (rows : List Row) : Type 0 where
+  pub keys-fit : keysFit? list ≡ true
+  pub tree : Tree
+  pub text-is : TreeOfText (lines list) text tree
+  pub first-finishing : rows ≡ rowsOf tree
+  pub same-tree : treeOf rows ≡ tree
+  pub low : levels tree ≤ maxLevels
+  pub sound : (A : Automaton) → Over (length (lines list)) A → SoundTable A rows
+  pub passes : (set : List ℕ) → checkOf set ≡ 0 → Over (length (lines list)) (decode set) → documentCheckOf set (encodeRows rows) ≡ 0
 
 -- ---- texts and their numbers, each in the order of the document
 
