@@ -10,3 +10,4 @@ pub mod TreeTexts
 pub mod AddedRows
 pub mod FittingValues
 pub mod ReadTexts
+pub mod ValueStarts
