@@ -11,3 +11,4 @@ pub mod AddedRows
 pub mod FittingValues
 pub mod ReadTexts
 pub mod ValueStarts
+pub mod CompleteValues
