@@ -12,3 +12,4 @@ pub mod FittingValues
 pub mod ReadTexts
 pub mod ValueStarts
 pub mod CompleteValues
+pub mod Exactly

@@ -28,7 +28,7 @@ use Rattle.json.specs.Keys.{keysFit?}
 use Rattle.json.specs.Value.{valueTree}
 use Rattle.json.specs.Grammar.{Setting, Built, built, Outcome, good, refused, value}
 use Rattle.json.specs.Read.{Reading, rowsRead, refusedAt, wholeText, readText, settingFor, readOf}
-use Rattle.json.specs.Meaning.{TreeOfText, RowsOfText}
+use Rattle.json.specs.Meaning.{TreeOfText, TableOfText, RowsOfText}
 use Rattle.json.proofs.ReadValues.{IsValue, value-read}
 use Rattle.json.proofs.AddedRows.{few-texts}
 use Rattle.json.proofs.FittingValues.{value-fits}
@@ -50,16 +50,8 @@ to-the-end t (good j next b) rows = go (eqb (spaceEnd t next) (length t)) refl
     go false f e = let z : _≡_ {A = ℕ} 0 1 = cc in absurd (omega arith)
 to-the-end t (refused w p) rows = λ e. let z : _≡_ {A = ℕ} 0 1 = cc in absurd (omega arith)
 
--- what the rows are that a text was read into, at most so many of at most so many levels
-pub record Table (keys : List (List ℕ)) (levels-at-most limit : ℕ) (t : List ℕ) (rows : List Row) : Type 0 where
-  pub tree : Tree
-  pub text-is : TreeOfText keys t tree
-  pub rows-are : rows ≡ rowsOf tree
-  pub low : levels tree ≤ levels-at-most
-  pub few : length rows ≤ limit
-
 module _ (l : ℕ) (S : Setting) (t : List ℕ) (rows : List Row) where
-  pub text-read : readText l S t ≡ rowsRead rows → Table (S .keys) l (S .limit) t rows
+  pub text-read : readText l S t ≡ rowsRead rows → TableOfText (S .keys) l (S .limit) t rows
   unfolding readText rowsOf
   text-read e =
       let w = to-the-end t (value l S t (spaceEnd t 0) (built [] [])) rows e in

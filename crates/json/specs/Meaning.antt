@@ -30,6 +30,14 @@ pub record TreeOfText (keys : List (List ℕ)) (t : List ℕ) (tree : Tree) : Ty
   pub formed : formed? value ≡ true
   pub is : valueTree keys value [] .0 ≡ tree
 
+-- The text has a tree by the listed keys, of at most so many levels, and the rows are its table, at most so many, in order of first finishing.
+pub record TableOfText (keys : List (List ℕ)) (most-levels most-rows : ℕ) (t : List ℕ) (rows : List Row) : Type 0 where
+  pub tree : Tree
+  pub text-is : TreeOfText keys t tree
+  pub rows-are : rows ≡ rowsOf tree
+  pub low : levels tree ≤ most-levels
+  pub few : length rows ≤ most-rows
+
 -- The text has a tree by the listed keys, of at most 256 levels, and the rows are its table in order of first finishing: a sound one of every automaton that has the keys' symbols, whose cells pass 11 to 17 with every set of them.
 pub record RowsOfText (list text : List ℕ) (rows : List Row) : Type 0 where
   pub keys-fit : keysFit? list ≡ true
