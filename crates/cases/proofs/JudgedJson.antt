@@ -1,11 +1,10 @@
 -- The judge on the rows of a JSON text answers for the text's tree. Assumes nothing.
-use mathlib.Core.Path.{_≡_, refl, sym, ap, subst, _∙_}
+use mathlib.Core.Path.{_≡_, ap, subst, _∙_}
 use mathlib.Core.Logic.{_↔_}
 use mathlib.Core.List.{List}
 use mathlib.Core.Bool.{Bool, true, false}
 use Prim.Native.Nat.{ℕ, _/_, _≤_}
 use borrow.Author.Tests.{le-leb}
-use lib.Dec.{leb}
 use lib.ListN.{length}
 use Rattle.model.specs.Refusal.{demand, andAfter, Answer, gives, unless}
 use Rattle.model.specs.Tree.{Tree}
@@ -25,7 +24,7 @@ use Rattle.membership.specs.Judge.{judgeCheckOf}
 use Rattle.membership.proofs.Meaning.{judged-means}
 use Rattle.json.specs.Signature.{Over}
 use Rattle.json.specs.Read.{rowsRead, readOf}
-use Rattle.json.specs.Meaning.{TreeOfText, RowsOfText}
+use Rattle.json.specs.Meaning.{TreeOfText}
 use Rattle.json.proofs.ReadTexts.{read-means}
 use Rattle.json.proofs.Exactly.{tree-unique}
 

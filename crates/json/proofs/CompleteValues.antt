@@ -1,7 +1,7 @@
 -- A value by the productions of RFC 8259, whose tree has few enough levels and rows, is read. Assumes nothing.
 use mathlib.Core.Path.{_≡_, refl, sym, ap, subst, _∙_}
-use mathlib.Core.Logic.{_⊎_, inl, inr, ⊎-elim}
-use mathlib.Core.Bool.{Bool, true, false, not, _&&_, _||_}
+use mathlib.Core.Logic.{_⊎_, ⊎-elim}
+use mathlib.Core.Bool.{Bool, true, false, not, _&&_}
 use mathlib.Core.List.{List, [], _∷_, _++_}
 use mathlib.Core.Option.{Option, none, some}
 use Prim.Native.Nat.{ℕ, zero, suc, _+_, _<_, _≤_}
@@ -9,17 +9,15 @@ use native.Mathlib.Omega.{arith}
 use borrow.Author.Tests.{eq-eqb, ne-eqb}
 use lib.Dec.{eqb}
 use lib.ListN.{length}
-use Rattle.base.specs.Text.{byteAt, Got, got, fault, wordAt}
-use Rattle.classes.specs.Classes.{digit?, space?}
+use Rattle.base.specs.Text.{byteAt, got, wordAt}
+use Rattle.classes.specs.Classes.{digit?}
 use Rattle.model.specs.Lists.{any, eqList}
 use Rattle.model.specs.Tree.{Tree, forest, levels, highest}
-use Rattle.model.specs.Table.{Row}
-use Rattle.model.specs.Build.{addRow, addTree, addForest}
+use Rattle.model.specs.Build.{addRow, addTree}
 use Rattle.model.proofs.Levels.{larger-bounds}
 use Rattle.document.specs.declared.scalar.Scalar.{Scalar}
 use Rattle.document.specs.declared.scalar.Scalar.the-variants.{Bare, Flag, Name}
 use Rattle.jsontext.specs.Spaces.{spaceEnd}
-use Rattle.jsontext.specs.Strings.{stringAt}
 use Rattle.jsontext.specs.Number.{Number, numberAt, asScalar, numberScalar}
 use Rattle.jsontext.specs.Productions.{Spaces, NumberAt, StringAt, e?, continues?}
 use Rattle.jsontext.proofs.Places.{never, both, range-in}
@@ -28,8 +26,8 @@ use Rattle.jsontext.proofs.NumberProductions.{read-number}
 use Rattle.jsontext.proofs.StringProductions.{read-string}
 use Rattle.json.specs.Signature.{end, stop, other, item, nullLeaf, flagLeaf, numberLeaf, textLeaf, keySymbol}
 use Rattle.json.specs.Keys.{findText}
-use Rattle.json.specs.Value.{Value, Elements, Members, null, boolean, number, string, array, object, no-element, element, no-member, member, some?, scalarOr, numberText, leafTree, nodeTree, textTree, keyTexts, memberTree, valueTree, elementsTree, membersTree, formed?, elementsFormed?, membersFormed?}
-use Rattle.json.specs.Productions.{WordAt, MarkAt, ValueAt, is-null, is-true, is-false, is-number, is-string, is-array, is-object, ElementsAt, no-elements, some-elements, SomeElements, last-element, more-elements, MembersAt, no-members, some-members, SomeMembers, last-member, more-members, MemberAt, pair}
+use Rattle.json.specs.Value.{Value, Elements, Members, null, boolean, string, no-element, element, no-member, member, some?, scalarOr, numberText, leafTree, nodeTree, textTree, keyTexts, memberTree, valueTree, elementsTree, membersTree, formed?, elementsFormed?, membersFormed?}
+use Rattle.json.specs.Productions.{WordAt, MarkAt, ValueAt, is-null, is-true, is-false, is-number, is-string, is-array, is-object, ElementsAt, no-elements, some-elements, SomeElements, last-element, more-elements, MembersAt, no-members, some-members, SomeMembers, last-member, more-members, pair}
 use Rattle.json.specs.Grammar.{Setting, Built, built, Outcome, good, refused, leafRow, nodeRow, finish, finishText, afterWord, afterText, afterNumber, noValue, Reader, MemberReader, closeAt, restAt, joined, afterValue, elementBy, memberBy, afterKey, keyBy, membersBy, bodyAt, valueBy, members, elements, value}
 use Rattle.json.proofs.Planted.{finish-room, some-level}
 use Rattle.json.proofs.AddedRows.{tree-onward, row-onward, onward-longer}

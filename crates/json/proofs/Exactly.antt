@@ -1,14 +1,12 @@
 -- A text is read exactly where it has a tree with few enough levels and rows; and a text has one tree. Assumes nothing.
-use mathlib.Core.Path.{_≡_, refl, sym, ap, subst, _∙_}
+use mathlib.Core.Path.{_≡_, sym, ap, subst, _∙_}
 use mathlib.Core.Logic.{_↔_}
 use mathlib.Core.Bool.{true, cond}
 use mathlib.Core.List.{List, []}
 use Prim.Native.Nat.{ℕ, _+_, _/_, _≤_, min}
 use native.Mathlib.Omega.{arith}
 use borrow.Author.Tests.{eq-eqb}
-use lib.Dec.{eqb}
 use lib.ListN.{length}
-use Rattle.base.specs.Text.{byteAt}
 use Rattle.model.specs.Limits.{maxRows, maxLevels}
 use Rattle.model.specs.Tree.{Tree, levels}
 use Rattle.model.specs.Table.{Row, treeOf}
@@ -20,13 +18,13 @@ use Rattle.jsontext.specs.Spaces.{spaceEnd}
 use Rattle.jsontext.proofs.SpaceProductions.{read-spaces}
 use Rattle.json.specs.Keys.{keysFit?}
 use Rattle.json.specs.Value.{valueTree}
-use Rattle.json.specs.Grammar.{Setting, Outcome, built, value}
-use Rattle.json.specs.Read.{Reading, rowsRead, refusedAt, wholeText, readText, settingFor, readOf}
+use Rattle.json.specs.Grammar.{Setting, built, value}
+use Rattle.json.specs.Read.{rowsRead, refusedAt, wholeText, readText, settingFor, readOf}
 use Rattle.json.specs.Meaning.{TreeOfText, TableOfText, leafTexts, textNumbers, TextsNumbered}
 use Rattle.json.proofs.ReadTexts.{text-read, keys-pass}
 use Rattle.json.proofs.TreeTexts.{equal-numbers}
 use Rattle.json.proofs.ValueStarts.{no-space-above, ends-before, ends-text, no-space-past, value-starts}
-use Rattle.json.proofs.CompleteValues.{result, read-value}
+use Rattle.json.proofs.CompleteValues.{read-value}
 
 module _ (l : ℕ) (S : Setting) (t : List ℕ) where
   -- a text that has a tree with few enough levels and rows is read into that tree's rows

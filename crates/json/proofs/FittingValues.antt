@@ -3,7 +3,7 @@ use mathlib.Core.Path.{_≡_, refl, sym, ap, subst, _∙_}
 use mathlib.Core.Bool.{Bool, true, false, not, _&&_}
 use mathlib.Core.List.{List, [], _∷_, _++_}
 use mathlib.Core.Option.{Option, none, some, Option·some-injective, Option·none-ne-some}
-use Prim.Native.Nat.{ℕ, suc, _+_, _^_, _<_, _≤_}
+use Prim.Native.Nat.{ℕ, _+_, _^_, _<_, _≤_}
 use native.Mathlib.Omega.{arith}
 use borrow.Author.Tests.{ltb-true, lt-ltb}
 use lib.Dec.{T, ltb}
@@ -13,7 +13,7 @@ use lib.Ieee.Bits.{toBits-lt}
 use lib.Ieee.Fits.{cond-fits, neg-fits, div-fits}
 use Rattle.model.specs.Lists.{any, eqList}
 use Rattle.model.specs.Tree.{Tree, forest}
-use Rattle.model.specs.Automaton.{Automaton, arityOf}
+use Rattle.model.specs.Automaton.{Automaton}
 use Rattle.model.specs.Table.{scalar?, rate?, oneZero}
 use Rattle.model.specs.Fit.{FitTree, FitForest}
 use Rattle.model.proofs.Rows.{trees-forest}

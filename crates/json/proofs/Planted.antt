@@ -3,7 +3,7 @@ use mathlib.Core.Path.{_≡_, refl, sym, ap, subst, _∙_}
 use mathlib.Core.Bool.{Bool, true, false, cond}
 use mathlib.Core.List.{List, [], _∷_, _++_}
 use mathlib.Core.Option.{Option, none, some}
-use Prim.Native.Nat.{ℕ, zero, suc, _-_, _<_, _≤_}
+use Prim.Native.Nat.{ℕ, suc, _-_, _<_, _≤_}
 use native.Mathlib.Omega.{arith}
 use borrow.Author.Tests.{ltb-true, lt-ltb}
 use lib.Dec.{ltb}
@@ -13,7 +13,6 @@ use Rattle.model.specs.Table.{Row}
 use Rattle.model.specs.Build.{findRow, placed, addRow, addTree, addForest}
 use Rattle.model.proofs.Build.{Found, find-ok}
 use Rattle.model.proofs.Levels.{larger-least, larger-bounds}
-use Rattle.document.specs.Scalars.{kindOf, payloadOf}
 use Rattle.document.specs.declared.scalar.Scalar.{Scalar}
 use Rattle.json.specs.Value.{leafTree, nodeTree}
 use Rattle.json.specs.Grammar.{Built, built, Outcome, good, refused, leafRow, nodeRow, placeRow, finish}

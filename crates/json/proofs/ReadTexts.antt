@@ -2,7 +2,7 @@
 use mathlib.Core.Path.{_≡_, refl, sym, ap, subst, _∙_}
 use mathlib.Core.Bool.{Bool, true, false, cond}
 use mathlib.Core.List.{List, []}
-use Prim.Native.Nat.{ℕ, _/_, _<_, _≤_, _^_}
+use Prim.Native.Nat.{ℕ, _/_, _≤_}
 use native.Mathlib.Nat.{min-le-left}
 use native.Mathlib.Omega.{arith}
 use borrow.Author.Tests.{eqb-true}
@@ -27,9 +27,9 @@ use Rattle.json.specs.Signature.{Over}
 use Rattle.json.specs.Keys.{keysFit?}
 use Rattle.json.specs.Value.{valueTree}
 use Rattle.json.specs.Grammar.{Setting, Built, built, Outcome, good, refused, value}
-use Rattle.json.specs.Read.{Reading, rowsRead, refusedAt, wholeText, readText, settingFor, readOf}
+use Rattle.json.specs.Read.{rowsRead, refusedAt, wholeText, readText, settingFor, readOf}
 use Rattle.json.specs.Meaning.{TreeOfText, TableOfText, RowsOfText}
-use Rattle.json.proofs.ReadValues.{IsValue, value-read}
+use Rattle.json.proofs.ReadValues.{value-read}
 use Rattle.json.proofs.AddedRows.{few-texts}
 use Rattle.json.proofs.FittingValues.{value-fits}
 
@@ -55,7 +55,7 @@ module _ (l : ℕ) (S : Setting) (t : List ℕ) (rows : List Row) where
   unfolding readText rowsOf
   text-read e =
       let w = to-the-end t (value l S t (spaceEnd t 0) (built [] [])) rows e in
-      let h = value-read S t (w .outcome) in
+      let h = value-read S t l (spaceEnd t 0) (built [] []) (w .outcome) in
       let s : Spaces t (w .next) (length t) = subst (Spaces t (w .next)) (w .end) (spaces-read t (w .next)) in
       record {
         tree = valueTree (S .keys) (h .what) [] .0;

@@ -12,8 +12,7 @@ use Rattle.base.specs.Text.{byteAt, Got, got, fault, wordAt}
 use Rattle.base.proofs.Got.{Reads, reads, none-read}
 use Rattle.classes.specs.Classes.{digit?}
 use Rattle.model.specs.Lists.{any, eqList}
-use Rattle.model.specs.Tree.{Tree, forest, levels, highest}
-use Rattle.model.specs.Table.{Row}
+use Rattle.model.specs.Tree.{Tree}
 use Rattle.document.specs.declared.scalar.Scalar.{Scalar}
 use Rattle.document.specs.declared.scalar.Scalar.the-variants.{Bare, Flag, Name}
 use Rattle.jsontext.specs.Spaces.{spaceEnd}
@@ -30,6 +29,7 @@ use Rattle.json.specs.Productions.{WordAt, MarkAt, ValueAt, is-null, is-
 use Rattle.json.specs.Grammar.{Setting, Built, built, Outcome, good, refused, leafRow, nodeRow, finish, finishText, afterWord, afterText, afterNumber, noValue, Reader, MemberReader, closeAt, restAt, joined, afterValue, elementBy, memberBy, afterKey, keyBy, membersBy, bodyAt, valueBy, members, elements, value}
 use Rattle.json.proofs.Planted.{Gives, gives, gives-none, given-is, gives-as, Ended, finish-gives, Grown, Planted, grown-none, grown-more, node-planted, leaf-planted, some-level}
 use Rattle.json.proofs.WordProductions.{word-read}
+use Rattle.json.proofs.ValuePlaces.{value-ahead, some-elements-ahead, some-members-ahead}
 
 -- something was read from `at` up to n: what it is by the productions, with numbers that have a form and keys that stand once, and its tree of at most l levels was added
 pub record IsRead {X : Type 0} (limit : ℕ) (Is : ℕ → X → ℕ → Type 0) (ok : X → Bool) (tree : X → List (List ℕ) → Tree × List (List ℕ)) (l at : ℕ) (b : Built) (j n : ℕ) (after : Built) : Type 0 where
@@ -324,6 +324,27 @@ module _ (S : Setting) (t : List ℕ) where
   value-gives zero at b = no-value at b
   value-gives (suc l) at b = value-by (suc l) (omega arith) at b (members l S t) (members-give l) (elements l S t) (elements-give l)
 
-  -- A VALUE THAT IS READ IS ONE BY THE PRODUCTIONS OF RFC 8259, and its tree of at most l levels was added.
-  pub value-read : {l at : ℕ} {b : Built} {j n : ℕ} {after : Built} → value l S t at b ≡ good j n after → IsValue l at b j n after
-  value-read {l} {at} {b} {j} {n} {after} e = given-is (IsValue l at b) j n after e (value-gives l at b)
+  -- what is read ends behind its place and inside the text, and its row is one of the rows
+  abbrev pub Inside : ℕ → ℕ → ℕ → Built → Type 0
+  Inside at j n after = (at < n) × (n ≤ length t) × (j < length (after .rows))
+
+  module _ (l at : ℕ) (b : Built) {j n : ℕ} {after : Built} where
+    -- A VALUE THAT IS READ IS ONE BY THE PRODUCTIONS OF RFC 8259, and its tree of at most l levels was added.
+    pub value-read : value l S t at b ≡ good j n after → IsValue l at b j n after
+    value-read e = given-is (IsValue l at b) j n after e (value-gives l at b)
+
+    pub value-inside : value l S t at b ≡ good j n after → Inside at j n after
+    value-inside e = let h = value-read e in let r = value-ahead t (h .spelled) in (r .0, r .1, h .planted .inside)
+
+    -- and so are elements and members
+    pub elements-read : elements l S t at b ≡ good j n after → IsElements (suc l) at b j n after
+    elements-read e = given-is (IsElements (suc l) at b) j n after e (elements-give l at b)
+
+    pub elements-inside : elements l S t at b ≡ good j n after → Inside at j n after
+    elements-inside e = let h = elements-read e in let r = some-elements-ahead t (h .spelled) in (r .0, r .1, h .planted .inside)
+
+    pub members-read : (seen : List (List ℕ)) → members l S t seen at b ≡ good j n after → IsMembers seen (suc l) at b j n after
+    members-read seen e = given-is (IsMembers seen (suc l) at b) j n after e (members-give l seen at b)
+
+    pub members-inside : (seen : List (List ℕ)) → members l S t seen at b ≡ good j n after → Inside at j n after
+    members-inside seen e = let h = members-read seen e in let r = some-members-ahead t (h .spelled) in (r .0, r .1, h .planted .inside)

@@ -3,7 +3,7 @@ use mathlib.Core.Path.{_≡_, refl, sym, ap}
 use mathlib.Core.Logic.{_⊎_, inl, inr, ⊎-elim}
 use mathlib.Core.Bool.{Bool, true, false, _||_}
 use mathlib.Core.List.{List, [], _∷_}
-use Prim.Native.Nat.{ℕ, _+_, _<_, _≤_}
+use Prim.Native.Nat.{ℕ, _<_, _≤_}
 use native.Mathlib.Omega.{arith}
 use borrow.Author.Tests.{eqb-true}
 use lib.Dec.{eqb}
@@ -12,10 +12,10 @@ use Rattle.base.specs.Text.{byteAt}
 use Rattle.base.proofs.Bytes.{past}
 use Rattle.classes.specs.Classes.{digit?, space?}
 use Rattle.model.specs.Lists.{any}
-use Rattle.jsontext.specs.Productions.{Spaces, no-space, space, IntAt, only-zero, digit1-9, MinusOption, no-minus, minus, NumberAt, number, StringAt, string, e?, continues?}
+use Rattle.jsontext.specs.Productions.{Spaces, no-space, space, IntAt, only-zero, digit1-9, no-minus, minus, NumberAt, number, StringAt, string, e?, continues?}
 use Rattle.jsontext.proofs.Places.{never, either, in-range}
 use Rattle.json.specs.Value.{Value, Elements, Members}
-use Rattle.json.specs.Productions.{WordAt, word-byte, MarkAt, ValueAt, is-null, is-true, is-false, is-number, is-string, is-array, is-object, SomeElements, last-element, more-elements, SomeMembers, last-member, more-members, MemberAt, pair}
+use Rattle.json.specs.Productions.{WordAt, word-byte, ValueAt, is-null, is-true, is-false, is-number, is-string, is-array, is-object, SomeElements, last-element, more-elements, SomeMembers, last-member, more-members, MemberAt, pair}
 
 -- white space is low, and what continues a number is above it
 space-below : (b : ℕ) → space? b ≡ true → b ≤ 32

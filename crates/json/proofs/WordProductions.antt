@@ -2,12 +2,12 @@
 use mathlib.Core.Path.{_≡_, refl, sym, ap, subst, _∙_}
 use mathlib.Core.Bool.{Bool, true, false, cond}
 use mathlib.Core.List.{List, [], _∷_}
-use Prim.Native.Nat.{ℕ, zero, suc, _+_, _≤_}
+use Prim.Native.Nat.{ℕ, suc, _+_}
 use native.Mathlib.Omega.{arith}
 use borrow.Author.Tests.{eq-eqb, eqb-true}
 use lib.Dec.{eqb}
 use lib.ListN.{length, getD}
-use Rattle.base.specs.Text.{byteAt, Got, got, fault, leading, wordBytes, wordAt}
+use Rattle.base.specs.Text.{byteAt, got, fault, leading, wordBytes, wordAt}
 use Rattle.base.proofs.Got.{Reads, reads, none-read}
 use Rattle.json.specs.Productions.{WordAt, word-end, word-byte}
 
