@@ -34,6 +34,7 @@ placed-onward : (rows : List Row) (r : Row) (o : Option ℕ) → Onward rows (pl
 placed-onward rows r (some i) = onward-same rows
 placed-onward rows r none = record { more = r ∷ []; is = refl }
 
+-- rows go on where a row or a tree is added
 pub row-onward : (rows : List Row) (r : Row) → Onward rows (addRow rows r .0)
 row-onward rows r = placed-onward rows r (findRow r rows)
 
@@ -47,6 +48,7 @@ mutual
   forest-onward fnil rows = onward-same rows
   forest-onward (fcons t f) rows = onward-on (tree-onward t rows) (forest-onward f (addTree t rows .0))
 
+-- so there are as many or more
 pub onward-longer : {a b : List Row} → Onward a b → length a ≤ length b
 onward-longer {a} g = let k = length-append a (g .more) in let q = ap length (g .is) in omega arith
 

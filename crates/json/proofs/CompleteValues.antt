@@ -64,6 +64,7 @@ module _ (S : Setting) (t : List ℕ) where
   abbrev TakesValues : ℕ → Reader → Type 0
   TakesValues = Takes EndedValue formed? (valueTree (S .keys))
 
+  -- elements, and members after keys that stood before
   abbrev TakesElements : ℕ → Reader → Type 0
   TakesElements = Takes (SomeElements t) elementsFormed? (elementsTree (S .keys))
 
@@ -151,6 +152,7 @@ module _ (S : Setting) (t : List ℕ) where
           both-taken (SomeElements t) elementsFormed? (elementsTree (S .keys)) no-element 93 stop (λ texts. refl) ((λ e. omega arith), omega arith) refl (λ i n x h. elements-start t h .0) l rest takes
           item [] b i j n v vs read reads h ok-v f ok-vs low low′ (room .few)
 
+      -- elements are read, by readers of values and of what follows
       pub elements-taken : TakesElements (suc l) (elementBy (S .limit) t read rest)
       elements-taken i n vs (last-element {j = j} {v = v} h s e q) ok b room = element-taken i j n v no-element h (closes s e q) ok b room
       elements-taken i n vs (more-elements {j = j} {v = v} {vs = ws} h s m g) ok b room = element-taken i j n v ws h (goes-on s m g) ok b room
@@ -229,6 +231,7 @@ module _ (S : Setting) (t : List ℕ) where
           let (ok-v, ok-ms) = both (formed? v) (membersFormed? (seen ++ key ∷ []) ms) r in
           rw (membersBy, read-string t h) (key-taken key v ms s colon g f ok-v ok-ms i (not-true (any (eqList key) seen) new) b room)
 
+      -- members are read, by readers of values and of what follows
       pub members-taken : Takes (SomeMembers t) (membersFormed? seen) (membersTree (S .keys)) (suc l) (membersBy S t l read rest seen)
       members-taken i n ms (last-member (pair {j = j} {k = k} {l = m} {n = e} {key = key} {v = v} h s colon g) s′ c q) ok b room = whole-member i j k m e n key v no-member h s colon g (closes s′ c q) ok b room
       members-taken i n ms (more-members {ms = more} (pair {j = j} {k = k} {l = m} {n = e} {key = key} {v = v} h s colon g) s′ c r) ok b room = whole-member i j k m e n key v more h s colon g (goes-on s′ c r) ok b room
@@ -309,6 +312,7 @@ module _ (S : Setting) (t : List ℕ) where
         rw (valueBy, e)
         (ap (λ k. bodyAt (S .limit) t 125 end (ms []) k b) (spaces-end (m .spaces) (body-starts (omega arith) body)) ∙ body-taken (SomeMembers t) (membersFormed? []) (membersTree (S .keys)) no-member 125 end (λ texts. refl) l (ms []) (takes []) body ok b room)
 
+  -- a value is read, by readers of members and elements
   pub value-taken : (l : ℕ) (ms : MemberReader) → TakesMembers l ms → (es : Reader) → TakesElements l es → TakesValues l (valueBy S t ms es)
   value-taken l ms takes es takes-es i n v h ok b room = by-start l ms takes es takes-es i b n v (h .0) (h .1) ok room
 
@@ -317,6 +321,7 @@ module _ (S : Setting) (t : List ℕ) where
   no-level : {A : Type 0} (p : Tree × List (List ℕ)) (b : Built) → Room (S .limit) 0 p b → A
   no-level p b room = absurd (omega (arith, room .low, some-level (p .0)))
 
+  -- the readers of one level
   record Both (l : ℕ) : Type 0 where
     of-members : TakesMembers (suc l) (members l S t)
     of-elements : TakesElements (suc l) (elements l S t)

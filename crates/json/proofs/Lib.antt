@@ -13,3 +13,4 @@ pub mod ReadTexts
 pub mod ValueStarts
 pub mod CompleteValues
 pub mod Exactly
+pub mod ReadTries

@@ -22,6 +22,7 @@ pub data Gives (P : ℕ → ℕ → Built → Type 0) : Outcome → Type 0 where
   gives : {j n : ℕ} {b : Built} → P j n b → Gives P (good j n b)
   gives-none : {w p : ℕ} → Gives P (refused w p)
 
+-- what is known of an outcome that is known
 pub given-is : (P : ℕ → ℕ → Built → Type 0) (j n : ℕ) (b : Built) {o : Outcome} → o ≡ good j n b → Gives P o → P j n b
 given-is P j n b q (gives {j = i} {n = m} {b = a} h) =
     let x : i ≡ j = cc in
@@ -30,6 +31,7 @@ given-is P j n b q (gives {j = i} {n = m} {b = a} h) =
     subst (λ w. w) (λ k. P (x k) (y k) (z k)) h
 given-is P j n b q gives-none = let z : _≡_ {A = ℕ} 0 1 = cc in absurd (omega arith)
 
+-- what follows from a test that was passed
 pub gives-as : (P Q : ℕ → ℕ → Built → Type 0) {o : Outcome} → ((j n : ℕ) (b : Built) → P j n b → Q j n b) → Gives P o → Gives Q o
 gives-as P Q f (gives h) = gives (f _ _ _ h)
 gives-as P Q f gives-none = gives-none
@@ -85,6 +87,7 @@ pub record Planted (limit : ℕ) (p : Tree × List (List ℕ)) (l : ℕ) (b : Bu
   pub inside : j < length (after .rows)
   pub few : length (b .rows) ≤ limit → length (after .rows) ≤ limit
 
+-- no tree yet
 pub grown-none : (limit l : ℕ) (rows : List Row) → Grown limit [] l rows [] rows
 unfolding addTree levels
 grown-none limit l rows = record { added = refl; low = omega arith; few = λ m. m }

@@ -195,6 +195,7 @@ module _ (S : Setting) (t : List ℕ) where
                 (λ z. choose (any (eqList key) seen) _ _ (λ w. gives-none) (λ w. text-gives w (let y = eqb-false l 0 z in omega arith) e (finish-gives (S .limit) (leafRow textLeaf (Name (numberText key (b .texts) .0))) next (built (b .rows) (numberText key (b .texts) .1)))))
             go (some k) e = choose (any (eqList key) seen) _ _ (λ w. gives-none) (λ w. member-gives w (keySymbol k) [] [] b (grown-none (S .limit) l (b .rows)) (ap (keyTexts key (b .texts)) e) (λ x y. ap (λ f. memberTree key (b .texts) f x y) (sym e)))
 
+      -- one member or more, by readers of values and of what follows
       pub members-by : Gives (IsMembers seen (suc l) at b) (membersBy S t l read rest seen at b)
       unfolding membersBy
       members-by = go (stringAt t at) refl
@@ -313,6 +314,7 @@ module _ (S : Setting) (t : List ℕ) where
         of-elements = elements-by (suc l) (valueBy S t (members l S t) (elements l S t)) v (elements l S t) (h .of-elements);
       }
 
+  -- what each reader gives, level by level
   pub members-give : (l : ℕ) (seen : List (List ℕ)) (at : ℕ) (b : Built) → Gives (IsMembers seen (suc l) at b) (members l S t seen at b)
   members-give l = both l .of-members
 

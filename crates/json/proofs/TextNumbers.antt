@@ -21,6 +21,7 @@ abbrev pub FoundText : List ℕ → List (List ℕ) → Option ℕ → Type 0
 FoundText bs texts (some i) = (i < length texts) × (getD texts i [] ≡ bs)
 FoundText bs texts none = (i : ℕ) → i < length texts → getD texts i [] ≡ bs → ⊥
 
+-- the search finds that
 pub find-text : (bs : List ℕ) (texts : List (List ℕ)) → FoundText bs texts (findText bs texts)
 unfolding findText
 find-text bs [] = λ i l e. omega arith
@@ -41,6 +42,7 @@ pub record Numbered (bs : List ℕ) (texts : List (List ℕ)) (k : ℕ) (after :
   -- a number that is new is the next
   pub next : (m : ℕ) → m < length after → (m < length texts) ⊎ (m ≡ k)
 
+-- numbering a text gives it its number
 pub text-number : (bs : List ℕ) (texts : List (List ℕ)) → Numbered bs texts (numberText bs texts .0) (numberText bs texts .1)
 text-number bs texts = go (findText bs texts) (find-text bs texts)
   where
@@ -65,6 +67,7 @@ abbrev pub numberAll : List (List ℕ) → List (List ℕ) → List ℕ × List 
 numberAll [] texts = ([], texts)
 numberAll (x ∷ xs) texts = let (k, texts₁) = numberText x texts in let (ks, texts₂) = numberAll xs texts₁ in (k ∷ ks, texts₂)
 
+-- each of these texts has its number; the texts before keep theirs; and a number is one of those, or every number below it was given before
 pub record AllNumbered (xs texts : List (List ℕ)) (ks : List ℕ) (after : List (List ℕ)) : Type 0 where
   pub as-many : length ks ≡ length xs
   pub inside : (i : ℕ) → i < length xs → getD ks i 0 < length after
@@ -96,6 +99,7 @@ module _ (x : List ℕ) (xs texts : List (List ℕ)) {k : ℕ} {texts₁ : List 
         order = λ i. elim i [ zero ↦ λ l m lm. ⊎-elim inl (λ z. absurd z) (before m lm) | suc j ↦ λ l m lm. ⊎-elim (λ q. ⊎-elim inl (λ e. inr (0, omega arith, sym e)) (h .next m q)) (λ (i, li, e). inr (suc i, omega arith, e)) (r .order j (omega arith) m lm) ];
       }
 
+-- numbering texts one after the other gives them their numbers
 pub all-numbered : (xs texts : List (List ℕ)) → AllNumbered xs texts (numberAll xs texts .0) (numberAll xs texts .1)
 all-numbered [] texts =
     record {
@@ -109,6 +113,7 @@ all-numbered [] texts =
     }
 all-numbered (x ∷ xs) texts = all-more x xs texts (text-number x texts) (all-numbered xs (numberText x texts .1))
 
+-- the numbers of two lists are those of the first, then those of the second
 pub number-append : (xs ys texts : List (List ℕ)) → numberAll (xs ++ ys) texts ≡ (let (ks, texts₁) = numberAll xs texts in let (ms, texts₂) = numberAll ys texts₁ in (ks ++ ms, texts₂))
 number-append [] ys texts = refl
 number-append (x ∷ xs) ys texts = ap (λ p. (numberText x texts .0 ∷ p .0, p .1)) (number-append xs ys (numberText x texts .1))

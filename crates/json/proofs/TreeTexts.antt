@@ -51,6 +51,7 @@ module _ (keys : List (List ℕ)) where
   mutual
     unfolding valueTree leafTexts textNumbers
 
+    -- the text leaves of a value's tree have the numbers of its texts
     pub value-has : (v : Value) (texts : List (List ℕ)) → Has (valueTree keys v texts) (leafTexts keys v) texts
     value-has null texts = refl
     value-has (boolean b) texts = refl

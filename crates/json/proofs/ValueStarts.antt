@@ -25,6 +25,7 @@ space-below b =
     (either (eqb b 10) (any (eqb b) (13 ∷ 32 ∷ [])) (λ e. omega (arith, eqb-true b 10 e))
     (either (eqb b 13) (any (eqb b) (32 ∷ [])) (λ e. omega (arith, eqb-true b 13 e)) (either (eqb b 32) false (λ e. omega (arith, eqb-true b 32 e)) (λ e. never (sym e)))))
 
+-- so a higher byte is no white space
 pub no-space-above : (b : ℕ) → 32 < b → space? b ≡ false
 no-space-above b l = go (space? b) refl
   where
@@ -72,6 +73,7 @@ module _ (t : List ℕ) where
   pub string-starts : {i n : ℕ} {bs : List ℕ} → StringAt t i bs n → byteAt t i ≡ 34
   string-starts (string e h quote end) = e
 
+  -- a word with its first letter
   pub word-starts : {i n b : ℕ} {w : List ℕ} → WordAt t i (b ∷ w) n → byteAt t i ≡ b
   word-starts (word-byte e h) = e
 
@@ -85,6 +87,7 @@ module _ (t : List ℕ) where
   value-starts {i = i} (is-array m h) = let e = m .mark in (omega arith, λ q. omega arith)
   value-starts {i = i} (is-object m h) = let e = m .mark in (omega arith, λ q. omega arith)
 
+  -- elements as their first value
   pub elements-start : {i n : ℕ} {vs : Elements} → SomeElements t i vs n → (32 < byteAt t i) × (byteAt t i ≡ 93 → ⊥)
   elements-start (last-element h s e q) = value-starts h
   elements-start (more-elements h s m more) = value-starts h
