@@ -4,7 +4,7 @@ ghost use mathlib.Core.Path.{_≡_};
 ghost use Prim.Native.Nat.{_/_, _%_};
 ghost use Rattle.document.specs.Hash.{fnvProduct, fnvByte, rowHash};
 
-const FNV_START: u32 = 2166136261;
+pub const FNV_START: u32 = 2166136261;
 
 const FNV_FACTOR: u64 = 16777619;
 
@@ -17,7 +17,8 @@ fn times_factor(h: u32) -> u32
     ((h as u64) * FNV_FACTOR % MODULUS) as u32
 }
 
-fn add_byte(h: u32, b: u32) -> u32
+// A byte more; a wider number is taken whole.
+pub fn add_byte(h: u32, b: u32) -> u32
     ensures { λ r. ⌜ r ≡ fnvByte h b ⌝ }
 {
     times_factor(h ^ b)

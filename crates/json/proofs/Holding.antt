@@ -23,7 +23,7 @@ use Rattle.document.specs.declared.builder.Placed.the-variants.{Known, Added, F
 use Rattle.document.proofs.Ready.{Put, was, is, no-room, puts}
 use Rattle.json.specs.Signature.{textLeaf}
 use Rattle.json.specs.Grammar.{Built, built, Outcome, good, refused, leafRow, placeRow, finish}
-use Rattle.json.specs.State.{textsIn, textAt, builtIn, Holds, After, Says, says-read, says-refused}
+use Rattle.json.specs.State.{textsIn, textAt, builtIn, Holds, Old, After, Says, says-read, says-refused}
 use Rattle.json.specs.declared.rows.Part.{Part}
 use Rattle.json.specs.declared.rows.Part.the-variants.{Read, Refused}
 
@@ -109,6 +109,20 @@ found-inside r (x ∷ rows) i e = go (eqRow r x) (λ k q. found-inside r rows k 
     go true f q = let g : 0 ≡ i = cc in omega (arith, g)
     go false f q = behind (findRow r rows) f q
 
+-- fields whose row is no text's
+pub no-text : (texts : ℕ) {r q : Row} → r ≡ q → (q .symbol ≡ textLeaf → ⊥) → Old texts r
+no-text texts {r} {q} f plain k l =
+    let e : eqb textLeaf (q .symbol) ≡ false = ne-eqb _ _ (λ p. plain (sym p)) in
+    ap (eqRow (leafRow textLeaf (Name k))) f ∙ rw e
+
+-- the leaf of a text that has its number
+pub numbered-text : (texts n : ℕ) → n < texts → Old texts (leafRow textLeaf (Name n))
+numbered-text texts n h k l = let e : eqb k n ≡ false = ne-eqb k n (λ q. omega (arith, h, l, q)) in rw e
+
+-- fields whose row is that leaf
+pub old-leaf : (texts n : ℕ) {r : Row} → r ≡ leafRow textLeaf (Name n) → n < texts → Old texts r
+old-leaf texts n e l k m = ap (eqRow (leafRow textLeaf (Name k))) e ∙ numbered-text texts n l k m
+
 -- the part that the builder's answer becomes
 abbrev pub partAfter : ℕ → ℕ → ℕ → Placed → Part
 partAfter next used texts (Known i) = Read i next used texts
@@ -134,11 +148,8 @@ module _ (t cells slots starts found : List ℕ) (used texts limit : ℕ) (h : H
         same = λ k m. refl;
       }
 
-  -- a row that is no text's
-  module _ (r : Row) (plain : r .symbol ≡ textLeaf → ⊥) (next : ℕ) (behind : 0 < next) where
-    differs : (k : ℕ) → eqRow (leafRow textLeaf (Name k)) r ≡ false
-    differs k = let e : eqb textLeaf (r .symbol) ≡ false = ne-eqb _ _ (λ q. plain (sym q)) in rw e
-
+  -- a row that is not the leaf of a text still to come
+  module _ (r : Row) (old : Old texts r) (next : ℕ) (behind : 0 < next) where
     finish-by : {o : Option ℕ} → findRow r (rowsBelow cells used) ≡ o → finish limit r next (builtIn t cells starts used texts) ≡ placeRow limit r next (builtIn t cells starts used texts) o
     unfolding finish
     finish-by e = ap (placeRow limit r next (builtIn t cells starts used texts)) e
@@ -152,7 +163,7 @@ module _ (t cells slots starts found : List ℕ) (used texts limit : ℕ) (h : H
           distinct = h .distinct;
           indexed = h .indexed;
           few = omega (arith, h .few);
-          fresh = λ k l. ap (findRow (leafRow textLeaf (Name k))) e ∙ find-more (leafRow textLeaf (Name k)) r (rowsBelow cells used) (differs k) (h .fresh k l);
+          fresh = λ k l. ap (findRow (leafRow textLeaf (Name k))) e ∙ find-more (leafRow textLeaf (Name k)) r (rowsBelow cells used) (old k l) (h .fresh k l);
         }
 
     finish-says : (cs ss : List ℕ) {a : Placed} → Put cells slots cs ss used limit r a → Says t cs ss starts found starts texts limit (partAfter next used texts a) (finish limit r next (builtIn t cells starts used texts))

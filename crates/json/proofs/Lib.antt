@@ -14,3 +14,8 @@ pub mod ValueStarts
 pub mod CompleteValues
 pub mod Exactly
 pub mod ReadTries
+pub mod Finding
+pub mod Texting
+pub mod Keying
+pub mod TextLeaves
+pub mod LeafWays

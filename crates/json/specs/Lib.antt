@@ -1,8 +1,10 @@
 pub mod Signature
 pub mod Keys
+pub mod KeyTable
 pub mod Value
 pub mod Productions
 pub mod Grammar
 pub mod Read
 pub mod State
+pub mod Texts
 pub mod Meaning

@@ -1,7 +1,7 @@
 -- What the reader's parts work on and answer: rows so far in cells with an index over them, and the texts that have numbers by the places where they first stand. Assumes nothing.
 use mathlib.Core.Path.{_≡_}
 use mathlib.Core.List.{List, [], _∷_}
-use mathlib.Core.Bool.{cond}
+use mathlib.Core.Bool.{false, cond}
 use mathlib.Core.Option.{none}
 use Prim.Native.Nat.{ℕ, _<_, _≤_}
 use lib.Dec.{eqb}
@@ -9,7 +9,8 @@ use lib.ListN.{length, getD}
 use Rattle.base.specs.Text.{Got, got, fault}
 use Rattle.model.specs.Limits.{maxRows}
 use Rattle.model.specs.Lists.{tab}
-use Rattle.model.specs.Build.{findRow}
+use Rattle.model.specs.Table.{Row}
+use Rattle.model.specs.Build.{eqRow, findRow}
 use Rattle.document.specs.Rows.{rowsBelow}
 use Rattle.document.specs.Fields.{asRow}
 use Rattle.document.specs.Index.{Indexed}
@@ -58,6 +59,10 @@ pub record Holds (t cells slots starts found : List ℕ) (used texts limit : ℕ
   pub indexed : Indexed found texts (λ k. textSlot (textAt t starts k))
   pub few : texts ≤ used
   pub fresh : (k : ℕ) → texts ≤ k → findRow (leafRow textLeaf (Name k)) (rowsBelow cells used) ≡ none
+
+-- A row that is not the leaf of a text still to come.
+abbrev pub Old : ℕ → Row → Type 0
+Old texts r = (k : ℕ) → texts ≤ k → eqRow (leafRow textLeaf (Name k)) r ≡ false
 
 -- A row was read, after so many texts that stay as they were.
 pub record After (t cells slots starts found old : List ℕ) (before limit : ℕ) (r : Part) (j next : ℕ) (b : Built) : Type 0 where

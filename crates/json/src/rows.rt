@@ -15,7 +15,7 @@ ghost use Prim.Native.Nat.{_<_};
 ghost use Rattle.document.specs.Fields.{fieldsRow};
 ghost use Rattle.json.specs.Signature.{textLeaf};
 ghost use Rattle.json.specs.Grammar.{leafRow, nodeRow, finish, joined, closeAt};
-ghost use Rattle.json.specs.State.{keyRows, builtIn, Holds, Says};
+ghost use Rattle.json.specs.State.{keyRows, builtIn, Holds, Old, Says};
 
 // As many texts as a table has rows, since each has a row.
 pub(crate) const TEXTS: usize = MAX_ROWS as usize;
@@ -61,10 +61,10 @@ pub(crate) fn node(symbol: u16, key: Row, value: Row, rest: Row) -> RowFields
     }
 }
 
-// The row of the fields, which is no text's, is finished before `next`.
+// The row of the fields, which is not that of a text still to come, is finished before `next`.
 pub(crate) fn finish(
     text: &[u8],
-    starts: &[usize; TEXTS],
+    starts: &[usize],
     found: &[u16; SLOTS],
     rows: &mut [u16],
     slots: &mut [u16; SLOTS],
@@ -76,7 +76,7 @@ pub(crate) fn finish(
 ) -> Part
     requires holds { ⌜ Holds (now text) (now rows) (now slots) (now starts) (now found) used texts limit ⌝ }
     requires behind { ⌜ 0 < next ⌝ }
-    requires plain { ⌜ (fields .symbol ≡ textLeaf → ⊥) ⌝ }
+    requires old { ⌜ Old texts (fieldsRow fields) ⌝ }
     ensures { λ r. ⌜ Says (now (text .entry)) (now (rows .exit)) (now (slots .exit)) (now (starts .entry)) (now (found .entry)) (now (starts .entry)) texts limit r (finish limit (fieldsRow fields) next (builtIn (now (text .entry)) (now (rows .entry)) (now (starts .entry)) used texts)) ⌝ }
 {
     match find_or_add(rows, slots, used, limit, fields) {
@@ -89,7 +89,7 @@ pub(crate) fn finish(
 // The row of a member or an element, whose value and rest are read.
 pub(crate) fn join(
     text: &[u8],
-    starts: &[usize; TEXTS],
+    starts: &[usize],
     found: &[u16; SLOTS],
     rows: &mut [u16],
     slots: &mut [u16; SLOTS],
@@ -126,7 +126,7 @@ pub(crate) fn join(
 // The closing mark of an object or an array, and its leaf.
 pub(crate) fn close(
     text: &[u8],
-    starts: &[usize; TEXTS],
+    starts: &[usize],
     found: &[u16; SLOTS],
     rows: &mut [u16],
     slots: &mut [u16; SLOTS],
@@ -163,7 +163,7 @@ pub(crate) fn close(
 // A member or an element that nothing follows: the closing mark, its leaf, then the row.
 pub(crate) fn last(
     text: &[u8],
-    starts: &[usize; TEXTS],
+    starts: &[usize],
     found: &[u16; SLOTS],
     rows: &mut [u16],
     slots: &mut [u16; SLOTS],

@@ -6,7 +6,7 @@ use Prim.Native.Nat.{ℕ, _+_, _-_, _<_, _≤_}
 use native.Mathlib.Omega.{arith}
 use borrow.Author.Tests.{ne-eqb}
 use lib.ListN.{length}
-use Rattle.base.specs.Text.{byteAt, leading}
+use Rattle.base.specs.Text.{byteAt}
 use Rattle.base.proofs.Leading.{Led, led-none, led-more, led-stop, led-all}
 use Rattle.classes.specs.Classes.{space?}
 use Rattle.jsontext.specs.Spaces.{spaceEnd}

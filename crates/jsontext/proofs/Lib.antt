@@ -15,3 +15,15 @@ pub mod Ways
 pub mod PieceEnds
 pub mod PlainRuns
 pub mod Scanning
+pub mod DigitRuns
+pub mod NumberWays
+pub mod NumberSizes
+pub mod NumberParts
+pub mod NumberScalars
+pub mod Packing
+pub mod Handing
+pub mod Comparing
+pub mod NumberNearest
+pub mod Joining
+pub mod Keeping
+pub mod DecodedSlots

@@ -8,13 +8,13 @@ use native.Mathlib.Omega.{arith}
 use lib.Dec.{eqb}
 use lib.ListN.{length, take, drop, getD}
 use lib.Seq.{take-add, drop-drop, drop-cons}
-use borrow.Author.Tests.{eq-eqb, ne-eqb}
+use borrow.Author.Tests.{eq-eqb, ne-eqb, eqb-true, eqb-false}
 use Rattle.base.specs.Text.{byteAt, Got, got, fault}
 use Rattle.base.proofs.Bytes.{past, byte-inside}
-use Rattle.jsontext.specs.Utf8.{utf8, upTo, brokenAt}
+use Rattle.jsontext.specs.Utf8.{Stretch, utf8, upTo, brokenAt}
 use Rattle.jsontext.specs.Strings.{Piece, closed, raw, code, bad, pieceAt, plain?, withFront, stringFrom, stringAt}
 use Rattle.jsontext.specs.Scanned.{part, Scanned}
-use Rattle.jsontext.specs.StringAnswers.{Plains, placeOf}
+use Rattle.jsontext.specs.StringAnswers.{Plains, placeOf, RawString}
 use Rattle.jsontext.proofs.Ways.{plain-piece}
 use Rattle.jsontext.proofs.PieceEnds.{Ahead, raw-ahead, code-ahead, piece-past, quote-inside}
 
@@ -33,8 +33,13 @@ part-cons t i n h k =
     let z : n - i ≡ suc (n - (i + 1)) = omega arith in
     rw (z, drop-cons t i 0 (omega arith), add-one i)
 
+pub part-snoc : (t : List ℕ) (i n : ℕ) → i ≤ n → n < length t → part t i (n + 1) ≡ part t i n ++ byteAt t n ∷ []
+part-snoc t i n h k =
+    sym (part-join t i n (n + 1) h (omega arith))
+    ∙ ap (λ (l : List ℕ). part t i n ++ l) (part-cons t n (n + 1) (omega arith) (omega arith) ∙ ap (λ (l : List ℕ). byteAt t n ∷ l) (part-none t (n + 1)))
+
 -- ---- one piece more
-front-join : (a b : List ℕ) (g : Got (List ℕ)) → withFront a (withFront b g) ≡ withFront (a ++ b) g
+pub front-join : (a b : List ℕ) (g : Got (List ℕ)) → withFront a (withFront b g) ≡ withFront (a ++ b) g
 front-join a b (got more n) = ap (λ (l : List ℕ). got l n) (sym (append-assoc a b more))
 front-join a b (fault p) = refl
 
@@ -172,10 +177,26 @@ module _ (t : List ℕ) (at : ℕ) (all : Bool) (i : ℕ) (v : Scanning t at all
   pub scanning-closed : pieceAt t i ≡ closed → upTo (i + 1) ≡ placeOf (stringAt t at)
   scanning-closed e = sym (ap placeOf (scan-closed t at i (v .front) (v .scanned) e))
 
-  pub scanning-bytes : pieceAt t i ≡ closed → all ≡ true → stringAt t at ≡ got (part t (at + 1) (i + 1 - 1)) (i + 1)
+  pub scanning-bytes : pieceAt t i ≡ closed → all ≡ true → RawString t at (i + 1)
   scanning-bytes e a =
+      let h : i < length t = quote-inside t i e in
       let z : i + 1 - 1 ≡ i = omega arith in
-      rw z (scan-closed t at i (v .front) (v .scanned) e ∙ ap (λ (l : List ℕ). got l (i + 1)) (v .plain a))
+      record {
+        forward = omega (arith, v .begun);
+        inside = omega arith;
+        string = rw z (scan-closed t at i (v .front) (v .scanned) e ∙ ap (λ (l : List ℕ). got l (i + 1)) (v .plain a));
+      }
 
   pub scanning-bad : (p : ℕ) → pieceAt t i ≡ bad p → brokenAt p ≡ placeOf (stringAt t at)
   scanning-bad p e = sym (ap placeOf (scan-bad t at i (v .front) (v .scanned) p e))
+
+-- a string that ends has its quote
+pub quoted : (t : List ℕ) (at n : ℕ) → upTo n ≡ placeOf (stringAt t at) → byteAt t at ≡ 34
+quoted t at n e = go (eqb (byteAt t at) 34) refl
+  where
+    go : (b : Bool) → eqb (byteAt t at) 34 ≡ b → byteAt t at ≡ 34
+    go true q = eqb-true (byteAt t at) 34 q
+    go false q =
+        let w : upTo n ≡ brokenAt at = e ∙ ap placeOf (no-quote t at (byteAt t at) refl (eqb-false (byteAt t at) 34 q)) in
+        let z : _≡_ {A = ℕ} 0 1 = cc in
+        absurd (omega arith)

@@ -2,9 +2,13 @@ pub mod Utf8
 pub mod Strings
 pub mod Decoded
 pub mod Number
+pub mod NumberAnswer
 pub mod Rate
 pub mod Spaces
 pub mod Productions
 pub mod Lead
 pub mod Scanned
 pub mod StringAnswers
+pub mod Streams
+pub mod Compared
+pub mod Kept

@@ -17,6 +17,8 @@ use Rattle.jsontext.specs.declared.pieces.StringPiece.{StringPiece}
 use Rattle.jsontext.specs.declared.pieces.StringPiece.the-variants.{Closed, Raw, Code, Bad}
 use Rattle.jsontext.specs.declared.strings.StringEnd.{StringEnd}
 use Rattle.jsontext.specs.declared.strings.StringEnd.the-variants.{Raw as AllRaw, Decoded, Fault as NoString}
+use Rattle.jsontext.specs.declared.strings.StringRead.{StringRead}
+use Rattle.jsontext.specs.declared.strings.StringRead.the-variants.{Whole, Fault as NoWhole}
 
 abbrev pub stretchOf : StretchRead → Stretch
 stretchOf (UpTo n) = upTo n
@@ -42,11 +44,21 @@ endOf (AllRaw n) = upTo n
 endOf (Decoded n) = upTo n
 endOf (NoString p) = brokenAt p
 
+-- the string at `at` ends at n, and its bytes are those between its quotes
+pub record RawString (t : List ℕ) (at n : ℕ) : Type 0 where
+  pub forward : at + 2 ≤ n
+  pub inside : n ≤ length t
+  pub string : stringAt t at ≡ got (part t (at + 1) (n - 1)) n
+
 -- where an answer says so, a string's bytes are those between its quotes
 abbrev pub RawWhere : List ℕ → ℕ → StringEnd → Type 0
-RawWhere t at (AllRaw n) = stringAt t at ≡ got (part t (at + 1) (n - 1)) n
+RawWhere t at (AllRaw n) = RawString t at n
 RawWhere t at (Decoded n) = T true
 RawWhere t at (NoString p) = T true
+
+abbrev pub slotOf : StringRead → Got ℕ
+slotOf (Whole s n) = got s n
+slotOf (NoWhole p) = fault p
 
 -- the bytes from i up to n stand for themselves
 pub record Plains (t : List ℕ) (i n : ℕ) : Type 0 where

@@ -1,7 +1,12 @@
 // JSON (RFC 8259) at a place of a text: white space, strings, numbers.
+pub mod number; // number.rt: a number, and the scalar that it becomes
 mod rate; // rate.rt: a decimal number as a rate
 pub mod spaces; // spaces.rt: white space
 mod utf8; // utf8.rt: sequences of bytes above 127
 mod pieces; // pieces.rt: what stands at a place of a string
+mod words; // words.rt: eight bytes at once
 mod plain; // plain.rt: bytes that stand for themselves
-pub mod strings; // strings.rt: a string's end
+mod streams; // streams.rt: the decoded bytes of a string, one by one
+pub mod decoded; // decoded.rt: strings compared after decoding
+pub mod slots; // slots.rt: where a text is looked for first
+pub mod strings; // strings.rt: a string's end and slot

@@ -16,9 +16,8 @@ ghost use Rattle.names.specs.Check.{lineFits?, listFits?};
 pub const MAX_NAME: usize = 16;
 
 // Where the line that starts at place `a` ends.
-fn line_end(s: &[u8], a: usize) -> usize
-    requires { ⌜ a ≤ length (now s) ⌝ }
-    ensures { λ r. ⌜ Ended (now (s .entry)) a r ⌝ }
+pub fn line_end(s: &[u8], a: usize) -> usize
+    ensures { λ r. ⌜ (a ≤ length (now (s .entry)) → Ended (now (s .entry)) a r) ⌝ }
 {
     let mut i = a;
     while i < s.len() {
@@ -39,7 +38,6 @@ fn after(s: &[u8], e: usize) -> usize
 
 // Where the line after the one at place `a` starts.
 pub(crate) fn next_line(s: &[u8], a: usize) -> usize
-    requires { ⌜ a ≤ length (now s) ⌝ }
     ensures inside { λ r. ⌜ r ≤ length (now (s .entry)) ⌝ }
     ensures next { λ r. ⌜ ((i : ℕ) → Starts (now (s .entry)) i a → Starts (now (s .entry)) (i + 1) r) ⌝ }
 {

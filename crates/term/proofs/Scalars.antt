@@ -7,7 +7,7 @@ use native.Mathlib.Nat.{le-refl, pow-suc}
 use native.Mathlib.Omega.{arith}
 use borrow.Author.Tests.{eq-eqb, ne-eqb, ltb-true, lt-ltb}
 use lib.Dec.{T, eqb, ltb}
-use lib.ListN.{length, getD}
+use lib.ListN.{length}
 use Rattle.model.specs.Table.{rate?, oneZero, scalar?}
 use Rattle.model.proofs.Members.{T-true}
 use Rattle.model.proofs.Scalars.{one-zero-stands}

@@ -8,7 +8,7 @@ use Rattle.json.proofs.rows.last.Tie as tie
 join-requires : tie.Need-join-requires
 join-requires c κs =
     let s = said (c .before .before .before .before .before .before .before .close .ensures) (c .before .before .before .rest .given .1) in
-    (s .holds, (s .behind, (c .before .before .before .before .before .before .before .before .before .before .before .before .pre .1 .1 .0 .1, (c .before .before .before .before .before .before .before .before .before .before .before .before .pre .1 .1 .1 .0, c .before .before .before .before .before .before .before .before .before .before .before .before .pre .1 .1 .1 .1, small (s .holds) (s .inside)))))
+    (s .holds, (s .behind, (c .before .before .before .before .before .before .before .before .before .before .before .before .before .pre .1 .1 .0 .1, (c .before .before .before .before .before .before .before .before .before .before .before .before .before .pre .1 .1 .1 .0, c .before .before .before .before .before .before .before .before .before .before .before .before .before .pre .1 .1 .1 .1, small (s .holds) (s .inside)))))
 
 returns : tie.Need-returns
 returns c = join-refused _ _ (said-no (c .before .before .before .before .before .close .ensures) (c .before .w .given .1))

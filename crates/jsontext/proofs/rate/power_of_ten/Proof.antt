@@ -1,6 +1,6 @@
 -- At the loop's head the power is that of the places so far. Assumes nothing.
-use Prim.Native.Nat.{_*_, _-_, _^_, _≤_}
-use mathlib.Core.Path.{_≡_, refl, sym, ap, _∙_}
+use Prim.Native.Nat.{_-_, _^_, _≤_}
+use mathlib.Core.Path.{_≡_, refl, ap, _∙_}
 use native.Mathlib.Omega.{arith}
 use borrow.Author.Needs.{needs}
 use Rattle.jsontext.proofs.Rates.{power-below, power-more}

@@ -1,6 +1,6 @@
 -- The next line starts behind the end of this one. Assumes nothing.
 use borrow.Author.Needs.{needs}
-use Rattle.names.proofs.Scan.{scanning}
+use Rattle.names.proofs.Scan.{starts-next}
 use Rattle.names.proofs.lines.next_line.Statement.{statement}
 use Rattle.names.proofs.lines.next_line.Tie as tie
 
@@ -10,4 +10,4 @@ next-line-spec =
     (tie.spec
     (λ c κs. search needs)
     (λ c κs. search needs)
-    (λ c. search scanning))
+    (λ c. (search needs, λ i v. starts-next _ i _ v _ _ (c .before .line-end .ensures (v .inside)) (c .after .ensures))))

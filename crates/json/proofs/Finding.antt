@@ -1,0 +1,40 @@
+-- The first of some texts that is given bytes, by a test of each. Assumes nothing.
+use mathlib.Core.Path.{_≡_, refl, sym, ap, subst, _∙_}
+use mathlib.Core.Bool.{Bool, true, false, _&&_, cond}
+use mathlib.Core.List.{List, [], _∷_}
+use mathlib.Core.Option.{Option, none, some, Option·map}
+use Prim.Native.Nat.{ℕ, zero, suc, _<_}
+use native.Mathlib.Omega.{arith}
+use borrow.Author.Tests.{eqb-true, eqb-false, eq-eqb, ne-eqb}
+use lib.Dec.{T, eqb}
+use Rattle.model.specs.Lists.{eqList, tab}
+use Rattle.model.proofs.Members.{eqList→eq, eqList-refl}
+use Rattle.document.proofs.Probing.{scan}
+use Rattle.json.specs.Keys.{findText}
+
+-- equal lists, as a fact and as a test
+pub eq-eqList : (a b : List ℕ) → a ≡ b → eqList a b ≡ true
+eq-eqList a b e = go (eqList a b) refl (subst (λ x. T (eqList a x)) e (eqList-refl a))
+  where
+    go : (r : Bool) → eqList a b ≡ r → T r → r ≡ true
+    go true q h = refl
+    go false q h = absurd h
+
+pub eqList-eq : (a b : List ℕ) → eqList a b ≡ true → a ≡ b
+eqList-eq a b e = eqList→eq a b (subst T (sym e) tt)
+
+pub eqList-swap : (a b : List ℕ) → eqList a b ≡ eqList b a
+eqList-swap a b = go (eqList a b) refl (eqList b a) refl
+  where
+    go : (r : Bool) → eqList a b ≡ r → (s : Bool) → eqList b a ≡ s → r ≡ s
+    go true q true p = refl
+    go true q false p = sym (eq-eqList b a (sym (eqList-eq a b q))) ∙ p
+    go false q true p = sym q ∙ eq-eqList a b (sym (eqList-eq b a p))
+    go false q false p = refl
+
+pub find-scan : (bs : List ℕ) (n : ℕ) (f : ℕ → List ℕ) (p : ℕ → Bool) → ((k : ℕ) → k < n → p k ≡ eqList bs (f k)) → findText bs (tab n f) ≡ scan n p
+unfolding findText
+find-scan bs zero f p h = refl
+find-scan bs (suc n) f p h =
+    let e : p 0 ≡ eqList bs (f 0) = h 0 (omega arith) in
+    (λ i. cond (sym e i) (some 0) (Option·map suc (find-scan bs n (λ k. f (suc k)) (λ k. p (suc k)) (λ k l. h (suc k) (omega arith)) i)))

@@ -1,0 +1,48 @@
+-- The lines of a key list by their places, and an index over them. Assumes nothing.
+use mathlib.Core.Path.{_≡_}
+use mathlib.Core.List.{List, []}
+use mathlib.Core.Bool.{true}
+use mathlib.Core.Option.{Option, none, some}
+use Prim.Native.Nat.{ℕ, _+_, _-_, _*_, _<_, _≤_}
+use lib.ListN.{length, getD, take, drop}
+use Rattle.document.specs.Index.{Indexed}
+use Rattle.names.specs.Lines.{lines}
+use Rattle.jsontext.specs.Decoded.{textSlot}
+use Rattle.json.specs.Keys.{maxKeys, key?}
+use Rattle.json.specs.declared.keys.KeyFound.{KeyFound}
+use Rattle.json.specs.declared.keys.KeyFound.the-variants.{Listed, Unlisted}
+
+-- line k, empty where there is none
+abbrev pub keyAt : List ℕ → ℕ → List ℕ
+keyAt list k = getD (lines list) k []
+
+-- where line k starts, and where it ends
+abbrev pub keyStart : List ℕ → ℕ → ℕ
+keyStart places k = getD places (2 * k) 0
+
+abbrev pub keyEnd : List ℕ → ℕ → ℕ
+keyEnd places k = getD places (2 * k + 1) 0
+
+-- Line k stands between its places.
+pub record Stands (list places : List ℕ) (k : ℕ) : Type 0 where
+  pub from : keyStart places k ≤ keyEnd places k
+  pub inside : keyEnd places k ≤ length list
+  pub line : take (keyEnd places k - keyStart places k) (drop (keyStart places k) list) ≡ keyAt list k
+
+-- The first n lines are keys, no two of them equal; the places are theirs, and the slots are an index of them.
+pub record Entered (list places slots : List ℕ) (n : ℕ) : Type 0 where
+  pub few : n ≤ maxKeys
+  pub inside : n ≤ length (lines list)
+  pub stands : (k : ℕ) → k < n → Stands list places k
+  pub keys : (k : ℕ) → k < n → key? (keyAt list k) ≡ true
+  pub distinct : (j k : ℕ) → j < n → k < n → keyAt list j ≡ keyAt list k → j ≡ k
+  pub indexed : Indexed slots n (λ k. textSlot (keyAt list k))
+
+-- The places and the slots are those of all lines.
+abbrev pub KeyTable : List ℕ → List ℕ → List ℕ → Type 0
+KeyTable list places slots = Entered list places slots (length (lines list))
+
+-- the line that was found, if one was
+abbrev pub keyOf : KeyFound → Option ℕ
+keyOf (Listed k) = some k
+keyOf Unlisted = none

@@ -1,0 +1,142 @@
+// Values without parts: words, numbers and strings.
+use crate::rows::Part;
+use crate::rows::finish;
+use crate::rows::leaf;
+use crate::texts::look_up;
+use crate::texts::text_leaf;
+use base::text::word_bytes;
+use document::Scalar;
+use document::index::SLOTS;
+use jsontext::number::NumberRead;
+use jsontext::number::number;
+use jsontext::strings::StringRead;
+use jsontext::strings::read;
+ghost use mathlib.Core.Path.{_≡_};
+ghost use Prim.Native.Nat.{_+_, _<_, _^_};
+ghost use lib.ListN.{length};
+ghost use Rattle.base.specs.Text.{wordAt};
+ghost use Rattle.classes.specs.Classes.{classTable};
+ghost use Rattle.jsontext.specs.Strings.{stringAt};
+ghost use Rattle.jsontext.specs.Number.{numberAt, asScalar};
+ghost use Rattle.json.specs.Signature.{textLeaf};
+ghost use Rattle.json.specs.Grammar.{afterWord, afterText, afterNumber};
+ghost use Rattle.json.specs.State.{builtIn, Holds, Says};
+
+// The symbol of a number's leaf.
+const NUMBER: u16 = 6;
+
+// A word that says a scalar.
+pub(crate) fn word(
+    text: &[u8],
+    starts: &[usize],
+    found: &[u16; SLOTS],
+    rows: &mut [u16],
+    slots: &mut [u16; SLOTS],
+    used: u16,
+    texts: u16,
+    limit: u16,
+    at: usize,
+    letters: &[u8],
+    symbol: u16,
+    scalar: Scalar,
+) -> Part
+    requires holds { ⌜ Holds (now text) (now rows) (now slots) (now starts) (now found) used texts limit ⌝ }
+    requires fits { ⌜ at + length (now letters) < 2 ^ 64 ⌝ }
+    requires some { ⌜ 0 < length (now letters) ⌝ }
+    requires plain { ⌜ (symbol ≡ textLeaf → ⊥) ⌝ }
+    ensures { λ r. ⌜ Says (now (text .entry)) (now (rows .exit)) (now (slots .exit)) (now (starts .entry)) (now (found .entry)) (now (starts .entry)) texts limit r (afterWord limit symbol (builtIn (now (text .entry)) (now (rows .entry)) (now (starts .entry)) used texts) (wordAt scalar (now (letters .entry)) (now (text .entry)) at)) ⌝ }
+{
+    let n = word_bytes(text, at, letters);
+    if n != letters.len() {
+        return Part::Refused(71, at + n);
+    }
+    let fields = leaf(symbol, scalar);
+    finish(
+        text,
+        starts,
+        found,
+        rows,
+        slots,
+        used,
+        texts,
+        limit,
+        at + n,
+        fields,
+    )
+}
+
+// A number: a count, a rate, or one that has no form.
+pub(crate) fn number_leaf(
+    text: &[u8],
+    classes: &[u8; 256],
+    starts: &[usize],
+    found: &[u16; SLOTS],
+    rows: &mut [u16],
+    slots: &mut [u16; SLOTS],
+    used: u16,
+    texts: u16,
+    limit: u16,
+    at: usize,
+) -> Part
+    requires holds { ⌜ Holds (now text) (now rows) (now slots) (now starts) (now found) used texts limit ⌝ }
+    requires lent { ⌜ now classes ≡ classTable ⌝ }
+    ensures { λ r. ⌜ Says (now (text .entry)) (now (rows .exit)) (now (slots .exit)) (now (starts .entry)) (now (found .entry)) (now (starts .entry)) texts limit r (afterNumber limit at (builtIn (now (text .entry)) (now (rows .entry)) (now (starts .entry)) used texts) (asScalar (numberAt (now (text .entry)) at))) ⌝ }
+{
+    match number(text, classes, at) {
+        NumberRead::Fault(p) => Part::Refused(71, p),
+        NumberRead::Outside(_) => Part::Refused(73, at),
+        NumberRead::Is(scalar, next) => {
+            let fields = leaf(NUMBER, scalar);
+            finish(
+                text,
+                starts,
+                found,
+                rows,
+                slots,
+                used,
+                texts,
+                limit,
+                next,
+                fields,
+            )
+        },
+    }
+}
+
+// A string as a value.
+pub(crate) fn string_leaf(
+    text: &[u8],
+    classes: &[u8; 256],
+    rows: &mut [u16],
+    slots: &mut [u16; SLOTS],
+    starts: &mut [usize],
+    found: &mut [u16; SLOTS],
+    used: u16,
+    texts: u16,
+    limit: u16,
+    at: usize,
+) -> Part
+    requires holds { ⌜ Holds (now text) (now rows) (now slots) (now starts) (now found) used texts limit ⌝ }
+    requires lent { ⌜ now classes ≡ classTable ⌝ }
+    ensures { λ r. ⌜ Says (now (text .entry)) (now (rows .exit)) (now (slots .exit)) (now (starts .exit)) (now (found .exit)) (now (starts .entry)) texts limit r (afterText limit (builtIn (now (text .entry)) (now (rows .entry)) (now (starts .entry)) used texts) (stringAt (now (text .entry)) at)) ⌝ }
+{
+    match read(text, classes, at) {
+        StringRead::Fault(p) => Part::Refused(71, p),
+        StringRead::Whole(slot, next) => {
+            let probed = look_up(text, classes, &*starts, &*found, slot, at);
+            text_leaf(
+                text,
+                rows,
+                slots,
+                starts,
+                found,
+                used,
+                texts,
+                limit,
+                at,
+                next,
+                probed,
+            )
+        },
+    }
+}

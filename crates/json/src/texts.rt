@@ -1,0 +1,151 @@
+// Texts that become leaves, numbered by first appearance after decoding: each is known by the place where it first stands, and an index finds it again.
+use crate::rows::Part;
+use crate::rows::finish;
+use crate::rows::leaf;
+use base::numbers::size;
+use document::Scalar;
+use document::builder::Placed;
+use document::builder::find_or_add;
+use document::index::SLOTS;
+use jsontext::decoded::same;
+ghost use mathlib.Core.Path.{_≡_};
+ghost use Prim.Native.Nat.{_<_};
+ghost use lib.ListN.{getD};
+ghost use Rattle.classes.specs.Classes.{classTable};
+ghost use Rattle.document.specs.Index.{probe};
+ghost use Rattle.jsontext.specs.Strings.{stringAt};
+ghost use Rattle.jsontext.specs.Decoded.{sameText};
+ghost use Rattle.json.specs.Grammar.{afterText};
+ghost use Rattle.json.specs.State.{builtIn, Holds, Says};
+ghost use Rattle.json.specs.Texts.{probedOf, ProbedAt};
+ghost use Rattle.json.specs.declared.texts.TextProbed.the-variants.{Free};
+
+// The symbol of a text's leaf.
+const TEXT: u16 = 7;
+
+// What a probe finds: a text with its number, the empty slot where the text belongs, or neither.
+pub(crate) enum TextProbed {
+    Known(u16),
+    Free(usize),
+    Crowded,
+}
+
+// The place where a text first stands; 0 for a number that no text has.
+fn start_of(starts: &[usize], k: u16) -> usize
+    ensures { λ r. ⌜ r ≡ getD (now (starts .entry)) k 0 ⌝ }
+{
+    let i = size(k);
+    if i < starts.len() { starts[i] } else { 0 }
+}
+
+// Looks for the text of the string at a place, from its slot on.
+pub(crate) fn look_up(
+    text: &[u8],
+    classes: &[u8; 256],
+    starts: &[usize],
+    found: &[u16; SLOTS],
+    slot: u16,
+    at: usize,
+) -> TextProbed
+    requires lent { ⌜ now classes ≡ classTable ⌝ }
+    ensures { λ r. ⌜ probedOf r ≡ probe (now (found .entry)) (λ k. sameText (stringAt (now (text .entry)) at) (stringAt (now (text .entry)) (getD (now (starts .entry)) k 0))) slot ⌝ }
+{
+    let mut d = 0;
+    while d < SLOTS {
+        let i = (size(slot) + d) % SLOTS;
+        let held = found[i];
+        d += 1;
+        if held == 0 {
+            return TextProbed::Free(i);
+        }
+        if same(text, classes, at, start_of(starts, held - 1)) {
+            return TextProbed::Known(held - 1);
+        }
+    }
+    TextProbed::Crowded
+}
+
+// The leaf of a text that is new: it gets the next number.
+fn new_text(
+    text: &[u8],
+    rows: &mut [u16],
+    slots: &mut [u16; SLOTS],
+    starts: &mut [usize],
+    found: &mut [u16; SLOTS],
+    used: u16,
+    texts: u16,
+    limit: u16,
+    at: usize,
+    next: usize,
+    free: usize,
+) -> Part
+    requires holds { ⌜ Holds (now text) (now rows) (now slots) (now starts) (now found) used texts limit ⌝ }
+    requires behind { ⌜ 0 < next ⌝ }
+    requires new { ⌜ ProbedAt (now text) (now starts) (now found) at next (Free free) ⌝ }
+    ensures { λ r. ⌜ Says (now (text .entry)) (now (rows .exit)) (now (slots .exit)) (now (starts .exit)) (now (found .exit)) (now (starts .entry)) texts limit r (afterText limit (builtIn (now (text .entry)) (now (rows .entry)) (now (starts .entry)) used texts) (stringAt (now (text .entry)) at)) ⌝ }
+{
+    match find_or_add(
+        rows,
+        slots,
+        used,
+        limit,
+        leaf(TEXT, Scalar::Name(texts as u32)),
+    ) {
+        Placed::Known(_) => Part::Refused(67, next - 1),
+        Placed::Added(i) => {
+            starts[size(texts)] = at;
+            found[free] = texts + 1;
+            Part::Read(i, next, used + 1, texts + 1)
+        },
+        Placed::Full => Part::Refused(67, next - 1),
+    }
+}
+
+// The leaf of the text of a whole string, by what the probe for it found.
+pub(crate) fn text_leaf(
+    text: &[u8],
+    rows: &mut [u16],
+    slots: &mut [u16; SLOTS],
+    starts: &mut [usize],
+    found: &mut [u16; SLOTS],
+    used: u16,
+    texts: u16,
+    limit: u16,
+    at: usize,
+    next: usize,
+    probed: TextProbed,
+) -> Part
+    requires holds { ⌜ Holds (now text) (now rows) (now slots) (now starts) (now found) used texts limit ⌝ }
+    requires behind { ⌜ 0 < next ⌝ }
+    requires whole { ⌜ ProbedAt (now text) (now starts) (now found) at next probed ⌝ }
+    ensures { λ r. ⌜ Says (now (text .entry)) (now (rows .exit)) (now (slots .exit)) (now (starts .exit)) (now (found .exit)) (now (starts .entry)) texts limit r (afterText limit (builtIn (now (text .entry)) (now (rows .entry)) (now (starts .entry)) used texts) (stringAt (now (text .entry)) at)) ⌝ }
+{
+    match probed {
+        TextProbed::Known(k) => finish(
+            text,
+            &*starts,
+            &*found,
+            rows,
+            slots,
+            used,
+            texts,
+            limit,
+            next,
+            leaf(TEXT, Scalar::Name(k as u32)),
+        ),
+        TextProbed::Free(free) => new_text(
+            text,
+            rows,
+            slots,
+            starts,
+            found,
+            used,
+            texts,
+            limit,
+            at,
+            next,
+            free,
+        ),
+        TextProbed::Crowded => Part::Refused(67, next - 1),
+    }
+}

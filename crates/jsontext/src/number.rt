@@ -1,0 +1,246 @@
+// A JSON number at a place of a text, and the scalar that it becomes.
+use crate::rate::rate;
+use base::text::byte_at;
+use classes::is_digit;
+use document::Scalar;
+use document::scalar::bits_of;
+use document::scalar::row_rate;
+ghost use mathlib.Core.Path.{_≡_};
+ghost use mathlib.Core.Bool.{true};
+ghost use Prim.Native.Nat.{_+_, _-_, _<_, _≤_, _^_};
+ghost use lib.ListN.{length};
+ghost use Rattle.base.specs.Text.{got};
+ghost use Rattle.classes.specs.Classes.{digit?, classTable};
+ghost use Rattle.jsontext.specs.Number.{Digits, Number, noDigits, withDigit, digitsFrom, someDigits, wholeAt, signEnd, withExponent, plainNumber, exponentAt, fractionAt, afterWhole, numberAt, numberScalar, asScalar};
+ghost use Rattle.jsontext.specs.NumberAnswer.{carried, carriedAt, Carried, numberOf};
+
+const MAX_COUNT: u64 = 18446744073709551615;
+
+// The most digits of a rate.
+const MAX_DIGITS: usize = 15;
+
+// Digits: the whole number that they come to, or 2^64 - 1 where that does not fit, and how many they are.
+pub(crate) struct DigitRun {
+    value: u64,
+    fits: bool,
+    count: usize,
+}
+
+// Digits and the place after them, or the place of the byte that no rule allows.
+pub(crate) enum DigitsRead {
+    Digits(DigitRun, usize),
+    Fault(usize),
+}
+
+// A number's scalar and the place after it; the place after a number that becomes none; or the place of the byte that no rule allows.
+pub enum NumberRead {
+    Is(Scalar, usize),
+    Outside(usize),
+    Fault(usize),
+}
+
+// A digit more.
+fn with_digit(digits: DigitRun, b: u8) -> DigitRun
+    requires { ⌜ (digit? b ≡ true) × (digits .count < 2 ^ 64 - 1) ⌝ }
+    ensures counted { λ r. ⌜ r .count ≡ digits .count + 1 ⌝ }
+    ensures held { λ r. ⌜ ((d : Digits) → digits ≡ carried d → r ≡ carried (withDigit d b)) ⌝ }
+{
+    let x = (b - b'0') as u64;
+    let count = digits.count + 1;
+    if digits.value > (MAX_COUNT - x) / 10 {
+        return DigitRun {
+            value: MAX_COUNT,
+            fits: false,
+            count: count,
+        };
+    }
+    DigitRun {
+        value: digits.value * 10 + x,
+        fits: digits.fits,
+        count: count,
+    }
+}
+
+// The digits at a place, after others.
+fn digits(text: &[u8], classes: &[u8; 256], before: DigitRun, at: usize) -> DigitsRead
+    requires { ⌜ before .count ≤ at ⌝ }
+    requires lent { ⌜ now classes ≡ classTable ⌝ }
+    ensures { λ r. ⌜ ((d : Digits) → before ≡ carried d → r ≡ carriedAt (digitsFrom (length (now (text .entry)) - at) (now (text .entry)) d at)) ⌝ }
+{
+    let mut run = before;
+    let mut i = at;
+    while i < text.len() {
+        let b = text[i];
+        if !is_digit(classes, b) {
+            return DigitsRead::Digits(run, i);
+        }
+        run = with_digit(run, b);
+        i += 1;
+    }
+    DigitsRead::Digits(run, i)
+}
+
+// The same, where there is one digit or more.
+fn some_digits(text: &[u8], classes: &[u8; 256], before: DigitRun, at: usize) -> DigitsRead
+    requires { ⌜ before .count ≤ at ⌝ }
+    requires lent { ⌜ now classes ≡ classTable ⌝ }
+    ensures { λ r. ⌜ ((d : Digits) → before ≡ carried d → r ≡ carriedAt (someDigits (now (text .entry)) d at)) ⌝ }
+{
+    if is_digit(classes, byte_at(text, at)) {
+        return digits(text, classes, before, at);
+    }
+    DigitsRead::Fault(at)
+}
+
+// The whole part: 0 with no digit after it, or digits that begin with another.
+fn whole_part(text: &[u8], classes: &[u8; 256], at: usize) -> DigitsRead
+    requires lent { ⌜ now classes ≡ classTable ⌝ }
+    ensures { λ r. ⌜ r ≡ carriedAt (wholeAt (now (text .entry)) at) ⌝ }
+{
+    if byte_at(text, at) != b'0' {
+        return some_digits(
+            text,
+            classes,
+            DigitRun {
+                value: 0,
+                fits: true,
+                count: 0,
+            },
+            at,
+        );
+    }
+    if is_digit(classes, byte_at(text, at + 1)) {
+        return DigitsRead::Fault(at + 1);
+    }
+    DigitsRead::Digits(
+        DigitRun {
+            value: 0,
+            fits: true,
+            count: 1,
+        },
+        at + 1,
+    )
+}
+
+// The place after a sign, where there is one.
+fn sign_end(text: &[u8], at: usize) -> usize
+    ensures { λ r. ⌜ r ≡ signEnd (now (text .entry)) at ⌝ }
+{
+    let b = byte_at(text, at);
+    if (b == b'+') | (b == b'-') {
+        at + 1
+    } else {
+        at
+    }
+}
+
+// A number without exponent as a scalar: a count, else a rate, else none.
+fn as_scalar(
+    negative: bool,
+    digits: DigitRun,
+    places: usize,
+    fraction: bool,
+    next: usize,
+) -> NumberRead
+    requires { ⌜ (digits .value < 10 ^ (digits .count)) × (places ≤ digits .count) ⌝ }
+    ensures { λ r. ⌜ ((d : Digits) → digits ≡ carried d → numberOf r ≡ got (numberScalar (plainNumber negative d places fraction)) next) ⌝ }
+{
+    if !negative & !fraction & digits.fits {
+        return NumberRead::Is(Scalar::Count(digits.value), next);
+    }
+    if digits.count > MAX_DIGITS {
+        return NumberRead::Outside(next);
+    }
+    NumberRead::Is(
+        row_rate(bits_of(rate(negative, digits.value, places))),
+        next,
+    )
+}
+
+// The exponent's sign and digits. A number that has one becomes no scalar.
+fn exponent(text: &[u8], classes: &[u8; 256], at: usize) -> NumberRead
+    requires lent { ⌜ now classes ≡ classTable ⌝ }
+    ensures { λ r. ⌜ ((m : Number) → numberOf r ≡ asScalar (withExponent m (someDigits (now (text .entry)) noDigits (signEnd (now (text .entry)) at)))) ⌝ }
+{
+    let first = sign_end(text, at);
+    match some_digits(
+        text,
+        classes,
+        DigitRun {
+            value: 0,
+            fits: true,
+            count: 0,
+        },
+        first,
+    ) {
+        DigitsRead::Digits(_, next) => NumberRead::Outside(next),
+        DigitsRead::Fault(p) => NumberRead::Fault(p),
+    }
+}
+
+// Behind the digits: an exponent or none.
+fn behind_digits(
+    text: &[u8],
+    classes: &[u8; 256],
+    negative: bool,
+    digits: DigitRun,
+    places: usize,
+    fraction: bool,
+    at: usize,
+) -> NumberRead
+    requires { ⌜ (digits .value < 10 ^ (digits .count)) × (places ≤ digits .count) ⌝ }
+    requires lent { ⌜ now classes ≡ classTable ⌝ }
+    ensures { λ r. ⌜ ((d : Digits) → digits ≡ carried d → numberOf r ≡ asScalar (exponentAt (now (text .entry)) (plainNumber negative d places fraction) at)) ⌝ }
+{
+    let b = byte_at(text, at);
+    if (b == b'e') | (b == b'E') {
+        return exponent(text, classes, at + 1);
+    }
+    as_scalar(negative, digits, places, fraction, at)
+}
+
+// Behind the whole part: a fraction or none, then an exponent or none.
+fn behind_whole(
+    text: &[u8],
+    classes: &[u8; 256],
+    negative: bool,
+    whole: DigitRun,
+    at: usize,
+) -> NumberRead
+    requires { ⌜ Carried whole at ⌝ }
+    requires lent { ⌜ now classes ≡ classTable ⌝ }
+    ensures { λ r. ⌜ ((d : Digits) → whole ≡ carried d → numberOf r ≡ asScalar (fractionAt (now (text .entry)) negative d at)) ⌝ }
+{
+    if byte_at(text, at) != b'.' {
+        return behind_digits(text, classes, negative, whole, 0, false, at);
+    }
+    match some_digits(text, classes, whole, at + 1) {
+        DigitsRead::Digits(all, next) => {
+            let places = all.count - whole.count;
+            behind_digits(text, classes, negative, all, places, true, next)
+        },
+        DigitsRead::Fault(p) => NumberRead::Fault(p),
+    }
+}
+
+// Behind the sign.
+fn behind_sign(text: &[u8], classes: &[u8; 256], negative: bool, at: usize) -> NumberRead
+    requires lent { ⌜ now classes ≡ classTable ⌝ }
+    ensures { λ r. ⌜ numberOf r ≡ asScalar (afterWhole (now (text .entry)) negative (wholeAt (now (text .entry)) at)) ⌝ }
+{
+    match whole_part(text, classes, at) {
+        DigitsRead::Digits(whole, next) => behind_whole(text, classes, negative, whole, next),
+        DigitsRead::Fault(p) => NumberRead::Fault(p),
+    }
+}
+
+// The number at a place, the longest one, as a scalar.
+pub fn number(text: &[u8], classes: &[u8; 256], at: usize) -> NumberRead
+    requires lent { ⌜ now classes ≡ classTable ⌝ }
+    ensures { λ r. ⌜ numberOf r ≡ asScalar (numberAt (now (text .entry)) at) ⌝ }
+{
+    if byte_at(text, at) == b'-' {
+        return behind_sign(text, classes, true, at + 1);
+    }
+    behind_sign(text, classes, false, at)
+}
