@@ -3,3 +3,4 @@ pub mod Stars
 pub mod Papers
 pub mod Edges
 pub mod Zeros
+pub mod JudgedJson

@@ -31,22 +31,22 @@ mutual
 
   -- array = begin-array [ value *( value-separator value ) ] end-array, from behind its first character
   pub data ElementsAt (t : List ℕ) : ℕ → Elements → ℕ → Type 0 where
-    no-elements : {i : ℕ} → byteAt t i ≡ 93 → ElementsAt t i no-element (i + 1)
+    no-elements : {i n : ℕ} → byteAt t i ≡ 93 → n ≡ i + 1 → ElementsAt t i no-element n
     some-elements : {i n : ℕ} {vs : Elements} → SomeElements t i vs n → ElementsAt t i vs n
 
   -- value *( value-separator value ) end-array
   pub data SomeElements (t : List ℕ) : ℕ → Elements → ℕ → Type 0 where
-    last-element : {i j k : ℕ} {v : Value} → ValueAt t i v j → Spaces t j k → byteAt t k ≡ 93 → SomeElements t i (element v no-element) (k + 1)
+    last-element : {i j k n : ℕ} {v : Value} → ValueAt t i v j → Spaces t j k → byteAt t k ≡ 93 → n ≡ k + 1 → SomeElements t i (element v no-element) n
     more-elements : {i j k l n : ℕ} {v : Value} {vs : Elements} → ValueAt t i v j → Spaces t j k → MarkAt t 44 k l → SomeElements t l vs n → SomeElements t i (element v vs) n
 
   -- object = begin-object [ member *( value-separator member ) ] end-object, from behind its first character
   pub data MembersAt (t : List ℕ) : ℕ → Members → ℕ → Type 0 where
-    no-members : {i : ℕ} → byteAt t i ≡ 125 → MembersAt t i no-member (i + 1)
+    no-members : {i n : ℕ} → byteAt t i ≡ 125 → n ≡ i + 1 → MembersAt t i no-member n
     some-members : {i n : ℕ} {ms : Members} → SomeMembers t i ms n → MembersAt t i ms n
 
   -- member *( value-separator member ) end-object
   pub data SomeMembers (t : List ℕ) : ℕ → Members → ℕ → Type 0 where
-    last-member : {i j k : ℕ} {key : List ℕ} {v : Value} → MemberAt t i key v j → Spaces t j k → byteAt t k ≡ 125 → SomeMembers t i (member key v no-member) (k + 1)
+    last-member : {i j k n : ℕ} {key : List ℕ} {v : Value} → MemberAt t i key v j → Spaces t j k → byteAt t k ≡ 125 → n ≡ k + 1 → SomeMembers t i (member key v no-member) n
     more-members : {i j k l n : ℕ} {key : List ℕ} {v : Value} {ms : Members} → MemberAt t i key v j → Spaces t j k → MarkAt t 44 k l → SomeMembers t l ms n → SomeMembers t i (member key v ms) n
 
   -- member = string name-separator value
