@@ -124,7 +124,19 @@ fn other_key(
     if has_entry(&*pending, level + 1, top, number) {
         return KeyPart::NoKey(72, at);
     }
-    match text_leaf(text, rows, slots, starts, found, used, texts, limit, at, next, probed) {
+    match text_leaf(
+        text,
+        rows,
+        slots,
+        starts,
+        found,
+        used,
+        texts,
+        limit,
+        at,
+        next,
+        probed,
+    ) {
         Part::Refused(w, p) => KeyPart::NoKey(w, p),
         Part::Read(row, after, n, m) => {
             pending[level] = number;
@@ -161,7 +173,15 @@ pub(crate) fn key_at(
 {
     match read(text, classes, at) {
         StringRead::Fault(p) => KeyPart::NoKey(71, p),
-        StringRead::Whole(slot, next) => match find_key(text, classes, list, places, key_slots, slot, at) {
+        StringRead::Whole(slot, next) => match find_key(
+            text,
+            classes,
+            list,
+            places,
+            key_slots,
+            slot,
+            at,
+        ) {
             KeyFound::Listed(k) => listed_key(pending, used, texts, level, top, k, at, next),
             KeyFound::Unlisted => other_key(
                 text,

@@ -24,8 +24,7 @@ returns c = (λ seen v. key-refused-says (key-no-string _ (now (c .before .befor
 returns-2 : tie.Need-returns-2
 returns-2 c =
     let w = whole-string (now (c .before .before .before .before .before .before .before .before .before .before .before .before .before .before .before .before .before .args .text)) (c .before .before .before .before .before .before .before .before .before .before .before .before .before .before .before .before .before .args .at) (ap slotOf (sym (c .before .before .before .before .before .before .before .before .before .slot .given .1)) ∙ c .before .before .before .before .before .before .before .before .before .before .before .read .ensures) in
-    let listed = sym (c .before .before .before .before .before .before .before .find-key .ensures .0 (w .bytes) _ (w .string) (w .slot-is)) ∙ ap keyOf (c .before .before .before .before .before .k .given .1) in
-    (
+    let listed = sym (c .before .before .before .before .before .before .before .find-key .ensures .0 (w .bytes) _ (w .string) (w .slot-is)) ∙ ap keyOf (c .before .before .before .before .before .k .given .1) in (
       λ seen v.
           says-of-string (key-of-string _ _ _ seen _ _ (w .bytes) _ (w .string))
           (listed-key-says (c .before .before .before .before .before .before .before .before .before .before .before .before .before .before .before .before .before .pre .0) (lines (now (c .before .before .before .before .before .before .before .before .before .before .before .before .before .before .before .before .before .args .list))) (c .before .before .before .before .before .before .before .before .before .before .before .before .before .before .before .before .before .pre .1 .1 .1 .distinct) _ _ _ (w .bytes) _ _ listed _ (c .before .before .before .before .before .before .before .before .before .before .before .before .before .before .before .before .before .pre .1 .1 .0 .0) (c .before .before .before .before .before .before .before .before .before .before .before .before .before .before .before .before .before .pre .1 .1 .0 .1) v (c .before .before .listed-key .ensures .0) (c .before .before .listed-key .ensures .1)),

@@ -1,17 +1,17 @@
+-- The bytes in the definition's order, then a digit. Assumes nothing.
+use mathlib.Core.Path.{ap}
+use mathlib.Core.Bool.{_||_}
+use mathlib.Core.List.{[], _∷_}
 use borrow.Author.Needs.{needs}
+use lib.Dec.{eqb}
+use Rattle.model.specs.Lists.{any}
+use Rattle.json.specs.Grammar.{opens?}
 use Rattle.json.proofs.reader.opens.Statement.{statement}
 use Rattle.json.proofs.reader.opens.Tie as tie
-use Rattle.json.proofs.reader.opens.Reads as reads
-use Rattle.json.proofs.reader.opens.Lts as lts
-use Rattle.classes.proofs.is_digit.Reads as is-digit-reads
 
--- src/reader.rt:49:12
-is-digit-requires : tie.Need-is-digit-requires
-is-digit-requires c κs = search needs
-
--- src/reader.rt:44:1
 returns : tie.Need-returns
-returns c = ?
+unfolding opens?
+returns c = ap (λ d. any (eqb (c .before .args .b)) (123 ∷ 91 ∷ 34 ∷ 116 ∷ 102 ∷ 110 ∷ 45 ∷ []) || d) (c .is-digit .ensures .1 (c .before .pre))
 
 pub opens-spec : {M : Type 1} → statement M
-opens-spec = tie.close (tie.spec is-digit-requires returns)
+opens-spec = tie.close (tie.spec (λ c κs. search needs) returns)
