@@ -27,3 +27,7 @@ pub mod KeyWays
 pub mod SeenKeys
 pub mod OtherKeys
 pub mod ListedKeys
+pub mod Walking
+pub mod ItemWays
+pub mod PlainWays
+pub mod CycleWays

@@ -108,29 +108,30 @@ line-for keys t starts texts key k few apart e =
         go true f = let a : k ≡ j = apart k j l m (sym q ∙ eqList-eq key (getD keys j []) f) in eq-eqb (firstListed + k) (firstListed + j) (omega (arith, a))
         go false f = ne-eqb (firstListed + k) (firstListed + j) (λ g. let a : k ≡ j = omega (arith, g) in let r : true ≡ false = sym (eq-eqList key (getD keys j []) (q ∙ ap (λ n. getD keys n []) a)) ∙ f in let z : _≡_ {A = ℕ} 0 1 = cc in omega arith)
 
--- The entries of an object with one key more, whatever was read since below them.
+-- entries stay what they are while texts are added behind those before
+module _ (keys : List (List ℕ)) (t starts more : List ℕ) (texts : ℕ) where
+  text-same : ((k : ℕ) → k < texts → getD more k 0 ≡ getD starts k 0) → (e : ℕ) → e < texts → textAt t more e ≡ textAt t starts e
+  text-same same e l = ap (λ i. textAt t (i ∷ []) 0) (same e l)
+
+  pub entry-kept : texts ≤ maxRows → ((k : ℕ) → k < texts → getD more k 0 ≡ getD starts k 0) → (e : ℕ) → EntryOf keys t starts texts e → entryKey keys t more e ≡ entryKey keys t starts e
+  entry-kept few same e (of-text l n) = text-entry keys t more e (omega (arith, few, l)) ∙ text-same same e l ∙ sym (text-entry keys t starts e (omega (arith, few, l)))
+  entry-kept few same e (of-line k q l) = line-entry keys t more e k q ∙ sym (line-entry keys t starts e k q)
+
+  pub entry-stays : (count : ℕ) → texts ≤ count → ((k : ℕ) → k < texts → getD more k 0 ≡ getD starts k 0) → (e : ℕ) → EntryOf keys t starts texts e → EntryOf keys t more count e
+  entry-stays count grown same e (of-text l n) = of-text (omega (arith, l, grown)) (ap (λ x. findText x keys) (text-same same e l) ∙ n)
+  entry-stays count grown same e (of-line k q l) = of-line k q l
+
+-- The entries of an object with one key more, texts being added behind those before.
 module _ {keys : List (List ℕ)} {t starts pending : List ℕ} {texts hi : ℕ} {seen : List (List ℕ)} (lo : ℕ) (few : texts ≤ maxRows) (s : Seen keys t starts pending texts (lo + 1) hi seen) where
-  -- with texts added behind those before
   module _ (more : List ℕ) (count : ℕ) (grown : texts ≤ count) (same : (k : ℕ) → k < texts → getD more k 0 ≡ getD starts k 0) where
-    text-same : (e : ℕ) → e < texts → textAt t more e ≡ textAt t starts e
-    text-same e l = ap (λ i. textAt t (i ∷ []) 0) (same e l)
-
-    entry-same : (e : ℕ) → EntryOf keys t starts texts e → entryKey keys t more e ≡ entryKey keys t starts e
-    entry-same e (of-text l n) = text-entry keys t more e (omega (arith, few, l)) ∙ text-same e l ∙ sym (text-entry keys t starts e (omega (arith, few, l)))
-    entry-same e (of-line k q l) = line-entry keys t more e k q ∙ sym (line-entry keys t starts e k q)
-
-    still : (e : ℕ) → EntryOf keys t starts texts e → EntryOf keys t more count e
-    still e (of-text l n) = of-text (omega (arith, l, grown)) (ap (λ x. findText x keys) (text-same e l) ∙ n)
-    still e (of-line k q l) = of-line k q l
-
     pub seen-more : (after : List ℕ) (entry : ℕ) (key : List ℕ) → lo < hi → hi ≤ length pending → after ≡ set pending lo entry → EntryOf keys t more count entry → entryKey keys t more entry ≡ key → Seen keys t more after count lo hi (seen ++ key ∷ [])
     seen-more after entry key l m a new is =
         record {
           are = λ x.
               any-append (eqList x) seen key
-              ∙ (λ i. eqList x (sym is i) || (s .are x ∙ any-same (λ e. eqList x (entryKey keys t starts e)) (λ e. eqList x (entryKey keys t more e)) (entries pending (lo + 1) hi) (λ e n. ap (eqList x) (sym (entry-same e (s .each e n))))) i)
+              ∙ (λ i. eqList x (sym is i) || (s .are x ∙ any-same (λ e. eqList x (entryKey keys t starts e)) (λ e. eqList x (entryKey keys t more e)) (entries pending (lo + 1) hi) (λ e n. ap (eqList x) (sym (entry-kept keys t starts more texts few same e (s .each e n))))) i)
               ∙ ap (any (λ e. eqList x (entryKey keys t more e))) (sym with-it);
-          each = λ e n. ⊎-elim (λ q. subst (EntryOf keys t more count) (sym q) new) (λ p. still e (s .each e p)) (in-cons (subst (In e) with-it n));
+          each = λ e n. ⊎-elim (λ q. subst (EntryOf keys t more count) (sym q) new) (λ p. entry-stays keys t starts more texts count grown same e (s .each e p)) (in-cons (subst (In e) with-it n));
         }
       where
         behind : drop (lo + 1) (set pending lo entry) ≡ drop (lo + 1) pending

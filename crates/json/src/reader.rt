@@ -315,6 +315,7 @@ fn object_members(
     requires lent { ⌜ now classes ≡ classTable ⌝ }
     requires table { ⌜ KeyTable (now list) (now places) (now «key_slots») ⌝ }
     requires bounds { ⌜ (level < top) × (top ≤ length (now pending)) ⌝ }
+    requires known { ⌜ ((seen : List (List ℕ)) × Seen (lines (now list)) (now text) (now starts) (now pending) texts (level + 1) top seen) ⌝ }
     ensures { λ r. ⌜ ((seen : List (List ℕ)) → Seen (lines (now (list .entry))) (now (text .entry)) (now (starts .entry)) (now (pending .entry)) texts (level + 1) top seen → Says (now (text .entry)) (now (rows .exit)) (now (slots .exit)) (now (starts .exit)) (now (found .exit)) (now (starts .entry)) texts limit r (members level (record { keys = lines (now (list .entry)); limit = limit }) (now (text .entry)) seen at (builtIn (now (text .entry)) (now (rows .entry)) (now (starts .entry)) used texts))) ⌝ }
     ensures kept { λ r. ⌜ drop (level + 1) (now (pending .exit)) ≡ drop (level + 1) (now (pending .entry)) ⌝ }
 {
@@ -396,6 +397,7 @@ fn item(
     requires bounds { ⌜ level ≤ length (now pending) ⌝ }
     requires below { ⌜ (object ≡ true → (level < top) × (top ≤ length (now pending))) ⌝ }
     requires plain { ⌜ (symbol ≡ textLeaf → ⊥) × (key .0 < 65535) ⌝ }
+    requires known { ⌜ ((seen : List (List ℕ)) × (object ≡ true → Seen (lines (now list)) (now text) (now starts) (now pending) texts level top seen)) ⌝ }
     ensures { λ r. ⌜ ((seen : List (List ℕ)) → (object ≡ true → Seen (lines (now (list .entry))) (now (text .entry)) (now (starts .entry)) (now (pending .entry)) texts level top seen) → Says (now (text .entry)) (now (rows .exit)) (now (slots .exit)) (now (starts .exit)) (now (found .exit)) (now (starts .entry)) texts limit r (itemAt object level (record { keys = lines (now (list .entry)); limit = limit }) (now (text .entry)) seen symbol (key .0) at (builtIn (now (text .entry)) (now (rows .entry)) (now (starts .entry)) used texts))) ⌝ }
     ensures kept { λ r. ⌜ drop level (now (pending .exit)) ≡ drop level (now (pending .entry)) ⌝ }
 {
@@ -503,6 +505,7 @@ fn rest(
     requires table { ⌜ KeyTable (now list) (now places) (now «key_slots») ⌝ }
     requires bounds { ⌜ level ≤ length (now pending) ⌝ }
     requires below { ⌜ (object ≡ true → (level < top) × (top ≤ length (now pending))) ⌝ }
+    requires known { ⌜ ((seen : List (List ℕ)) × (object ≡ true → Seen (lines (now list)) (now text) (now starts) (now pending) texts level top seen)) ⌝ }
     ensures { λ r. ⌜ ((seen : List (List ℕ)) → (object ≡ true → Seen (lines (now (list .entry))) (now (text .entry)) (now (starts .entry)) (now (pending .entry)) texts level top seen) → Says (now (text .entry)) (now (rows .exit)) (now (slots .exit)) (now (starts .exit)) (now (found .exit)) (now (starts .entry)) texts limit r (restOf object level (record { keys = lines (now (list .entry)); limit = limit }) (now (text .entry)) seen at (builtIn (now (text .entry)) (now (rows .entry)) (now (starts .entry)) used texts))) ⌝ }
     ensures kept { λ r. ⌜ drop level (now (pending .exit)) ≡ drop level (now (pending .entry)) ⌝ }
 {

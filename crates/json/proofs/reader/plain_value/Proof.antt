@@ -1,145 +1,86 @@
+-- By the first byte. Assumes nothing.
+use mathlib.Core.Path.{refl, sym, ap, _∙_}
+use mathlib.Core.Bool.{_||_}
+use native.Mathlib.Omega.{arith}
 use borrow.Author.Needs.{needs}
+use denote.Ref.{now}
+use lib.Dec.{eqb}
+use Rattle.base.proofs.Bytes.{byte-inside}
+use Rattle.classes.specs.Classes.{digit?}
+use Rattle.json.specs.State.{builtIn, says-refused}
+use Rattle.json.proofs.Holding.{says-by}
+use Rattle.json.proofs.PlainWays.{quote-first, t-first, f-first, n-first, number-first, none-first}
 use Rattle.json.proofs.reader.plain_value.Statement.{statement}
 use Rattle.json.proofs.reader.plain_value.Tie as tie
-use Rattle.json.proofs.reader.plain_value.Reads as reads
-use Rattle.json.proofs.reader.plain_value.Lts as lts
-use Rattle.base.proofs.text.byte_at.Reads as byte-at-reads
-use Rattle.classes.proofs.is_digit.Reads as is-digit-reads
-use Rattle.json.proofs.leaves.number_leaf.Reads as number-leaf-reads
-use Rattle.json.proofs.leaves.string_leaf.Reads as string-leaf-reads
-use Rattle.json.proofs.leaves.word.Reads as word-reads
 
--- src/reader.rt:97:9
-byte-at-requires : tie.Need-byte-at-requires
-byte-at-requires c κs = search needs
-
--- src/reader.rt:99:9
-string-leaf-requires : tie.Need-string-leaf-requires
-string-leaf-requires c κs = search needs
-
--- src/reader.rt:99:9
-same-length : tie.Need-same-length
-same-length c = search needs
-
--- src/reader.rt:99:9
-same-length-2 : tie.Need-same-length-2
-same-length-2 c = search needs
-
--- src/reader.rt:99:9
 returns : tie.Need-returns
-returns c = ?
+returns c = says-by (quote-first _ (now (c .before .before .before .before .before .before .before .before .before .before .before .before .before .before .args .text)) (c .before .before .before .before .before .before .before .before .before .before .before .before .before .before .args .at) (builtIn (now (c .before .before .before .before .before .before .before .before .before .before .before .before .before .before .args .text)) (now (c .before .before .before .before .before .before .before .before .before .before .before .before .before .before .args .rows)) (now (c .before .before .before .before .before .before .before .before .before .before .before .before .before .before .args .starts)) (c .before .before .before .before .before .before .before .before .before .before .before .before .before .before .args .used) (c .before .before .before .before .before .before .before .before .before .before .before .before .before .before .args .texts)) (sym (c .before .before .before .before .before .before .before .before .before .before .byte-at .ensures) ∙ c .before .before .before .before .before .before .before .before .before .if1 .taken)) (c .before .before .before .before .string-leaf .ensures)
 
--- src/reader.rt:123:13
-slice-aggregate-word : tie.Need-slice-aggregate-word
-slice-aggregate-word c = search needs
-
--- src/reader.rt:113:9
 word-requires : tie.Need-word-requires
-word-requires c κs = ?
+word-requires c κs =
+    let l = byte-inside (now (c .before .before .before .before .before .before .before .before .before .before .before .args .text)) (c .before .before .before .before .before .before .before .before .before .before .before .args .at) (c .before .before .before .before .before .before .before .byte-at .result) (c .before .before .before .before .before .before .before .byte-at .ensures) (omega (arith, c .before .before .before .before .before .if2 .taken)) in
+    (c .before .before .before .before .before .before .before .before .before .before .before .pre .0, (omega (arith, l, c .before .before .before .before .before .before .before .before .before .before .before .good .0), (omega arith, λ e. omega (arith, e))))
 
--- src/reader.rt:113:9
-same-length-3 : tie.Need-same-length-3
-same-length-3 c = search needs
-
--- src/reader.rt:113:9
-same-length-4 : tie.Need-same-length-4
-same-length-4 c = search needs
-
--- src/reader.rt:113:9
 returns-2 : tie.Need-returns-2
-returns-2 c = ?
+returns-2 c = says-by (t-first _ (now (c .before .before .before .before .before .before .before .before .before .before .before .before .before .before .args .text)) (c .before .before .before .before .before .before .before .before .before .before .before .before .before .before .args .at) (builtIn (now (c .before .before .before .before .before .before .before .before .before .before .before .before .before .before .args .text)) (now (c .before .before .before .before .before .before .before .before .before .before .before .before .before .before .args .rows)) (now (c .before .before .before .before .before .before .before .before .before .before .before .before .before .before .args .starts)) (c .before .before .before .before .before .before .before .before .before .before .before .before .before .before .args .used) (c .before .before .before .before .before .before .before .before .before .before .before .before .before .before .args .texts)) (λ e. c .before .before .before .before .before .before .before .before .before .if1 .left (c .before .before .before .before .before .before .before .before .before .before .byte-at .ensures ∙ e)) (sym (c .before .before .before .before .before .before .before .before .before .before .byte-at .ensures) ∙ c .before .before .before .before .before .before .before .before .if2 .taken)) (c .before .before .word .ensures)
 
--- src/reader.rt:139:13
-slice-aggregate-word-2 : tie.Need-slice-aggregate-word-2
-slice-aggregate-word-2 c = search needs
-
--- src/reader.rt:129:9
 word-requires-2 : tie.Need-word-requires-2
-word-requires-2 c κs = ?
+word-requires-2 c κs =
+    let l = byte-inside (now (c .before .before .before .before .before .before .before .before .before .before .before .before .args .text)) (c .before .before .before .before .before .before .before .before .before .before .before .before .args .at) (c .before .before .before .before .before .before .before .before .byte-at .result) (c .before .before .before .before .before .before .before .before .byte-at .ensures) (omega (arith, c .before .before .before .before .before .if3 .taken)) in
+    (c .before .before .before .before .before .before .before .before .before .before .before .before .pre .0, (omega (arith, l, c .before .before .before .before .before .before .before .before .before .before .before .before .good .0), (omega arith, λ e. omega (arith, e))))
 
--- src/reader.rt:129:9
-same-length-5 : tie.Need-same-length-5
-same-length-5 c = search needs
-
--- src/reader.rt:129:9
-same-length-6 : tie.Need-same-length-6
-same-length-6 c = search needs
-
--- src/reader.rt:129:9
 returns-3 : tie.Need-returns-3
-returns-3 c = ?
+returns-3 c = says-by (f-first _ (now (c .before .before .before .before .before .before .before .before .before .before .before .before .before .before .before .args .text)) (c .before .before .before .before .before .before .before .before .before .before .before .before .before .before .before .args .at) (builtIn (now (c .before .before .before .before .before .before .before .before .before .before .before .before .before .before .before .args .text)) (now (c .before .before .before .before .before .before .before .before .before .before .before .before .before .before .before .args .rows)) (now (c .before .before .before .before .before .before .before .before .before .before .before .before .before .before .before .args .starts)) (c .before .before .before .before .before .before .before .before .before .before .before .before .before .before .before .args .used) (c .before .before .before .before .before .before .before .before .before .before .before .before .before .before .before .args .texts)) (λ e. c .before .before .before .before .before .before .before .before .before .before .if1 .left (c .before .before .before .before .before .before .before .before .before .before .before .byte-at .ensures ∙ e)) (λ e. c .before .before .before .before .before .before .before .before .before .if2 .left (c .before .before .before .before .before .before .before .before .before .before .before .byte-at .ensures ∙ e)) (sym (c .before .before .before .before .before .before .before .before .before .before .before .byte-at .ensures) ∙ c .before .before .before .before .before .before .before .before .if3 .taken)) (c .before .before .word2 .ensures)
 
--- src/reader.rt:155:13
-slice-aggregate-word-3 : tie.Need-slice-aggregate-word-3
-slice-aggregate-word-3 c = search needs
-
--- src/reader.rt:145:9
 word-requires-3 : tie.Need-word-requires-3
-word-requires-3 c κs = ?
+word-requires-3 c κs =
+    let l = byte-inside (now (c .before .before .before .before .before .before .before .before .before .before .before .before .before .args .text)) (c .before .before .before .before .before .before .before .before .before .before .before .before .before .args .at) (c .before .before .before .before .before .before .before .before .before .byte-at .result) (c .before .before .before .before .before .before .before .before .before .byte-at .ensures) (omega (arith, c .before .before .before .before .before .if4 .taken)) in
+    (c .before .before .before .before .before .before .before .before .before .before .before .before .before .pre .0, (omega (arith, l, c .before .before .before .before .before .before .before .before .before .before .before .before .before .good .0), (omega arith, λ e. omega (arith, e))))
 
--- src/reader.rt:145:9
-same-length-7 : tie.Need-same-length-7
-same-length-7 c = search needs
-
--- src/reader.rt:145:9
-same-length-8 : tie.Need-same-length-8
-same-length-8 c = search needs
-
--- src/reader.rt:145:9
 returns-4 : tie.Need-returns-4
-returns-4 c = ?
+returns-4 c = says-by (n-first _ (now (c .before .before .before .before .before .before .before .before .before .before .before .before .before .before .before .before .args .text)) (c .before .before .before .before .before .before .before .before .before .before .before .before .before .before .before .before .args .at) (builtIn (now (c .before .before .before .before .before .before .before .before .before .before .before .before .before .before .before .before .args .text)) (now (c .before .before .before .before .before .before .before .before .before .before .before .before .before .before .before .before .args .rows)) (now (c .before .before .before .before .before .before .before .before .before .before .before .before .before .before .before .before .args .starts)) (c .before .before .before .before .before .before .before .before .before .before .before .before .before .before .before .before .args .used) (c .before .before .before .before .before .before .before .before .before .before .before .before .before .before .before .before .args .texts)) (λ e. c .before .before .before .before .before .before .before .before .before .before .before .if1 .left (c .before .before .before .before .before .before .before .before .before .before .before .before .byte-at .ensures ∙ e)) (λ e. c .before .before .before .before .before .before .before .before .before .before .if2 .left (c .before .before .before .before .before .before .before .before .before .before .before .before .byte-at .ensures ∙ e)) (λ e. c .before .before .before .before .before .before .before .before .before .if3 .left (c .before .before .before .before .before .before .before .before .before .before .before .before .byte-at .ensures ∙ e)) (sym (c .before .before .before .before .before .before .before .before .before .before .before .before .byte-at .ensures) ∙ c .before .before .before .before .before .before .before .before .if4 .taken)) (c .before .before .word3 .ensures)
 
--- src/reader.rt:160:22
-is-digit-requires : tie.Need-is-digit-requires
-is-digit-requires c κs = search needs
-
--- src/reader.rt:161:9
-number-leaf-requires : tie.Need-number-leaf-requires
-number-leaf-requires c κs = search needs
-
--- src/reader.rt:161:9
-same-length-9 : tie.Need-same-length-9
-same-length-9 c = search needs
-
--- src/reader.rt:161:9
-same-length-10 : tie.Need-same-length-10
-same-length-10 c = search needs
-
--- src/reader.rt:161:9
 returns-5 : tie.Need-returns-5
-returns-5 c = ?
+returns-5 c =
+    says-by
+    (number-first _ (now (c .before .before .before .before .before .before .before .before .before .before .before .before .before .before .before .before .before .args .text)) (c .before .before .before .before .before .before .before .before .before .before .before .before .before .before .before .before .before .args .at) (builtIn (now (c .before .before .before .before .before .before .before .before .before .before .before .before .before .before .before .before .before .args .text)) (now (c .before .before .before .before .before .before .before .before .before .before .before .before .before .before .before .before .before .args .rows)) (now (c .before .before .before .before .before .before .before .before .before .before .before .before .before .before .before .before .before .args .starts)) (c .before .before .before .before .before .before .before .before .before .before .before .before .before .before .before .before .before .args .used) (c .before .before .before .before .before .before .before .before .before .before .before .before .before .before .before .before .before .args .texts)) (λ e. c .before .before .before .before .before .before .before .before .before .before .before .before .if1 .left (c .before .before .before .before .before .before .before .before .before .before .before .before .before .byte-at .ensures ∙ e)) (λ e. c .before .before .before .before .before .before .before .before .before .before .before .if2 .left (c .before .before .before .before .before .before .before .before .before .before .before .before .before .byte-at .ensures ∙ e)) (λ e. c .before .before .before .before .before .before .before .before .before .before .if3 .left (c .before .before .before .before .before .before .before .before .before .before .before .before .before .byte-at .ensures ∙ e)) (λ e. c .before .before .before .before .before .before .before .before .before .if4 .left (c .before .before .before .before .before .before .before .before .before .before .before .before .before .byte-at .ensures ∙ e))
+    (sym (λ i. eqb (c .before .before .before .before .before .before .before .before .before .before .before .before .before .byte-at .ensures i) 45 || digit? (c .before .before .before .before .before .before .before .before .before .before .before .before .before .byte-at .ensures i)) ∙ ap (λ d. eqb (c .before .before .before .before .before .before .before .before .before .before .before .before .before .byte-at .result) 45 || d) (sym (c .before .before .before .before .before .before .before .before .is-digit .ensures .1 (c .before .before .before .before .before .before .before .before .before .before .before .before .before .before .before .before .before .pre .1))) ∙ c .before .before .before .before .before .before .before .if5 .taken))
+    (c .before .before .number-leaf .ensures)
 
--- src/reader.rt:81:1
 returns-6 : tie.Need-returns-6
-returns-6 c = ?
+returns-6 c =
+    says-by
+    (none-first _ (now (c .before .before .before .before .before .before .before .before .before .before .args .text)) (c .before .before .before .before .before .before .before .before .before .before .args .at) (builtIn (now (c .before .before .before .before .before .before .before .before .before .before .args .text)) (now (c .before .before .before .before .before .before .before .before .before .before .args .rows)) (now (c .before .before .before .before .before .before .before .before .before .before .args .starts)) (c .before .before .before .before .before .before .before .before .before .before .args .used) (c .before .before .before .before .before .before .before .before .before .before .args .texts)) (λ e. c .before .before .before .before .before .if1 .left (c .before .before .before .before .before .before .byte-at .ensures ∙ e)) (λ e. c .before .before .before .before .if2 .left (c .before .before .before .before .before .before .byte-at .ensures ∙ e)) (λ e. c .before .before .before .if3 .left (c .before .before .before .before .before .before .byte-at .ensures ∙ e)) (λ e. c .before .before .if4 .left (c .before .before .before .before .before .before .byte-at .ensures ∙ e))
+    (sym (λ i. eqb (c .before .before .before .before .before .before .byte-at .ensures i) 45 || digit? (c .before .before .before .before .before .before .byte-at .ensures i)) ∙ ap (λ d. eqb (c .before .before .before .before .before .before .byte-at .result) 45 || d) (sym (c .before .is-digit .ensures .1 (c .before .before .before .before .before .before .before .before .before .before .pre .1))) ∙ c .if5 .left))
+    (says-refused refl)
 
 pub plain-value-spec : {M : Type 1} → statement M
 plain-value-spec =
     tie.close
     (tie.spec
-    byte-at-requires
-    string-leaf-requires
-    same-length
-    same-length-2
+    (λ c κs. search needs)
+    (λ c κs. search needs)
+    (λ c. search needs)
+    (λ c. search needs)
     returns
-    slice-aggregate-word
+    (λ c. search needs)
     word-requires
-    same-length-3
-    same-length-4
+    (λ c. search needs)
+    (λ c. search needs)
     returns-2
-    slice-aggregate-word-2
+    (λ c. search needs)
     word-requires-2
-    same-length-5
-    same-length-6
+    (λ c. search needs)
+    (λ c. search needs)
     returns-3
-    slice-aggregate-word-3
+    (λ c. search needs)
     word-requires-3
-    same-length-7
-    same-length-8
+    (λ c. search needs)
+    (λ c. search needs)
     returns-4
-    is-digit-requires
-    number-leaf-requires
-    same-length-9
-    same-length-10
+    (λ c κs. search needs)
+    (λ c κs. search needs)
+    (λ c. search needs)
+    (λ c. search needs)
     returns-5
     returns-6)
