@@ -15,6 +15,7 @@ pub mod CompleteValues
 pub mod Exactly
 pub mod ReadTries
 pub mod WholeTexts
+pub mod Refusals
 pub mod Finding
 pub mod Texting
 pub mod Numbered
