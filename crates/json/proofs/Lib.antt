@@ -14,6 +14,8 @@ pub mod ValueStarts
 pub mod CompleteValues
 pub mod Exactly
 pub mod ReadTries
+pub mod WholeTexts
+pub mod Refusals
 pub mod Finding
 pub mod Texting
 pub mod Numbered

@@ -17,10 +17,10 @@ use Rattle.document.specs.declared.scalar.Scalar.{Scalar}
 use Rattle.json.specs.Value.{leafTree, nodeTree}
 use Rattle.json.specs.Grammar.{Built, built, Outcome, good, refused, leafRow, nodeRow, placeRow, finish}
 
--- what was read passes a test
+-- what was read passes a test; a refusal has one of document 02's numbers, none above 74
 pub data Gives (P : ℕ → ℕ → Built → Type 0) : Outcome → Type 0 where
   gives : {j n : ℕ} {b : Built} → P j n b → Gives P (good j n b)
-  gives-none : {w p : ℕ} → Gives P (refused w p)
+  gives-none : {w p : ℕ} → w ≤ 74 → Gives P (refused w p)
 
 -- what is known of an outcome that is known
 pub given-is : (P : ℕ → ℕ → Built → Type 0) (j n : ℕ) (b : Built) {o : Outcome} → o ≡ good j n b → Gives P o → P j n b
@@ -29,12 +29,12 @@ given-is P j n b q (gives {j = i} {n = m} {b = a} h) =
     let y : m ≡ n = cc in
     let z : a ≡ b = cc in
     subst (λ w. w) (λ k. P (x k) (y k) (z k)) h
-given-is P j n b q gives-none = let z : _≡_ {A = ℕ} 0 1 = cc in absurd (omega arith)
+given-is P j n b q (gives-none l) = let z : _≡_ {A = ℕ} 0 1 = cc in absurd (omega arith)
 
 -- what follows from a test that was passed
 pub gives-as : (P Q : ℕ → ℕ → Built → Type 0) {o : Outcome} → ((j n : ℕ) (b : Built) → P j n b → Q j n b) → Gives P o → Gives Q o
 gives-as P Q f (gives h) = gives (f _ _ _ h)
-gives-as P Q f gives-none = gives-none
+gives-as P Q f (gives-none l) = gives-none l
 
 -- a row was found or added, before the place `next`
 pub record Ended (limit : ℕ) (r : Row) (next : ℕ) (b : Built) (j n : ℕ) (after : Built) : Type 0 where
@@ -54,7 +54,7 @@ module _ (limit : ℕ) (r : Row) (next : ℕ) (b : Built) where
           let k = length-append (b .rows) (r ∷ []) in
           let m = ltb-true (length (b .rows)) limit f in
           gives (record { place = refl; row = ap (placed (b .rows) r) q; texts = refl; inside = omega arith; few = λ l. omega arith })
-      go false f = gives-none
+      go false f = gives-none {w = 67} (omega arith)
 
   -- what finishing a row gives
   pub finish-gives : Gives (Ended limit r next b) (finish limit r next b)

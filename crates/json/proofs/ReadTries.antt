@@ -9,7 +9,7 @@ use lib.Ieee.{nanBits, round, neg, div, ofInt, ofBits, toBits, size, units, odd,
 use lib.ListN.{length, replicate}
 use Rattle.base.specs.Text.{leading, wordBytes, wordAt}
 use Rattle.classes.specs.Classes.{digit?, eitherHexDigit?, space?, control?}
-use Rattle.model.specs.Table.{oneZero}
+use Rattle.model.specs.Table.{Row, oneZero}
 use Rattle.document.specs.Scalars.{rateOf}
 use Rattle.document.specs.declared.scalar.Scalar.the-variants.{Bare, Count, Name}
 use Rattle.jsontext.specs.Utf8.{passAt, sequenceIn, sequenceAt, utf8}
@@ -26,7 +26,7 @@ bytes end = []
 bytes (c then s) = code c ∷ bytes s
 
 -- by the listed keys, at most so many rows of at most 256 levels
-by : List (List ℕ) → ℕ → List ℕ → Reading
+by : List (List ℕ) → ℕ → List ℕ → Reading (List Row)
 by keys limit t = readText 256 (record { keys = keys; limit = limit }) t
 
 -- 67 where the row is finished: room for 0, 1, 2 and 3 rows, then enough
@@ -48,7 +48,7 @@ unfolding bytes by leading wordBytes wordAt digit? eitherHexDigit? space? contro
 numbers = refl
 
 -- the two zeros are one number's row, a count is another's
-abbrev count : Reading → ℕ
+abbrev count : Reading (List Row) → ℕ
 count (rowsRead rows) = length rows
 count (refusedAt w p) = 0
 

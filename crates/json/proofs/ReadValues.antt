@@ -1,6 +1,6 @@
 -- What is read is a value by the productions of RFC 8259, and its tree was added. Assumes nothing.
 use mathlib.Core.Path.{_≡_, refl, sym, ap, subst, _∙_}
-use mathlib.Core.Bool.{Bool, true, false, not, _&&_, _||_}
+use mathlib.Core.Bool.{Bool, true, false, not, _&&_, _||_, cond}
 use mathlib.Core.List.{List, [], _∷_, _++_}
 use mathlib.Core.Option.{Option, none, some}
 use Prim.Native.Nat.{ℕ, zero, suc, _+_, _<_, _≤_}
@@ -26,7 +26,7 @@ use Rattle.json.specs.Signature.{end, stop, other, item, nullLeaf, flagL
 use Rattle.json.specs.Keys.{findText}
 use Rattle.json.specs.Value.{Value, Elements, Members, null, boolean, number, string, array, object, no-element, element, no-member, member, some?, scalarOr, numberText, leafTree, nodeTree, textTree, keyTexts, memberTree, valueTree, elementsTree, membersTree, formed?, elementsFormed?, membersFormed?}
 use Rattle.json.specs.Productions.{WordAt, MarkAt, ValueAt, is-null, is-true, is-false, is-number, is-string, is-array, is-object, ElementsAt, no-elements, some-elements, SomeElements, last-element, more-elements, MembersAt, no-members, some-members, SomeMembers, last-member, more-members, MemberAt, pair}
-use Rattle.json.specs.Grammar.{Setting, Built, built, Outcome, good, refused, leafRow, nodeRow, finish, finishText, afterWord, afterText, afterNumber, noValue, Reader, MemberReader, closeAt, restAt, joined, afterValue, elementBy, memberBy, afterKey, keyBy, membersBy, bodyAt, valueBy, members, elements, value}
+use Rattle.json.specs.Grammar.{Setting, Built, built, Outcome, good, refused, leafRow, nodeRow, finish, finishText, afterWord, afterText, afterNumber, opens?, noValue, Reader, MemberReader, closeAt, restAt, joined, afterValue, elementBy, memberBy, afterKey, keyBy, membersBy, bodyAt, valueBy, members, elements, value}
 use Rattle.json.proofs.Planted.{Gives, gives, gives-none, given-is, gives-as, Ended, finish-gives, Grown, Planted, grown-none, grown-more, node-planted, leaf-planted, some-level}
 use Rattle.json.proofs.WordProductions.{word-read}
 use Rattle.json.proofs.ValuePlaces.{value-ahead, some-elements-ahead, some-members-ahead}
@@ -68,7 +68,7 @@ module _ (S : Setting) (t : List ℕ) where
         gives-as _ _
         (λ i n after h. record { what = nothing; spelled = close _ _ _ (spaces-read t j) (eqb-true _ _ e) (h .place); formed = no-more; planted = subst (λ p. Planted (S .limit) p l b i after) (leaf-is (b .texts)) (leaf-planted (S .limit) l leaf Bare z h) })
         (finish-gives (S .limit) (leafRow leaf Bare) (spaceEnd t j + 1) b))
-        (λ e. gives-none)
+        (λ e. gives-none {w = 71} (omega arith))
 
     rest-gives : 0 < l → (j : ℕ) (b : Built) → Gives (IsRead (S .limit) Behind ok tree l j b) (restAt (S .limit) t mark leaf rest (spaceEnd t j) b)
     unfolding restAt
@@ -93,7 +93,7 @@ module _ (S : Setting) (t : List ℕ) where
 
     module _ (s : ℕ) (ts : List Tree) (js : List ℕ) (b more : Built) (before : Grown (S .limit) ts l (b .rows) js (more .rows)) (at : ℕ) where
       join-gives : {v m : ℕ} {b₁ : Built} → IsValue l at more v m b₁ → {o : Outcome} → Gives (IsRead (S .limit) Behind ok tree l m b₁) o → Gives (IsBoth s ts b more at) (joined (S .limit) s (js ++ v ∷ []) o)
-      join-gives h gives-none = gives-none
+      join-gives h (gives-none m) = gives-none m
       join-gives {v = v} {m = m} {b₁ = b₁} h (gives {j = r} {n = n} {b = b₂} k) =
           gives-as _ _
           (λ i n′ after e.
@@ -113,7 +113,7 @@ module _ (S : Setting) (t : List ℕ) where
           (finish-gives (S .limit) (nodeRow s ((js ++ v ∷ []) ++ r ∷ [])) n b₂)
 
       both-gives : {o : Outcome} → Gives (IsValue l at more) o → Gives (IsBoth s ts b more at) (afterValue (S .limit) t mark leaf rest s js o)
-      both-gives gives-none = gives-none
+      both-gives (gives-none m) = gives-none m
       both-gives (gives {j = v} {n = m} {b = b₁} h) = join-gives h (rest-gives (omega (arith, h .planted .low, some-level (valueTree (S .keys) (h .what) (more .texts) .0))) m b₁)
 
   both-formed : (a b : Bool) → a ≡ true → b ≡ true → (a && b) ≡ true
@@ -175,11 +175,11 @@ module _ (S : Setting) (t : List ℕ) where
             (λ j k n s e q i key v h. last-member h s e q)
             (λ j k m n x s e h i key v g. more-members g s e h)
             l (rest (seen ++ key ∷ [])) (is-rest (seen ++ key ∷ [])) s ts js b more before (spaceEnd t (spaceEnd t next + 1)) (is-value (spaceEnd t (spaceEnd t next + 1)) more)))
-            (λ e. gives-none)
+            (λ e. gives-none {w = 71} (omega arith))
 
         -- the text of one that is not listed
         text-gives : any (eqList key) seen ≡ false → 0 < l → findText key (S .keys) ≡ none → {o : Outcome} → Gives (Ended (S .limit) (leafRow textLeaf (Name (numberText key (b .texts) .0))) next (built (b .rows) (numberText key (b .texts) .1))) o → Gives (IsMembers seen (suc l) at b) (afterKey (S .limit) t read (rest (seen ++ key ∷ [])) o)
-        text-gives new z e gives-none = gives-none
+        text-gives new z e (gives-none m) = gives-none m
         text-gives new z e (gives {j = k} {n = n} {b = more} h) =
             let p = leaf-planted (S .limit) l textLeaf (Name (numberText key (b .texts) .0)) z h in
             rw (h .place) (member-gives new other (textTree (numberText key (b .texts) .0) ∷ []) (k ∷ []) more (grown-more (S .limit) l (grown-none (S .limit) l (b .rows)) p) (ap (keyTexts key (b .texts)) e ∙ p .texts) (λ x y. ap (λ f. memberTree key (b .texts) f x y) (sym e)))
@@ -191,9 +191,9 @@ module _ (S : Setting) (t : List ℕ) where
             go : (o : Option ℕ) → findText key (S .keys) ≡ o
                 → Gives (IsMembers seen (suc l) at b) (elim o [ none ↦ elim (eqb l 0) [ true ↦ refused 64 at | false ↦ elim (any (eqList key) seen) [ true ↦ refused 72 at | false ↦ afterKey (S .limit) t read (rest (seen ++ key ∷ [])) (finishText (S .limit) key next b) ] ] | some k ↦ elim (any (eqList key) seen) [ true ↦ refused 72 at | false ↦ memberBy (S .limit) t read (rest (seen ++ key ∷ [])) (keySymbol k) [] (spaceEnd t next) b ] ])
             go none e =
-                choose (eqb l 0) _ _ (λ z. gives-none)
-                (λ z. choose (any (eqList key) seen) _ _ (λ w. gives-none) (λ w. text-gives w (let y = eqb-false l 0 z in omega arith) e (finish-gives (S .limit) (leafRow textLeaf (Name (numberText key (b .texts) .0))) next (built (b .rows) (numberText key (b .texts) .1)))))
-            go (some k) e = choose (any (eqList key) seen) _ _ (λ w. gives-none) (λ w. member-gives w (keySymbol k) [] [] b (grown-none (S .limit) l (b .rows)) (ap (keyTexts key (b .texts)) e) (λ x y. ap (λ f. memberTree key (b .texts) f x y) (sym e)))
+                choose (eqb l 0) _ _ (λ z. gives-none {w = 64} (omega arith))
+                (λ z. choose (any (eqList key) seen) _ _ (λ w. gives-none {w = 72} (omega arith)) (λ w. text-gives w (let y = eqb-false l 0 z in omega arith) e (finish-gives (S .limit) (leafRow textLeaf (Name (numberText key (b .texts) .0))) next (built (b .rows) (numberText key (b .texts) .1)))))
+            go (some k) e = choose (any (eqList key) seen) _ _ (λ w. gives-none {w = 72} (omega arith)) (λ w. member-gives w (keySymbol k) [] [] b (grown-none (S .limit) l (b .rows)) (ap (keyTexts key (b .texts)) e) (λ x y. ap (λ f. memberTree key (b .texts) f x y) (sym e)))
 
       -- one member or more, by readers of values and of what follows
       pub members-by : Gives (IsMembers seen (suc l) at b) (membersBy S t l read rest seen at b)
@@ -202,7 +202,7 @@ module _ (S : Setting) (t : List ℕ) where
         where
           go : (g : Got (List ℕ)) → stringAt t at ≡ g → Gives (IsMembers seen (suc l) at b) (elim g [ fault p ↦ refused 71 p | got key next ↦ keyBy S t l read rest seen at key next b ])
           go (got key next) e = key-gives key next (string-read t e)
-          go (fault p) e = gives-none
+          go (fault p) e = gives-none {w = 71} (omega arith)
 
   -- ---- what stands behind an opening mark: the closing one, or what is read
 
@@ -233,7 +233,7 @@ module _ (S : Setting) (t : List ℕ) where
       where
         go : {g : Got Scalar} → Reads (λ u n. (u ≡ k) × WordAt t at w n) g → Gives (IsValue l at b) (afterWord (S .limit) s b g)
         go (reads {v = u} {e = n} h) = rw (h .0) (leaf-gives v s k n (f n (h .1)) ok e)
-        go none-read = gives-none
+        go none-read = gives-none {w = 71} (omega arith)
 
     number-gives : Gives (IsValue l at b) (afterNumber (S .limit) at b (asScalar (numberAt t at)))
     unfolding valueTree formed?
@@ -241,11 +241,11 @@ module _ (S : Setting) (t : List ℕ) where
       where
         scalar : (m : Number) (n : ℕ) → NumberAt t at m n → (o : Option Scalar) → numberScalar m ≡ o → Gives (IsValue l at b) (afterNumber (S .limit) at b (got o n))
         scalar m n h (some k) e = leaf-gives (number m) numberLeaf k n (is-number h) (ap some? e) (ap (λ o. (leafTree numberLeaf (scalarOr o), b .texts)) (sym e))
-        scalar m n h none e = gives-none
+        scalar m n h none e = gives-none {w = 73} (omega arith)
 
         go : (g : Got Number) → numberAt t at ≡ g → Gives (IsValue l at b) (afterNumber (S .limit) at b (asScalar g))
         go (got m n) e = scalar m n (number-read t e) (numberScalar m) refl
-        go (fault p) e = gives-none
+        go (fault p) e = gives-none {w = 71} (omega arith)
 
     text-planted : (bs : List ℕ) {next j n : ℕ} {after : Built} → Ended (S .limit) (leafRow textLeaf (Name (numberText bs (b .texts) .0))) next (built (b .rows) (numberText bs (b .texts) .1)) j n after → Planted (S .limit) (textTree (numberText bs (b .texts) .0), numberText bs (b .texts) .1) l b j after
     text-planted bs h = let p = leaf-planted (S .limit) l textLeaf (Name (numberText bs (b .texts) .0)) level h in record { added = p .added; texts = p .texts; low = p .low; inside = p .inside; few = p .few }
@@ -259,7 +259,7 @@ module _ (S : Setting) (t : List ℕ) where
             gives-as _ _
             (λ j m after h. record { what = string bs; spelled = subst (ValueAt t at (string bs)) (sym (h .place)) (is-string (string-read t e)); formed = refl; planted = text-planted bs h })
             (finish-gives (S .limit) (leafRow textLeaf (Name (numberText bs (b .texts) .0))) n (built (b .rows) (numberText bs (b .texts) .1)))
-        go (fault p) e = gives-none
+        go (fault p) e = gives-none {w = 71} (omega arith)
 
     -- A VALUE THAT IS READ IS ONE BY THE PRODUCTIONS, by readers of members and elements that read such.
     pub value-by : (ms : MemberReader) → ((seen : List (List ℕ)) (at : ℕ) (b : Built) → Gives (IsMembers seen l at b) (ms seen at b)) → (es : Reader) → ((at : ℕ) (b : Built) → Gives (IsElements l at b) (es at b)) → Gives (IsValue l at b) (valueBy S t ms es at b)
@@ -286,13 +286,17 @@ module _ (S : Setting) (t : List ℕ) where
         choose (eqb (byteAt t at) 102) _ _ (λ _. word-gives (boolean false) flagLeaf (Flag false) _ (λ n. is-false) refl refl)
         (λ _.
         choose (eqb (byteAt t at) 110) _ _ (λ _. word-gives null nullLeaf Bare _ (λ n. is-null) refl refl)
-        (λ _. choose (eqb (byteAt t at) 45 || digit? (byteAt t at)) _ _ (λ _. number-gives) (λ _. gives-none)))))))
+        (λ _. choose (eqb (byteAt t at) 45 || digit? (byteAt t at)) _ _ (λ _. number-gives) (λ _. gives-none {w = 71} (omega arith))))))))
 
   -- ---- levels
 
   no-value : (at : ℕ) (b : Built) → Gives (IsValue 0 at b) (noValue t at b)
   unfolding noValue
-  no-value at b = gives-none
+  no-value at b = go (opens? (byteAt t at))
+    where
+      go : (c : Bool) → Gives (IsValue 0 at b) (refused (cond c 64 71) at)
+      go true = gives-none {w = 64} (omega arith)
+      go false = gives-none {w = 71} (omega arith)
 
   -- members and elements of at most l levels
   record Both (l : ℕ) : Type 0 where
@@ -303,8 +307,8 @@ module _ (S : Setting) (t : List ℕ) where
   unfolding members
   both zero =
       record {
-        of-members = members-by 0 (noValue t) no-value (λ seen at b. refused 64 at) (λ seen at b. gives-none);
-        of-elements = elements-by 0 (noValue t) no-value (λ at b. refused 64 at) (λ at b. gives-none);
+        of-members = members-by 0 (noValue t) no-value (λ seen at b. refused 64 at) (λ seen at b. gives-none {w = 64} (omega arith));
+        of-elements = elements-by 0 (noValue t) no-value (λ at b. refused 64 at) (λ at b. gives-none {w = 64} (omega arith));
       }
   both (suc l) =
       let h = both l in

@@ -5,6 +5,7 @@ pub mod Value
 pub mod Productions
 pub mod Grammar
 pub mod Read
+pub mod Answer
 pub mod State
 pub mod Texts
 pub mod Seen
