@@ -38,6 +38,16 @@ pub enum Scalar {
     Name(u32),
 }
 
+/// A rate's bits as a row has them: some makers print an idle server's load as -0.0, and it equals 0.0. In the
+/// readers of text this comes before an equal row is looked for.
+pub fn with_one_zero(bits: u64) -> u64 {
+    if bits == MINUS_ZERO {
+        0
+    } else {
+        bits
+    }
+}
+
 /// Checks a table against a set: the set's numbers first, then the table's.
 pub fn check_document(set: &[u8], cells: &[u16]) -> Result<(Automaton, Document), Refusal> {
     let automaton = check_automaton(set)?;

@@ -1,4 +1,4 @@
-//! The limits and widths of document 01, each stated once.
+//! The limits and widths of document 01, and those that document 02 adds, each stated once.
 
 /// Most symbols of a set ("Sets").
 pub const MAX_SYMBOLS: usize = 64;
@@ -27,6 +27,13 @@ pub const MAX_NAME_BYTES: usize = 16;
 pub const MAX_LIST_LINES: usize = 64;
 /// Most bytes that a program takes from its input ("Turned away, by place", 69).
 pub const MAX_PROGRAM_INPUT: usize = 32_768;
+
+/// Most lines of a key list (document 02, Wish 1).
+pub const MAX_KEYS: usize = 56;
+/// Most bytes of a line of a key list (document 02, Wish 1).
+pub const MAX_KEY_BYTES: usize = 64;
+/// Most digits of a JSON number that is no count (document 02, Wish 1).
+pub const MAX_RATE_DIGITS: usize = 15;
 
 /// What stands in a child place or step place that is not used.
 pub const UNUSED: u16 = 65_535;

@@ -14,14 +14,18 @@ pub fn check_names(site: &[u8], built_in: &[u8], symbols: usize) -> Result<Vec<V
     Ok(shown)
 }
 
-/// The lines of a list, trimmed: byte 10 ends a line, and bytes after the last one are a line too, also where
-/// nothing is left of them.
-pub fn lines(list: &[u8]) -> Vec<&[u8]> {
+/// The lines of a list as they stand: byte 10 ends a line, and bytes after the last one are a line too.
+pub fn plain_lines(list: &[u8]) -> Vec<&[u8]> {
     let mut lines: Vec<&[u8]> = list.split(|&byte| byte == 10).collect();
     if lines.last().is_some_and(|after_last| after_last.is_empty()) {
         lines.pop();
     }
-    lines.into_iter().map(trimmed).collect()
+    lines
+}
+
+/// The lines of a name list, trimmed; a line of which nothing is left is one too.
+pub fn lines(list: &[u8]) -> Vec<&[u8]> {
+    plain_lines(list).into_iter().map(trimmed).collect()
 }
 
 /// A line without the spaces and bytes 13 at its end, where editors on Windows leave them.

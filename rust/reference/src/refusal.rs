@@ -1,6 +1,7 @@
-//! A refusal: one of the numbers of document 01, "Turned away, by place", and for text the byte it speaks of.
+//! A refusal: one of the numbers of document 01, "Turned away, by place", or of those that document 02 adds, and for text
+//! the byte it speaks of.
 
-/// A refusal number, with a place for the numbers 63 to 67.
+/// A refusal number, with a place for the numbers 63 to 67 and 71 to 73.
 #[derive(Clone, Copy, Debug, PartialEq, Eq)]
 pub struct Refusal {
     pub number: u8,

@@ -1,7 +1,7 @@
 //! The reader of term text (document 01, "Term text", and document 02, Wish 6), refusals 63 to 67 with their places.
 
 use crate::automaton::Automaton;
-use crate::document::{Document, Row, Scalar, MINUS_ZERO};
+use crate::document::{with_one_zero, Document, Row, Scalar};
 use crate::limits::{MAX_LEVELS, MAX_NAME_BYTES, MAX_ROWS, ROW_CELLS};
 use crate::names::check_names;
 use crate::refusal::Refusal;
@@ -166,15 +166,5 @@ impl Reader<'_> {
     fn digit(&self, base: u32) -> Option<u64> {
         let byte = self.peek().filter(|byte| !byte.is_ascii_uppercase())?;
         char::from(byte).to_digit(base).map(u64::from)
-    }
-}
-
-/// A rate's bits as a row has them: some makers print an idle server's load as -0.0, and it equals 0.0. This comes
-/// before an equal row is looked for.
-fn with_one_zero(bits: u64) -> u64 {
-    if bits == MINUS_ZERO {
-        0
-    } else {
-        bits
     }
 }
