@@ -5,6 +5,10 @@
 pub mod documents;
 pub mod example_files;
 pub mod export;
+pub mod json_export;
+pub mod json_lists;
+pub mod json_texts;
+pub mod json_values;
 pub mod lists;
 pub mod pairs;
 pub mod random;
