@@ -4,6 +4,8 @@ use reference::examples::set_e;
 use reference::{Document, Row, Scalar};
 
 use crate::export::{agreed_set, dead_set, export_text, name_list, Columns};
+use crate::json_export::{self, key_list, Layout};
+use crate::json_shapes;
 use crate::lists::saved_on_windows;
 
 /// Servers in the exports: their rows are fewer than the annotations that the judging program has room for.
@@ -12,6 +14,7 @@ const SERVERS: usize = 8;
 /// Every file by its name.
 pub fn all() -> Vec<(&'static str, Vec<u8>)> {
     let text = |columns: Columns| export_text(SERVERS, columns).into_bytes();
+    let json = |columns: Columns| json_export::export_text(SERVERS, columns, Layout::Pretty).into_bytes();
     vec![
         ("e.set", set_e().encode()),
         ("pair-7-7.rows", bytes(&pair(&[7]))),
@@ -25,6 +28,13 @@ pub fn all() -> Vec<(&'static str, Vec<u8>)> {
         ("export.term", text(Columns::Agreed)),
         ("export-queue.term", text(Columns::WithQueue)),
         ("export-swapped.term", text(Columns::SwappedOnce)),
+        ("json/evening.set", json_shapes::agreed_set().encode()),
+        ("json/evening.keys", key_list(&json_export::KEYS)),
+        ("json/evening.json", json(Columns::Agreed)),
+        ("json/evening-queue.json", json(Columns::WithQueue)),
+        ("json/evening-swapped.json", json(Columns::SwappedOnce)),
+        ("json/uwsgi.set", json_shapes::uwsgi_set().encode()),
+        ("json/uwsgi.keys", key_list(&json_shapes::UWSGI_KEYS)),
         ("dead.set", dead_set().encode()),
     ]
 }

@@ -7,6 +7,8 @@ pub mod example_files;
 pub mod export;
 pub mod json_export;
 pub mod json_lists;
+pub mod json_sets;
+pub mod json_shapes;
 pub mod json_texts;
 pub mod json_values;
 pub mod lists;
