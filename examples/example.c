@@ -1,4 +1,5 @@
-/* Set E (docs/FORMATS.md) through the C interface: it lets in a pair of two equal leaves. */
+/* Set E (docs/FORMATS.md) through the C interface: it lets in a pair of two equal leaves. And JSON, which has symbols of
+ * its own. */
 #include "cidhomba.h"
 
 #include <inttypes.h>
@@ -34,7 +35,8 @@ static void told(const char *what, uint64_t answer)
     unsigned number = CIDHOMBA_NUMBER(answer);
     if (!CIDHOMBA_REFUSED(answer)) {
         printf("%s: %" PRIu64 "\n", what, answer);
-    } else if (number >= CIDHOMBA_TEXT_FAULT && number <= CIDHOMBA_TEXT_ROWS) {
+    } else if ((number >= CIDHOMBA_TEXT_FAULT && number <= CIDHOMBA_TEXT_ROWS) ||
+               (number >= CIDHOMBA_JSON_FAULT && number <= CIDHOMBA_NUMBER_FORM)) {
         printf("%s: refused %u at %" PRIu64 ", %s\n", what, number, CIDHOMBA_PLACE(answer),
                cidhomba_refusal_text(number));
     } else {
@@ -105,6 +107,19 @@ static void reading(void)
          cidhomba_read_term(set_e, LENGTH(set_e), NAMES, unknown, LENGTH(unknown) - 1, rows, LENGTH(rows)));
 }
 
+/* A list of keys, a line for each, and two texts, without the byte 0 at the end. */
+static void reading_json(void)
+{
+    static const uint8_t keys[] = "name\nweight\n";
+    static const uint8_t sound[] = "{\"name\":\"web01\",\"weight\":30}";
+    static const uint8_t repeated[] = "{\"name\":1,\"name\":2}";
+    uint16_t rows[CIDHOMBA_TABLE_CELLS];
+    told("rows of a server in JSON",
+         cidhomba_read_json(keys, LENGTH(keys) - 1, sound, LENGTH(sound) - 1, rows, LENGTH(rows)));
+    told("rows of one with two names",
+         cidhomba_read_json(keys, LENGTH(keys) - 1, repeated, LENGTH(repeated) - 1, rows, LENGTH(rows)));
+}
+
 static void writing(void)
 {
     uint8_t text[64];
@@ -123,6 +138,7 @@ int main(void)
     two_sets();
     lowest();
     reading();
+    reading_json();
     writing();
     return 0;
 }

@@ -1,8 +1,8 @@
 /* Cidhomba: shape sets and the documents that they let in. The C interface of the verified library, for C99 and C++.
  *
  * A set is bytes in the stored form; a document is a table of rows of ten 16-bit cells; a run is steps of six 16-bit
- * cells; names come from two lists, and documents may also be read from term text. docs/FORMATS.md has each form, with
- * an example worked byte by byte. 16-bit cells are uint16_t in the machine's own order; where rows stand in a file,
+ * cells; names come from two lists, and documents may also be read from term text or from JSON. docs/FORMATS.md has each
+ * form, with an example worked byte by byte. 16-bit cells are uint16_t in the machine's own order; where rows stand in a file,
  * their cells are written low byte first.
  *
  * Slices. A slice passes as a pointer and a count of its elements, not of bytes. Where the count is 0 the pointer may
@@ -29,6 +29,7 @@
  *   out of union and product      the length of the result                 CIDHOMBA_MAX_SET_BYTES
  *   rows of cidhomba_witness      10 for each state of the set             CIDHOMBA_WITNESS_CELLS
  *   rows of cidhomba_read_term    10 for each row of the document          CIDHOMBA_TABLE_CELLS
+ *   rows of cidhomba_read_json    10 for each row of the document          CIDHOMBA_TABLE_CELLS
  *   text of cidhomba_write_term   the length of the text                   CIDHOMBA_TEXT_BYTES
  *
  * A document has an annotation for each row, each state that the row can have there, and each choice of rows to which
@@ -55,8 +56,8 @@ extern "C" {
 #define CIDHOMBA_VERSION_PATCH 0
 #define CIDHOMBA_VERSION "0.1.0"
 
-/* Whether an answer is a refusal; its number; and its place in the text for the numbers 63 to 67 (0 is the first
- * byte, else there is none and it reads 0; a place past 2^55 - 1 is told as that). */
+/* Whether an answer is a refusal; its number; and its place in the text for the numbers 63 to 67 and 71 to 73 (0 is the
+ * first byte, else there is none and it reads 0; a place past 2^55 - 1 is told as that). */
 #define CIDHOMBA_REFUSED(answer) (((uint64_t)(answer) >> 63) != 0)
 #define CIDHOMBA_NUMBER(answer) ((unsigned)((uint64_t)(answer) & 255))
 #define CIDHOMBA_PLACE(answer) (((uint64_t)(answer) & (UINT64_MAX >> 1)) >> 8)
@@ -85,7 +86,7 @@ extern "C" {
 
 /* Why a call is refused. Each function tries its inputs in the order in which it names them, and within one input
  * each number over the whole of it before the next; the two name lists count as one input, and in text the first
- * fault from the left counts. */
+ * fault from the left counts, in JSON the one with the leftmost place, the lower number at one place. */
 enum cidhomba_refusal {
     /* a set */
     CIDHOMBA_SET_TOO_SHORT = 1,    /* fewer than 16 bytes */
@@ -127,13 +128,23 @@ enum cidhomba_refusal {
     CIDHOMBA_NAMES_ALIKE = 62,     /* two symbols shown alike */
     /* text, with a place */
     CIDHOMBA_TEXT_FAULT = 63,      /* no legal continuation; place is that byte, or the end */
-    CIDHOMBA_TEXT_LEVEL = 64,      /* a letter that opens a term at level 257; place is that letter */
+    CIDHOMBA_TEXT_LEVEL = 64,      /* a letter that opens a term at level 257; place is that letter. In JSON a value, or the
+                                    * text of a whole key that is not listed, that would stand there; place is its first
+                                    * byte */
     CIDHOMBA_NAME_UNKNOWN = 65,    /* an unknown name; place is its first byte */
     CIDHOMBA_TERM_CHILDREN = 66,   /* a wrong number of children; place is the term's first byte */
-    CIDHOMBA_TEXT_ROWS = 67,       /* a row past the 1,024th or past the row space; place is the term's first byte */
+    CIDHOMBA_TEXT_ROWS = 67,       /* a row past the 1,024th or past the row space; place is the term's first byte, in JSON
+                                    * the byte that finishes the row */
     /* writing text, and the programs */
     CIDHOMBA_TEXT_SPACE = 68,      /* a text longer than the space */
-    CIDHOMBA_INPUT_LENGTH = 69     /* an input of a program with over 32,768 bytes */
+    CIDHOMBA_INPUT_LENGTH = 69,    /* an input of a program with over 32,768 bytes */
+    /* JSON, with a place; and its list of keys, without */
+    CIDHOMBA_JSON_FAULT = 71,      /* not RFC 8259, not UTF-8, or half a surrogate pair; place is the first byte with no
+                                    * legal continuation, or the end */
+    CIDHOMBA_KEY_REPEATED = 72,    /* a key that the object has already, after decoding; place is its opening quote */
+    CIDHOMBA_NUMBER_FORM = 73,     /* a number that is no whole one below 2^64 without a sign, and has an exponent or over
+                                    * 15 digits in all; place is its first byte */
+    CIDHOMBA_KEY_LIST = 74         /* over 56 lines, a line that is empty or has over 64 bytes, or two equal lines */
 };
 
 /* The condition that a refusal's number stands for, in words. */
@@ -202,7 +213,7 @@ static inline const char *cidhomba_refusal_text(unsigned number)
     case CIDHOMBA_TEXT_FAULT:
         return "the text has no legal continuation";
     case CIDHOMBA_TEXT_LEVEL:
-        return "a letter opens a term at level 257";
+        return "a term, or in JSON a value or the text of a key, stands at level 257";
     case CIDHOMBA_NAME_UNKNOWN:
         return "the text has an unknown name";
     case CIDHOMBA_TERM_CHILDREN:
@@ -213,6 +224,14 @@ static inline const char *cidhomba_refusal_text(unsigned number)
         return "the text is longer than the space";
     case CIDHOMBA_INPUT_LENGTH:
         return "the input has over 32,768 bytes";
+    case CIDHOMBA_JSON_FAULT:
+        return "the text is not JSON or not UTF-8, or has half a surrogate pair";
+    case CIDHOMBA_KEY_REPEATED:
+        return "a key is repeated in one object";
+    case CIDHOMBA_NUMBER_FORM:
+        return "a number is no count, and has an exponent or over 15 digits";
+    case CIDHOMBA_KEY_LIST:
+        return "the key list has over 56 lines, a line that is empty or has over 64 bytes, or two equal lines";
     default:
         return "an unknown number";
     }
@@ -281,6 +300,16 @@ uint64_t cidhomba_write_term(const uint8_t *set, size_t set_length,
                              const uint8_t *built_in, size_t built_in_length,
                              const uint16_t *rows, size_t rows_length,
                              uint8_t *text, size_t text_length);
+
+/* Reads JSON into rows. Value: the rows written to the front of rows. Refuses: 74, then in the text 64, 67, 71, 72, 73.
+ * The symbols are those of the list of keys: end 0, stop 1, other 2, item 3, null 4, flag 5, number 6, text 7, and 8 + i
+ * for line i, with 0, 0, 3, 2, 0, 0, 0, 0 and 2 children; a set that judges the rows must have them. A member with a
+ * listed key has its value and the rest of the object as children, one with another key its key's text before these; an
+ * element has its value and the rest of the array. Texts are numbered by first appearance, so that within one document
+ * equal numbers mean equal texts. A list of length 0 has no keys. Space for 1,024 rows serves every text. */
+uint64_t cidhomba_read_json(const uint8_t *keys, size_t keys_length,
+                            const uint8_t *text, size_t text_length,
+                            uint16_t *rows, size_t rows_length);
 
 #ifdef __cplusplus
 }

@@ -78,6 +78,14 @@ extern "C" {
         text: *mut u8,
         text_length: usize,
     ) -> u64;
+    fn cidhomba_read_json(
+        keys: *const u8,
+        keys_length: usize,
+        text: *const u8,
+        text_length: usize,
+        rows: *mut u16,
+        rows_length: usize,
+    ) -> u64;
 }
 
 /// 0 for a sound set.
@@ -186,6 +194,21 @@ pub fn write_term(set: &[u8], site: &[u8], built_in: &[u8], rows: &[u16], text: 
             rows.len(),
             text.as_mut_ptr(),
             text.len(),
+        )
+    }
+}
+
+/// Rows written.
+pub fn read_json(keys: &[u8], text: &[u8], rows: &mut [u16]) -> u64 {
+    // SAFETY: pointers and counts are those of slices that live through the call; `rows` is lent mutably.
+    unsafe {
+        cidhomba_read_json(
+            keys.as_ptr(),
+            keys.len(),
+            text.as_ptr(),
+            text.len(),
+            rows.as_mut_ptr(),
+            rows.len(),
         )
     }
 }

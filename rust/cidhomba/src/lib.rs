@@ -1,7 +1,7 @@
 //! Shape sets and the documents that they let in: a safe wrapper over the verified library's C interface.
 //!
 //! A set is bytes in the stored form, a document is a table of rows of ten 16-bit cells, a run is steps of six;
-//! `docs/FORMATS.md` in the repository lays them out, and term text and its name lists with them. Every function
+//! `docs/FORMATS.md` in the repository lays them out, and term text and JSON with their lists. Every function
 //! takes any input and either answers or refuses; a refusal writes to no result space. Spaces are lent: what comes
 //! back is the part at their front that was written, the rest is unchanged; only the judge's work space becomes zeros.
 //!
@@ -325,4 +325,25 @@ pub fn write_term<'a>(
 ) -> Result<&'a [u8], Refusal> {
     let length = Refusal::or_value(interface::write_term(set, names.site, names.built_in, rows, text))?;
     Ok(&text[..length])
+}
+
+/// Reads JSON (RFC 8259) into rows; space for [`MAX_ROWS`] rows serves every text. The symbols are those of a list of
+/// keys, a line for each: `end` 0, `stop` 1, `other` 2, `item` 3, `null` 4, `flag` 5, `number` 6, `text` 7, and 8 + i for
+/// line i; a set that judges the rows must have them. A refusal has a place, but for [`Reason::KeyList`].
+///
+/// ```
+/// use cidhomba::{read_json, Reason, Refusal, MAX_ROWS, ROW_CELLS};
+///
+/// let keys = b"name\nweight\n";
+/// let mut rows = [0; ROW_CELLS * MAX_ROWS];
+/// let read = read_json(keys, br#"{"name":"web01","weight":30}"#, &mut rows)?;
+/// assert_eq!(read.len(), 5 * ROW_CELLS); // a text, a number, the object's end, and a row for each key
+/// assert_eq!(read[4 * ROW_CELLS], 8); // the last row has the symbol of the first key
+/// let refusal = read_json(keys, br#"{"name":1,"name":2}"#, &mut rows).unwrap_err();
+/// assert_eq!(refusal, Refusal { reason: Reason::KeyRepeated, place: Some(10) });
+/// # Ok::<(), Refusal>(())
+/// ```
+pub fn read_json<'a>(keys: &[u8], text: &[u8], rows: &'a mut [u16]) -> Result<&'a [u16], Refusal> {
+    let count = Refusal::or_value(interface::read_json(keys, text, rows))?;
+    Ok(&rows[..ROW_CELLS * count])
 }

@@ -86,19 +86,33 @@ reasons! {
         empty nor a name";
     NamesAlike = 62 => "two symbols are shown alike";
     TextFault = 63 => "the text has no legal continuation";
-    TextLevel = 64 => "a letter opens a term at level 257";
+    TextLevel = 64 => "a term, or in JSON a value or the text of a key, stands at level 257";
     NameUnknown = 65 => "the text has an unknown name";
     TermChildren = 66 => "a term has a wrong number of children";
     TextRows = 67 => "there is a row past the 1,024th or past the row space";
     TextSpace = 68 => "the text is longer than the space";
     InputLength = 69 => "the input has over 32,768 bytes";
+    JsonFault = 71 => "the text is not JSON or not UTF-8, or has half a surrogate pair";
+    KeyRepeated = 72 => "a key is repeated in one object";
+    NumberForm = 73 => "a number is no count, and has an exponent or over 15 digits";
+    KeyList = 74 => "the key list has over 56 lines, a line that is empty or has over 64 bytes, or two equal lines";
 }
 
 impl Reason {
     /// Whether the reason is told with a place in the text.
     const fn has_place(self) -> bool {
         use Reason::*;
-        matches!(self, TextFault | TextLevel | NameUnknown | TermChildren | TextRows)
+        matches!(
+            self,
+            TextFault
+                | TextLevel
+                | NameUnknown
+                | TermChildren
+                | TextRows
+                | JsonFault
+                | KeyRepeated
+                | NumberForm
+        )
     }
 }
 
@@ -116,7 +130,7 @@ impl Reason {
 pub struct Refusal {
     /// The condition that refused.
     pub reason: Reason,
-    /// For the reasons 63 to 67, which are those of text: a place in it, 0 being its first byte.
+    /// For the reasons 63 to 67 and 71 to 73, which are those of text: a place in it, 0 being its first byte.
     pub place: Option<u64>,
 }
 
@@ -180,8 +194,9 @@ mod tests {
     fn places_stand_with_the_reasons_of_text_only() {
         assert_eq!(Refusal::or_value(12), Ok(12));
         for &reason in Reason::ALL {
-            let place = (63..=67).contains(&reason.number()).then_some(768);
-            assert_eq!(Refusal::or_value(word(reason.number(), 768)), Err(Refusal { reason, place }));
+            let number = reason.number();
+            let place = ((63..=67).contains(&number) || (71..=73).contains(&number)).then_some(768);
+            assert_eq!(Refusal::or_value(word(number, 768)), Err(Refusal { reason, place }));
         }
     }
 
@@ -192,7 +207,7 @@ mod tests {
             shown(7, 0),
             "refused 7: the rules of the set do not ascend strictly by symbol, child places and target"
         );
-        assert_eq!(shown(64, 768), "refused 64 at 768: a letter opens a term at level 257");
+        assert_eq!(shown(72, 10), "refused 72 at 10: a key is repeated in one object");
         assert_eq!(shown(63, 0), "refused 63 at 0: the text has no legal continuation");
     }
 

@@ -127,3 +127,41 @@ fn writing_text() {
     assert_eq!(write_term(&set_e(), Names::default(), &equal, &mut text), Ok(&b"s0(s1=7,s1=7)"[..]));
     assert_eq!(write_term(&set_e(), names, &equal, &mut text[..12]), Err(refused(Reason::TextSpace)));
 }
+
+#[test]
+fn reading_json() {
+    const U: u16 = 65_535;
+    let mut space = [9; 5 * ROW_CELLS];
+    let one = [6, U, U, U, U, 2, 1, 0, 0, 0];
+    let stop = [1, U, U, U, U, 0, 0, 0, 0, 0];
+    let item = [3, 0, 1, U, U, 0, 0, 0, 0, 0];
+    let end = [0, U, U, U, U, 0, 0, 0, 0, 0];
+    let member = [8, 2, 3, U, U, 0, 0, 0, 0, 0];
+    let expected = [one, stop, item, end, member].concat();
+    assert_eq!(read_json(b"k", br#" {"k": [1]}"#, &mut space), Ok(&expected[..]));
+    let refused_at = |reason, place| Err(Refusal { reason, place: Some(place) });
+    assert_eq!(read_json(b"k", br#"{"k":[1]}"#, &mut space[..49]), refused_at(Reason::TextRows, 8));
+    assert_eq!(read_json(b"k", br#"{"k":[1]"#, &mut space), refused_at(Reason::JsonFault, 8));
+    assert_eq!(read_json(b"k", br#"{"k":0,"k":0}"#, &mut space), refused_at(Reason::KeyRepeated, 7));
+    assert_eq!(read_json(b"k", b"[1e9]", &mut space), refused_at(Reason::NumberForm, 1));
+    assert_eq!(read_json(b"", "[".repeat(300).as_bytes(), &mut space), refused_at(Reason::TextLevel, 256));
+    assert_eq!(read_json(b"k\nk", b"", &mut space), Err(refused(Reason::KeyList)));
+}
+
+/// Whether the set of an export in `examples/json` lets in an export.
+fn let_in(set: &str, export: &str) -> bool {
+    let [set, keys] = ["set", "keys"].map(|kind| example(&format!("json/{set}.{kind}")));
+    let mut space = vec![0; ROW_CELLS * MAX_ROWS];
+    let (mut work, mut run) = (vec![0; ANNOTATION_CELLS * MAX_ROOM], vec![0; STEP_CELLS * MAX_ROOM]);
+    let rows =
+        read_json(&keys, &example(&format!("json/{export}.json")), &mut space).expect("the export is read");
+    matches!(membership(&set, rows, &mut work, &mut run), Ok(Judgement::Yes(_)))
+}
+
+#[test]
+fn the_bad_evening_in_json() {
+    assert!(let_in("evening", "evening"));
+    assert!(!let_in("evening", "evening-queue"));
+    assert!(!let_in("evening", "evening-swapped"));
+    assert!(let_in("uwsgi", "uwsgi"));
+}

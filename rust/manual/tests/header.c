@@ -26,6 +26,10 @@ static uint16_t run[] = {1, 0, U, U, U, U, 0, 1, 0, 0, U, U};
 static uint8_t names[] = {'p', 'a', 'i', 'r', '\n', 'a', '\n', 'b'};
 static uint8_t text[] = {'p', 'a', 'i', 'r', '(', 'a', '=', '7', ',', 'a', '=', '7', ')'};
 
+/* A list of one key, and JSON that has it. */
+static uint8_t keys[] = {'k'};
+static uint8_t json[] = {'{', '"', 'k', '"', ':', '1', '}'};
+
 /* Spaces that hold a result of E. */
 static uint8_t out[CIDHOMBA_MAX_SET_BYTES];
 static uint16_t row_space[CIDHOMBA_WITNESS_CELLS];
@@ -89,6 +93,11 @@ static uint64_t write_term(const struct slice *lent)
     return cidhomba_write_term(BYTES(lent[0]), BYTES(lent[1]), BYTES(lent[2]), CELLS(lent[3]), BYTES(lent[4]));
 }
 
+static uint64_t read_json(const struct slice *lent)
+{
+    return cidhomba_read_json(BYTES(lent[0]), BYTES(lent[1]), CELLS(lent[2]));
+}
+
 #define MOST_SLICES 5
 
 /* A function, and slices with which it answers a value. */
@@ -113,6 +122,7 @@ static const struct call calls[] = {
     {"witness", witness, 2, {LENT(set), LENT(row_space)}},
     {"read_term", read_term, 5, {LENT(set), LENT(names), NO_NAMES, LENT(text), LENT(row_space)}},
     {"write_term", write_term, 5, {LENT(set), LENT(names), NO_NAMES, LENT(rows), LENT(text_space)}},
+    {"read_json", read_json, 3, {LENT(keys), LENT(json), LENT(row_space)}},
 };
 
 /* Prints the answers to a call with the count 0 for the slices from first to last: with pointers, and with NULL. */
@@ -173,7 +183,7 @@ static void told_results(void)
     /* The number of the call above, elements of its result, and bytes of an element. */
     static const struct {
         size_t call, count, width;
-    } results[] = {{3, 12, 2}, {4, 99, 1}, {5, 63, 1}, {6, 20, 2}, {7, 20, 2}, {8, 13, 1}};
+    } results[] = {{3, 12, 2}, {4, 99, 1}, {5, 63, 1}, {6, 20, 2}, {7, 20, 2}, {8, 13, 1}, {9, 30, 2}};
     size_t i;
     for (i = 0; i < LENGTH(results); i++) {
         struct call call = calls[results[i].call];

@@ -78,7 +78,7 @@ fn the_sizes_are_those_of_the_wrapper() {
 
 /// For each function what its calls answer where one slice after the other has the count 0, and where all have: the
 /// number of a refusal, or 0 for a value.
-const WITHOUT: [(&str, &[u8]); 9] = [
+const WITHOUT: [(&str, &[u8]); 10] = [
     ("check_automaton", &[1, 1]),
     ("check_document", &[1, 11, 1]),
     ("check_run", &[1, 11, 21, 1]),
@@ -88,6 +88,7 @@ const WITHOUT: [(&str, &[u8]); 9] = [
     ("witness", &[1, 42, 1]),
     ("read_term", &[1, 65, 0, 63, 67, 1]),
     ("write_term", &[1, 0, 0, 11, 68, 1]),
+    ("read_json", &[0, 71, 67, 71]),
 ];
 
 /// The number of a refusal in a word, or 0.
@@ -130,6 +131,10 @@ fn results_fill_spaces_that_were_never_written() {
     hold("read_term: 2", &files::bytes("examples/pair-7-7.rows"));
     hold("membership: 2", &files::bytes("examples/pair-7-7.run"));
     hold("write_term: 13", b"pair(a=7,a=7)");
+    let mut space = [0; 3 * ROW_CELLS];
+    let rows = read_json(b"k", br#"{"k":1}"#, &mut space).expect("a document");
+    let rows: Vec<u8> = rows.iter().flat_map(|cell| cell.to_le_bytes()).collect();
+    hold("read_json: 3", &rows);
 }
 
 /// A text without what stands between `/*` and `*/`.
