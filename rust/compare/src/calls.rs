@@ -140,3 +140,24 @@ pub fn write_term_saved(set: &[u8], saved: Lists, before: Lists, rows: &[u16], s
     case.same_space("text", &text, &text.with_front(&written));
     reference
 }
+
+/// Compares the reading of JSON into a row space of so many cells.
+pub fn read_json(keys: &[u8], text: &[u8], row_cells: usize) -> Answer {
+    let inputs =
+        [("keys", Input::Text(keys)), ("text", Input::Text(text)), ("rows", Input::Space(row_cells))];
+    let mut rows = Lent::of_length(row_cells);
+    let library = Answer::of_library(interface::read_json(keys, text, rows.space()));
+    let result = reference::read_json(keys, text, row_cells);
+    let written = result.as_ref().map_or(Vec::new(), |document| document.cells());
+    let reference = Answer::of_reference(result.map(|document| document.rows.len()));
+    let expected = Expected::Exactly(reference);
+    let case = Case { function: "read_json", inputs: &inputs, library, expected };
+    case.same_answer();
+    case.same_space("rows", &rows, &rows.with_front(&written));
+    reference
+}
+
+/// Compares the reading of JSON with no keys into a space for 40 rows.
+pub fn read_json_plain(text: impl AsRef<[u8]>) -> Answer {
+    read_json(b"", text.as_ref(), ROW_CELLS * 40)
+}

@@ -57,3 +57,5 @@ pub const RUN: [u8; 6] = [21, 22, 23, 24, 25, 26];
 pub const NAMES: [u8; 2] = [61, 62];
 /// The refusals of text.
 pub const TEXT: [u8; 5] = [63, 64, 65, 66, 67];
+/// The refusals of JSON and its key list.
+pub const JSON: [u8; 6] = [64, 67, 71, 72, 73, 74];

@@ -136,6 +136,61 @@ fn a_list_with_a_million_spaces_behind_a_name_is_used() {
     assert_eq!(with_little_stack(|| write_term(&set, names, rows, &mut text)), Ok(&b"g(a)"[..]));
 }
 
+/// Arrays or objects down to the deepest level, and what stands there; with its place, and with the end cut off where
+/// that is at fault.
+fn nested_json(open: impl Fn(usize) -> String, close: &str, innermost: &str) -> (Vec<u8>, u64) {
+    let front: String = (1..LEVELS).map(open).collect();
+    let place = front.len() as u64;
+    ((front + innermost + &close.repeat(LEVELS - 1)).into_bytes(), place)
+}
+
+/// A list of 56 keys of 64 bytes each.
+fn listed_key(line: usize) -> String {
+    format!("{:0>64}", line % 56)
+}
+
+#[test]
+fn json_of_256_levels_is_read_and_its_faults_are_told() {
+    let keys: String = (0..56).map(|line| listed_key(line) + "\n").collect();
+    let array = |_: usize| "[".to_string();
+    let listed = |level: usize| format!("{{\"{}\":", listed_key(level));
+    let other = |level: usize| format!("{{\"key of level {level}, \\ud83d\\ude00\":");
+    let forms: [(&dyn Fn(usize) -> String, &str); 3] = [(&array, "]"), (&listed, "}"), (&other, "}")];
+    for (open, close) in forms {
+        for (innermost, refused) in [
+            ("[]", None),
+            ("-12345678901234.5", None),
+            ("\"\\ud83d\\ude00 and é\"", None),
+            ("[1", Some((Reason::TextLevel, 1))),
+            ("{\"k\":1", Some((Reason::TextLevel, 1))),
+            ("?", Some((Reason::JsonFault, 0))),
+            ("\"\\ud800\\ud800\"", Some((Reason::JsonFault, 10))),
+            ("12e5", Some((Reason::NumberForm, 0))),
+        ] {
+            let (text, place) = nested_json(open, close, innermost);
+            let mut space = vec![0; ROW_CELLS * MAX_ROWS];
+            let answer =
+                with_little_stack(|| read_json(keys.as_bytes(), &text, &mut space).map(<[u16]>::len));
+            let expected = refused.map(|(reason, behind)| Refusal { reason, place: Some(place + behind) });
+            assert_eq!(answer.err(), expected, "{innermost}");
+        }
+    }
+}
+
+#[test]
+fn long_json_is_answered() {
+    let million = 1_000_000;
+    let mut space = vec![0; ROW_CELLS * MAX_ROWS];
+    let elements = format!("[{}1]", "1,".repeat(million));
+    let answer = with_little_stack(|| read_json(b"", elements.as_bytes(), &mut space).map(<[u16]>::len));
+    assert_eq!(answer, Err(Refusal { reason: Reason::TextLevel, place: Some(511) }));
+    for text in ["a", "\\n", "é", "\\ud83d\\ude00"] {
+        let text = format!("[\"{0}\",{1}\"{0}\"]", text.repeat(million), " ".repeat(million));
+        let answer = with_little_stack(|| read_json(b"", text.as_bytes(), &mut space).map(<[u16]>::len));
+        assert_eq!(answer, Ok(4 * ROW_CELLS));
+    }
+}
+
 /// Judges on little stack with the whole room; the set lets in the document, and the run passes its check there.
 fn judged(set: &[u8], rows: &[u16]) -> usize {
     let (mut work, mut run) = (vec![0; ANNOTATION_CELLS * MAX_ROOM], vec![0; STEP_CELLS * MAX_ROOM]);
