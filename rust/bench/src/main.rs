@@ -14,6 +14,7 @@ const GROUPS: &[(&str, fn())] = &[
     ("witness", groups::witness::measure),
     ("read_term", groups::read_term::measure),
     ("write_term", groups::write_term::measure),
+    ("read_json", groups::read_json::measure),
 ];
 
 fn main() {

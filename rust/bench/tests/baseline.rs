@@ -1,7 +1,9 @@
 //! The Rust that the library is measured against answers as the reference does, refusals included.
 
 use bench::baseline;
-use generate::{documents, lists, pairs, rows, set_bytes, sets, texts, Random};
+use generate::{
+    documents, json_export, json_lists, json_texts, lists, pairs, rows, set_bytes, sets, texts, Random,
+};
 use reference::limits::{ANNOTATION_CELLS, MAX_ROWS, ROW_CELLS, STEP_CELLS};
 use reference::{check_names, Refusal};
 
@@ -117,5 +119,25 @@ fn term_text() {
         let expected = reference::write_term(&set, &site, &built_in, &table, space);
         let found = baseline::term::write(&set, &site, &built_in, &table, space);
         assert_eq!(found, expected.map_err(number_and_place), "seed {seed}");
+    }
+}
+
+#[test]
+fn json() {
+    let agree = |keys: &[u8], text: &[u8], space: usize| {
+        let expected = reference::read_json(keys, text, space);
+        let expected = expected.map(|document| document.cells()).map_err(number_and_place);
+        let found = baseline::json::read(keys, text, space);
+        assert_eq!(found, expected, "keys {}, text {}", keys.escape_ascii(), text.escape_ascii());
+    };
+    for seed in 0..5 * SEEDS {
+        let random = &mut Random::new(seed);
+        let keys = json_lists::key_list(random, 5);
+        let text = json_texts::text(random, &keys, 60);
+        agree(&keys, &text, ROW_CELLS * random.pick(&[3, 20, MAX_ROWS, MAX_ROWS, MAX_ROWS]));
+    }
+    let keys = json_export::key_list(&json_export::KEYS);
+    for (_, text) in json_export::measured() {
+        agree(&keys, text.as_bytes(), ROW_CELLS * MAX_ROWS);
     }
 }

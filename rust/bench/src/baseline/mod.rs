@@ -1,6 +1,7 @@
 //! Idiomatic Rust that does what the library does, written for speed and clarity and with the library's refusals.
 
 pub mod boolean;
+pub mod json;
 pub mod membership;
 pub mod set;
 pub mod table;
