@@ -2,15 +2,15 @@
 use mathlib.Core.Path.{_≡_}
 use mathlib.Core.Bool.{cond}
 use mathlib.Core.List.{List, [], List·Memᴰ as In}
-use Prim.Native.Nat.{ℕ, _*_, _<_, _≤_}
+use Prim.Native.Nat.{ℕ, _<_}
 use lib.Dec.{ltb}
-use lib.ListN.{length, take, set}
-use Rattle.model.specs.Limits.{maxChildren, maxRows, unused}
+use lib.ListN.{length, set}
+use Rattle.model.specs.Limits.{maxChildren, unused}
 use Rattle.model.specs.Automaton.{arityOf}
 use Rattle.automaton.specs.Stored.{decode}
-use Rattle.document.specs.Rows.{rowCells, rowsBelow, placesOf, encodeRows}
+use Rattle.document.specs.Rows.{rowsBelow, placesOf}
 use Rattle.document.specs.Fields.{asRow, asRows, numbersOf}
-use Rattle.document.specs.Builder.{Built}
+pub use Rattle.document.specs.Builder.{Ready}
 use Rattle.document.specs.declared.rows.Row as number
 use Rattle.document.specs.declared.scalar.Scalar.{Scalar}
 use Rattle.document.specs.declared.fields.RowFields.{RowFields}
@@ -25,13 +25,6 @@ use Rattle.term.specs.declared.reader.TermPart.the-variants.{Read, Refus
 -- a stored set, a table of names for so many symbols, and the most rows
 abbrev pub settingOf : List ℕ → List ℕ → ℕ → ℕ → Setting
 settingOf set names symbols limit = record { symbol = findIn symbols (nameIn names); arity = arityOf (decode set); limit = limit }
-
--- so many rows in the cells, which the slots index, and room for as many as the limit
-pub record Ready (cells slots : List ℕ) (rows limit : ℕ) : Type 0 where
-  pub built : Built cells slots rows
-  pub encoded : take (rows * rowCells) cells ≡ encodeRows (rowsBelow cells rows)
-  pub few : limit ≤ maxRows
-  pub room : limit * rowCells ≤ length cells
 
 -- a row by value without children
 abbrev pub childless : ℕ → Scalar → RowFields
