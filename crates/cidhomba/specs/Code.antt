@@ -7,6 +7,7 @@ use Rattle.model.specs.Refusal.{Answer, gives, refuses}
 use Rattle.membership.specs.declared.Judged.{Judged}
 use Rattle.membership.specs.Judge.{Judging}
 use Rattle.term.specs.Read.{Reading, rowsRead, refusedAt}
+use Rattle.json.specs.Read.{Reading as JsonReading, rowsRead as jsonRows, refusedAt as jsonRefused}
 
 -- a refusal: the highest bit, the place cut at 2^55 - 1, and the number in the lowest byte
 abbrev pub refusalCode : ℕ → ℕ → ℕ
@@ -37,6 +38,11 @@ witnessCode = codeOf shapeCode
 abbrev pub readCode : Reading ℕ → ℕ
 readCode (rowsRead n) = n
 readCode (refusedAt n p) = refusalCode n p
+
+-- the same of a JSON text
+abbrev pub jsonCode : JsonReading ℕ → ℕ
+jsonCode (jsonRows n) = n
+jsonCode (jsonRefused n p) = refusalCode n p
 
 -- a judging: 0 for no, the number of steps for a yes, which is never 0; its refusals have no place
 abbrev pub judgedCode : Judged → ℕ

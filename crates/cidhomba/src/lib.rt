@@ -7,6 +7,7 @@ use code::judged_code;
 use code::refusal_code;
 use code::witness_code;
 use code::write_code;
+use json::JsonRead;
 use term::TermRead;
 ghost use mathlib.Core.Path.{_≡_};
 ghost use lib.ListN.{length};
@@ -20,9 +21,11 @@ ghost use Rattle.emptiness.specs.Answer.{emptinessOf};
 ghost use Rattle.emptiness.specs.Answer.{spaceAfter as witnessSpace};
 ghost use Rattle.term.specs.Read.{readingMap, readOf};
 ghost use Rattle.term.specs.Read.{spaceAfter as readSpace};
+ghost use Rattle.json.specs.Read.{readingMap as jsonMap, readOf as jsonOf};
+ghost use Rattle.json.specs.Answer.{spaceAfter as jsonSpace};
 ghost use Rattle.spelling.specs.Write.{writeOf};
 ghost use Rattle.spelling.specs.Write.{spaceAfter as writeSpace};
-ghost use Rattle.cidhomba.specs.Code.{checkCode, JudgingCode, countCode, witnessCode, readCode};
+ghost use Rattle.cidhomba.specs.Code.{checkCode, JudgingCode, countCode, witnessCode, readCode, jsonCode};
 
 // 0, or the refusal of the set.
 #[no_mangle]
@@ -103,6 +106,18 @@ pub extern "C" fn cidhomba_read_term<'a>(
     match term::read(set, site, built_in, text, rows) {
         TermRead::Rows(n) => n as u64,
         TermRead::Refused(n, p) => refusal_code(n, p),
+    }
+}
+
+// The number of rows written, or the refusal of the key list or of the text.
+#[no_mangle]
+pub extern "C" fn cidhomba_read_json(keys: &[u8], text: &[u8], rows: &mut [u16]) -> u64
+    ensures answer { λ r. ⌜ r ≡ jsonCode (jsonMap length (jsonOf (now (keys .entry)) (now (text .entry)) (length (now (rows .entry))))) ⌝ }
+    ensures space { λ _. ⌜ now (rows .exit) ≡ jsonSpace (jsonOf (now (keys .entry)) (now (text .entry)) (length (now (rows .entry)))) (now (rows .entry)) ⌝ }
+{
+    match json::read(keys, text, rows) {
+        JsonRead::Rows(n) => n as u64,
+        JsonRead::Refused(n, p) => refusal_code(n, p),
     }
 }
 

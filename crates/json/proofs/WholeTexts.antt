@@ -23,15 +23,15 @@ use Rattle.names.specs.Lines.{lines}
 use Rattle.jsontext.specs.Decoded.{textSlot}
 use Rattle.jsontext.specs.Spaces.{spaceEnd}
 use Rattle.json.specs.Keys.{keysFit?}
-use Rattle.json.specs.Grammar.{Outcome, built, good, value}
-use Rattle.json.specs.State.{textAt, builtIn, Holds, Says}
+use Rattle.json.specs.Grammar.{Outcome, built, value}
+use Rattle.json.specs.State.{textAt, Holds, Says}
 use Rattle.json.specs.Read.{Reading, rowsRead, refusedAt, readingMap, wholeText, readText, settingFor, readOf}
 use Rattle.json.specs.Answer.{readAnswer, spaceAfter, Answers}
 use Rattle.json.specs.declared.JsonRead.{JsonRead}
 use Rattle.json.specs.declared.JsonRead.the-variants.{Rows, Refused}
 use Rattle.json.specs.declared.rows.Part.{Part}
 use Rattle.json.specs.declared.rows.Part.the-variants.{Read, Refused as No}
-use Rattle.json.proofs.Holding.{Said, said, said-no}
+use Rattle.json.proofs.Holding.{said, said-no}
 use Rattle.json.proofs.ReadValues.{value-read}
 
 -- the limit of a space

@@ -10,7 +10,7 @@ use Rattle.document.specs.Rows.{rowCells}
 use Rattle.names.specs.Lines.{lines}
 use Rattle.jsontext.specs.Spaces.{spaceEnd}
 use Rattle.json.specs.Keys.{keysFit?}
-use Rattle.json.specs.Grammar.{Setting, Outcome, good, refused, Built, built, value}
+use Rattle.json.specs.Grammar.{Setting, Outcome, good, refused, built, value}
 
 -- what reading a text gives: the rows, or of them what is asked; or a refusal's number and place
 pub data Reading (A : Type 0) : Type 0 where
