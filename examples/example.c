@@ -1,9 +1,10 @@
 /* Set E (docs/FORMATS.md) through the C interface: it lets in a pair of two equal leaves. And JSON, which has symbols of
- * its own. */
+ * its own, from a text to a verdict. */
 #include "cidhomba.h"
 
 #include <inttypes.h>
 #include <stdio.h>
+#include <string.h>
 
 #define LENGTH(array) (sizeof(array) / sizeof((array)[0]))
 #define U CIDHOMBA_UNUSED
@@ -58,18 +59,19 @@ static void checks(void)
          cidhomba_check_run(set_e, LENGTH(set_e), unequal, LENGTH(unequal), run, LENGTH(run)));
 }
 
-/* Whether E lets a table in: room for eight annotations is plenty. The work space must hold values. */
-static uint64_t judged(const uint16_t *rows, size_t rows_length)
+/* Whether a set lets a table in: room for eight annotations is plenty here. The work space must hold values. */
+static uint64_t judged(const uint8_t *set, size_t set_length, const uint16_t *rows, size_t rows_length)
 {
     uint16_t work[8 * CIDHOMBA_ANNOTATION_CELLS] = {0};
     uint16_t run[8 * CIDHOMBA_STEP_CELLS];
-    return cidhomba_membership(set_e, LENGTH(set_e), rows, rows_length, work, LENGTH(work), run, LENGTH(run));
+    return cidhomba_membership(set, set_length, rows, rows_length, work, LENGTH(work), run, LENGTH(run));
 }
 
 static void judging(void)
 {
-    told("steps for pair(a=7,a=7)", judged(equal, LENGTH(equal)));
-    told("steps for pair(a=7,a=8), which is turned away", judged(unequal, LENGTH(unequal)));
+    told("steps for pair(a=7,a=7)", judged(set_e, LENGTH(set_e), equal, LENGTH(equal)));
+    told("steps for pair(a=7,a=8), which is turned away",
+         judged(set_e, LENGTH(set_e), unequal, LENGTH(unequal)));
 }
 
 static void two_sets(void)
@@ -107,17 +109,43 @@ static void reading(void)
          cidhomba_read_term(set_e, LENGTH(set_e), NAMES, unknown, LENGTH(unknown) - 1, rows, LENGTH(rows)));
 }
 
-/* A list of keys, a line for each, and two texts, without the byte 0 at the end. */
-static void reading_json(void)
+/* A list of keys, a line for each; its symbols are end, stop, other, item, null, flag, number, text, name and weight. The
+ * set demands an object with a name, which is a text, then a weight, which is a number, and nothing else: states 0 a
+ * number, 1 a text, 2 the end, 3 a weight and the end, 4 a name and that, final; end to 2, number to 0, text to 1,
+ * name(1,3) to 4, weight(0,2) to 3. */
+static const uint8_t keys[] = "name\nweight\n";
+static const uint8_t set_server[] = {
+    10, 0, 5, 0, 0, 0, 5, 0, 16, 0, 26, 0, 36, 0, 96, 0,
+    0, 0, 3, 2, 0, 0, 0, 0, 2, 2,
+    0, 0, 0, 0, 0, 0, 0, 0, 1, 0,
+    0, 0, 2, 0, 255, 255, 255, 255, 255, 255, 255, 255,
+    6, 0, 0, 0, 255, 255, 255, 255, 255, 255, 255, 255,
+    7, 0, 1, 0, 255, 255, 255, 255, 255, 255, 255, 255,
+    8, 0, 4, 0, 1, 0, 3, 0, 255, 255, 255, 255,
+    9, 0, 3, 0, 0, 0, 2, 0, 255, 255, 255, 255,
+};
+
+/* Reads a text in JSON, without the byte 0 behind it, and judges its rows. */
+static void judged_json(const char *what, const char *text)
 {
-    static const uint8_t keys[] = "name\nweight\n";
-    static const uint8_t sound[] = "{\"name\":\"web01\",\"weight\":30}";
-    static const uint8_t repeated[] = "{\"name\":1,\"name\":2}";
     uint16_t rows[CIDHOMBA_TABLE_CELLS];
-    told("rows of a server in JSON",
-         cidhomba_read_json(keys, LENGTH(keys) - 1, sound, LENGTH(sound) - 1, rows, LENGTH(rows)));
-    told("rows of one with two names",
-         cidhomba_read_json(keys, LENGTH(keys) - 1, repeated, LENGTH(repeated) - 1, rows, LENGTH(rows)));
+    uint64_t answer =
+        cidhomba_read_json(keys, LENGTH(keys) - 1, (const uint8_t *)text, strlen(text), rows, LENGTH(rows));
+    if (!CIDHOMBA_REFUSED(answer)) {
+        answer = judged(set_server, LENGTH(set_server), rows, CIDHOMBA_ROW_CELLS * answer);
+    }
+    if (CIDHOMBA_REFUSED(answer)) {
+        told(what, answer);
+    } else {
+        printf("%s: %s\n", what, answer == 0 ? "turned away" : "let in");
+    }
+}
+
+static void judging_json(void)
+{
+    judged_json("a server in JSON", "{\"name\":\"web01\",\"weight\":30}");
+    judged_json("one with a queue before the weight", "{\"name\":\"web01\",\"queue\":9,\"weight\":30}");
+    judged_json("one with two names", "{\"name\":1,\"name\":2}");
 }
 
 static void writing(void)
@@ -138,7 +166,7 @@ int main(void)
     two_sets();
     lowest();
     reading();
-    reading_json();
+    judging_json();
     writing();
     return 0;
 }

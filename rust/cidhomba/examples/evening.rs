@@ -1,4 +1,5 @@
-//! The bad evening in three lines: the agreed export is let in, the one with a field more is not, and a set is dead.
+//! The bad evening: the agreed export is let in, the one with a field more is not, as term text and as JSON; and a set
+//! is dead.
 
 use std::fs;
 use std::path::Path;
@@ -10,17 +11,27 @@ fn example(name: &str) -> Vec<u8> {
     fs::read(&path).unwrap_or_else(|error| panic!("{}: {error}", path.display()))
 }
 
-/// Whether the agreed set lets in the export of a text, with the spaces of the judging program.
-fn judged(text: &str) -> Result<&'static str, Refusal> {
-    const ROOM: usize = 512;
-    let set = example("agreed.set");
-    let mut rows = vec![0; ROW_CELLS * MAX_ROWS];
-    let rows = read_term(&set, Names::default(), &example(text), &mut rows)?;
-    let (mut work, mut run) = (vec![0; ANNOTATION_CELLS * ROOM], vec![0; STEP_CELLS * ROOM]);
-    Ok(match membership(&set, rows, &mut work, &mut run)? {
+/// Whether a set lets in the document of some rows, with all the room that there can be.
+fn judged(set: &[u8], rows: &[u16]) -> Result<&'static str, Refusal> {
+    let (mut work, mut run) = (vec![0; ANNOTATION_CELLS * MAX_ROOM], vec![0; STEP_CELLS * MAX_ROOM]);
+    Ok(match membership(set, rows, &mut work, &mut run)? {
         Judgement::Yes(_) => "let in",
         Judgement::No => "turned away",
     })
+}
+
+/// Whether the agreed set lets in the export of a term text.
+fn judged_term(text: &str) -> Result<&'static str, Refusal> {
+    let set = example("agreed.set");
+    let mut rows = vec![0; ROW_CELLS * MAX_ROWS];
+    judged(&set, read_term(&set, Names::default(), &example(text), &mut rows)?)
+}
+
+/// Whether the agreed set for JSON lets in an export in JSON. Its symbols are those of the key list.
+fn judged_json(text: &str) -> Result<&'static str, Refusal> {
+    let (set, keys) = (example("json/evening.set"), example("json/evening.keys"));
+    let mut rows = vec![0; ROW_CELLS * MAX_ROWS];
+    judged(&set, read_json(&keys, &example(text), &mut rows)?)
 }
 
 /// Whether a set lets in anything.
@@ -33,10 +44,15 @@ fn lives(set: &str) -> Result<&'static str, Refusal> {
 }
 
 fn main() -> Result<(), Refusal> {
-    println!("an export in the agreed shape: {}", judged("export.term")?);
+    println!("an export in the agreed shape: {}", judged_term("export.term")?);
     println!(
         "the same with a queue length in each line, before the weight: {}",
-        judged("export-queue.term")?
+        judged_term("export-queue.term")?
+    );
+    println!("an export in JSON, in the agreed shape: {}", judged_json("json/evening.json")?);
+    println!(
+        "the same with a queue length in each server, before the weight: {}",
+        judged_json("json/evening-queue.json")?
     );
     println!("a set that nothing satisfies: {}", lives("dead.set")?);
     Ok(())

@@ -30,8 +30,9 @@ const PRINTED: &str = "\
      its rows: 2\n\
      rows of pair(a=7,b#3): 3\n\
      rows of pair(a=7,c): refused 65 at 9, the text has an unknown name\n\
-     rows of a server in JSON: 5\n\
-     rows of one with two names: refused 72 at 10, a key is repeated in one object\n\
+     a server in JSON: let in\n\
+     one with a queue before the weight: turned away\n\
+     one with two names: refused 72 at 10, a key is repeated in one object\n\
      bytes of a text: 13\n\
      pair(a=7,a=7)\n";
 

@@ -1,6 +1,6 @@
 //! What the documents work out by hand: bytes and cells are those of the files, and refusals those of the library.
 
-use cidhomba::Reason;
+use cidhomba::{read_json, Reason, ROW_CELLS};
 use manual::page::{cells, Page};
 use manual::{files, EXAMPLES, FORMATS, README, RUST};
 
@@ -135,7 +135,8 @@ fn in_brackets(line: &str) -> Vec<u8> {
     inside.filter_map(number).collect()
 }
 
-/// The forms are told with the refusal for each thing that is not so: those of sets, tables, runs, names and text.
+/// The forms are told with the refusal for each thing that is not so: those of sets, tables, runs, names, text, keys and
+/// JSON.
 #[test]
 fn the_refusals_of_the_forms_are_those_of_the_library() {
     let page = Page::read(FORMATS);
@@ -143,10 +144,37 @@ fn the_refusals_of_the_forms_are_those_of_the_library() {
     for &number in &found {
         assert!(Reason::from_number(number).is_some(), "{FORMATS}: ({number}) is no refusal");
     }
-    let of_a_form = |number: &u8| matches!(number, 1..=26 | 61..=67);
+    let of_a_form = |number: &u8| matches!(number, 1..=26 | 61..=67 | 71..=74);
     for number in Reason::ALL.iter().map(|reason| reason.number()).filter(of_a_form) {
         assert!(found.contains(&number), "{FORMATS} does not have ({number})");
     }
+}
+
+/// The lines of the table with this head.
+fn table<'a>(section: &[&'a str], head: &str) -> Vec<Vec<&'a str>> {
+    let below = section.iter().skip_while(|line| **line != head).skip(2);
+    below.map_while(|line| cells(line)).collect()
+}
+
+/// What the library answers to JSON without keys, in space for so many rows.
+fn json_answer(text: &str, rows: usize) -> String {
+    match read_json(b"", text.as_bytes(), &mut vec![0; ROW_CELLS * rows]) {
+        Ok(read) => format!("{} rows", read.len() / ROW_CELLS),
+        Err(refusal) => format!("{} at {}", refusal.number(), refusal.place.expect("a place")),
+    }
+}
+
+#[test]
+fn json_is_answered_as_the_forms_have_it() {
+    let page = Page::read(FORMATS);
+    let lines = table(&page.section("## JSON text"), "| Text | Rows lent | Answer |");
+    assert!(lines.len() > 9, "{FORMATS} has {} texts in JSON", lines.len());
+    for line in lines {
+        let [text, rows, answer] = line[..] else { panic!("not a line of texts: {line:?}") };
+        let rows = rows.parse().expect("a number of rows");
+        assert_eq!(json_answer(text.trim_matches('`'), rows), answer, "{text} in {rows} rows");
+    }
+    assert_eq!(json_answer(&("[".repeat(256) + "tru"), 1024), "64 at 256");
 }
 
 #[test]
