@@ -11,19 +11,25 @@ use reference::membership::judge;
 use reference::run::run_cells;
 use reference::{Automaton, Rule};
 
-/// Bytes of stack that serve every call, the scratch of the functions included.
+/// Bytes of stack that serve every call but one, the scratch of the functions included.
 const STACK: usize = 128 * 1024;
+/// Bytes of stack that serve reading JSON.
+const JSON_STACK: usize = 448 * 1024;
 /// Most levels of a document.
 const LEVELS: usize = 256;
 /// Rows of a text of so many levels with three leaves beside each nested term, no two alike.
 const NESTED_ROWS: usize = 4 * (LEVELS - 1) + 1;
 
-/// Calls on a thread with little stack; an overflow ends the whole process.
-fn with_little_stack<T: Send>(call: impl FnOnce() -> T + Send) -> T {
+/// Calls on a thread with so much stack; an overflow ends the whole process.
+fn with_stack<T: Send>(bytes: usize, call: impl FnOnce() -> T + Send) -> T {
     thread::scope(|scope| {
-        let thread = thread::Builder::new().stack_size(STACK).spawn_scoped(scope, call);
+        let thread = thread::Builder::new().stack_size(bytes).spawn_scoped(scope, call);
         thread.expect("a thread starts").join().expect("the call comes back")
     })
+}
+
+fn with_little_stack<T: Send>(call: impl FnOnce() -> T + Send) -> T {
+    with_stack(STACK, call)
 }
 
 /// The last symbol, a leaf.
@@ -170,7 +176,7 @@ fn json_of_256_levels_is_read_and_its_faults_are_told() {
             let (text, place) = nested_json(open, close, innermost);
             let mut space = vec![0; ROW_CELLS * MAX_ROWS];
             let answer =
-                with_little_stack(|| read_json(keys.as_bytes(), &text, &mut space).map(<[u16]>::len));
+                with_stack(JSON_STACK, || read_json(keys.as_bytes(), &text, &mut space).map(<[u16]>::len));
             let expected = refused.map(|(reason, behind)| Refusal { reason, place: Some(place + behind) });
             assert_eq!(answer.err(), expected, "{innermost}");
         }
@@ -182,11 +188,11 @@ fn long_json_is_answered() {
     let million = 1_000_000;
     let mut space = vec![0; ROW_CELLS * MAX_ROWS];
     let elements = format!("[{}1]", "1,".repeat(million));
-    let answer = with_little_stack(|| read_json(b"", elements.as_bytes(), &mut space).map(<[u16]>::len));
+    let answer = with_stack(JSON_STACK, || read_json(b"", elements.as_bytes(), &mut space).map(<[u16]>::len));
     assert_eq!(answer, Err(Refusal { reason: Reason::TextLevel, place: Some(511) }));
     for text in ["a", "\\n", "é", "\\ud83d\\ude00"] {
         let text = format!("[\"{0}\",{1}\"{0}\"]", text.repeat(million), " ".repeat(million));
-        let answer = with_little_stack(|| read_json(b"", text.as_bytes(), &mut space).map(<[u16]>::len));
+        let answer = with_stack(JSON_STACK, || read_json(b"", text.as_bytes(), &mut space).map(<[u16]>::len));
         assert_eq!(answer, Ok(4 * ROW_CELLS));
     }
 }
