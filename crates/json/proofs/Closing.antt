@@ -29,11 +29,3 @@ module _ {t cells slots starts found old : List ℕ} {before limit : ℕ} (mark 
 
   pub close-right : {r : Part} {row : Row} → byteAt t at ≡ mark → row ≡ leafRow leaf Bare → Says t cells slots starts found old before limit r (finish limit row (at + 1) b) → Says t cells slots starts found old before limit r (closeAt limit t mark leaf at b)
   close-right q e h = says-by (that-mark limit t mark leaf at b q) (says-row (at + 1) b e h)
-
--- what was to be the rest of a member or an element
-module _ {t cells slots starts found old : List ℕ} {before limit : ℕ} (symbol : ℕ) (js : List ℕ) {o : Outcome} where
-  pub join-refused : {w p : ℕ} → o ≡ refused w p → Says t cells slots starts found old before limit (Refused w p) (joined limit symbol js o)
-  join-refused e = says-by (ap (joined limit symbol js) e) (says-refused refl)
-
-  pub join-rest : {r : Part} {k next : ℕ} {b : Built} → o ≡ good k next b → Says t cells slots starts found old before limit r (finish limit (nodeRow symbol (js ++ k ∷ [])) next b) → Says t cells slots starts found old before limit r (joined limit symbol js o)
-  join-rest e h = says-by (ap (joined limit symbol js) e) h

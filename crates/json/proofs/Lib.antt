@@ -31,5 +31,8 @@ pub mod OtherKeys
 pub mod ListedKeys
 pub mod Walking
 pub mod ItemWays
+pub mod Framing
 pub mod PlainWays
 pub mod CycleWays
+pub mod Heading
+pub mod ItemLoop

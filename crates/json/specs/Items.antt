@@ -35,6 +35,16 @@ abbrev pub restOf : Bool → ℕ → Setting → List ℕ → List (List ℕ) �
 restOf true l S t seen = membersBelow l S t seen
 restOf false l S t seen = elementsBelow l S t
 
+-- the items of an object behind the keys `seen`, or of an array
+abbrev pub listAt : Bool → ℕ → Setting → List ℕ → List (List ℕ) → Reader
+listAt true l S t seen = members l S t seen
+listAt false l S t seen = elements l S t
+
+-- one value alone, or items
+abbrev pub itemsAt : Bool → Bool → ℕ → Setting → List ℕ → List (List ℕ) → Reader
+itemsAt true object l S t seen = value l S t
+itemsAt false object l S t seen = listAt object l S t seen
+
 -- a member behind its key, or an element: its value, its rest, its row
 abbrev pub itemAt : Bool → ℕ → Setting → List ℕ → List (List ℕ) → ℕ → ℕ → Reader
 itemAt object l S t seen symbol key at b = afterValue (S .limit) t (markOf object) (leafOf object) (restOf object l S t seen) symbol (keyRows symbol key) (value l S t at b)

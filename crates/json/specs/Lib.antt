@@ -10,4 +10,6 @@ pub mod State
 pub mod Texts
 pub mod Seen
 pub mod Items
+pub mod Frames
+pub mod Heads
 pub mod Meaning

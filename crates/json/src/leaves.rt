@@ -1,5 +1,8 @@
 // Values without parts: words, numbers and strings.
+use crate::rows::CELLS;
+use crate::rows::NEAR;
 use crate::rows::Part;
+use crate::rows::TEXTS;
 use crate::rows::finish;
 use crate::rows::leaf;
 use crate::texts::look_up;
@@ -28,10 +31,11 @@ const NUMBER: u16 = 6;
 // A word that says a scalar.
 pub(crate) fn word(
     text: &[u8],
-    starts: &[usize],
+    starts: &[usize; TEXTS],
     found: &[u16; SLOTS],
-    rows: &mut [u16],
+    rows: &mut [u16; CELLS],
     slots: &mut [u16; SLOTS],
+    near: &mut [u16; NEAR],
     used: u16,
     texts: u16,
     limit: u16,
@@ -57,6 +61,7 @@ pub(crate) fn word(
         found,
         rows,
         slots,
+        near,
         used,
         texts,
         limit,
@@ -69,10 +74,11 @@ pub(crate) fn word(
 pub(crate) fn number_leaf(
     text: &[u8],
     classes: &[u8; 256],
-    starts: &[usize],
+    starts: &[usize; TEXTS],
     found: &[u16; SLOTS],
-    rows: &mut [u16],
+    rows: &mut [u16; CELLS],
     slots: &mut [u16; SLOTS],
+    near: &mut [u16; NEAR],
     used: u16,
     texts: u16,
     limit: u16,
@@ -93,6 +99,7 @@ pub(crate) fn number_leaf(
                 found,
                 rows,
                 slots,
+                near,
                 used,
                 texts,
                 limit,
@@ -107,9 +114,10 @@ pub(crate) fn number_leaf(
 pub(crate) fn string_leaf(
     text: &[u8],
     classes: &[u8; 256],
-    rows: &mut [u16],
+    rows: &mut [u16; CELLS],
     slots: &mut [u16; SLOTS],
-    starts: &mut [usize],
+    near: &mut [u16; NEAR],
+    starts: &mut [usize; TEXTS],
     found: &mut [u16; SLOTS],
     used: u16,
     texts: u16,
@@ -128,6 +136,7 @@ pub(crate) fn string_leaf(
                 text,
                 rows,
                 slots,
+                near,
                 starts,
                 found,
                 used,

@@ -2,6 +2,7 @@
 mod rows; // rows.rt: rows of what was read
 mod keys; // keys.rt: the key list, and the lookup of a key
 mod texts; // texts.rt: texts by number
+mod frames; // frames.rt: members and elements whose rest is still to come
 mod leaves; // leaves.rt: words, numbers and strings
 mod members; // members.rt: the keys of an object
 mod reader; // reader.rt: values, members and elements
@@ -15,10 +16,14 @@ use classes::class_table;
 use document::index::SLOTS;
 use document::rows::ROW_CELLS;
 use document::rows::count;
+use frames::FRAME;
 use jsontext::spaces::space_end;
 use keys::KEY_PLACES;
 use keys::fill_keys;
-use reader::value;
+use reader::SYMBOLS;
+use reader::items;
+use rows::CELLS;
+use rows::NEAR;
 use rows::Part;
 use rows::TEXTS;
 ghost use mathlib.Core.Path.{_≡_};
@@ -30,9 +35,6 @@ ghost use Rattle.document.specs.Rows.{rowCells};
 ghost use Rattle.json.specs.KeyTable.{KeyTable};
 ghost use Rattle.json.specs.Read.{readText, settingFor, readOf, readingMap};
 ghost use Rattle.json.specs.Answer.{readAnswer, spaceAfter, Answers};
-
-// The cells of as many rows as a table has.
-const CELLS: usize = MAX_ROWS as usize * ROW_CELLS;
 
 // The most levels of a value.
 const LEVELS: usize = MAX_LEVELS as usize;
@@ -67,10 +69,13 @@ fn read_text(
     let mut slots = [0u16; SLOTS];
     let mut starts = [0usize; TEXTS];
     let mut found = [0u16; SLOTS];
+    let mut near = [0u16; NEAR];
     let mut pending = [0u16; LEVELS];
+    let mut frames = [0u16; LEVELS * FRAME];
+    let mut after = [0u16; SYMBOLS];
     let limit = row_limit(&*rows);
     let first = space_end(text, classes, 0);
-    match value(
+    match items(
         text,
         classes,
         list,
@@ -79,13 +84,18 @@ fn read_text(
         limit,
         &mut cells,
         &mut slots,
+        &mut near,
         &mut starts,
         &mut found,
         &mut pending,
+        &mut frames,
+        &mut after,
         0,
         0,
         LEVELS,
         first,
+        false,
+        true,
     ) {
         Part::Refused(w, p) => JsonRead::Refused(w, p),
         Part::Read(_, next, used, _) => {

@@ -2,8 +2,11 @@
 use crate::keys::KEY_PLACES;
 use crate::keys::KeyFound;
 use crate::keys::find_key;
+use crate::rows::CELLS;
+use crate::rows::NEAR;
 use crate::rows::OTHER;
 use crate::rows::Part;
+use crate::rows::TEXTS;
 use crate::texts::TextProbed;
 use crate::texts::look_up;
 use crate::texts::text_leaf;
@@ -95,9 +98,10 @@ fn number_of(probed: TextProbed, texts: u16) -> u16
 fn other_key(
     text: &[u8],
     classes: &[u8; 256],
-    rows: &mut [u16],
+    rows: &mut [u16; CELLS],
     slots: &mut [u16; SLOTS],
-    starts: &mut [usize],
+    near: &mut [u16; NEAR],
+    starts: &mut [usize; TEXTS],
     found: &mut [u16; SLOTS],
     pending: &mut [u16],
     used: u16,
@@ -128,6 +132,7 @@ fn other_key(
         text,
         rows,
         slots,
+        near,
         starts,
         found,
         used,
@@ -152,9 +157,10 @@ pub(crate) fn key_at(
     list: &[u8],
     places: &[usize; KEY_PLACES],
     key_slots: &[u16; SLOTS],
-    rows: &mut [u16],
+    rows: &mut [u16; CELLS],
     slots: &mut [u16; SLOTS],
-    starts: &mut [usize],
+    near: &mut [u16; NEAR],
+    starts: &mut [usize; TEXTS],
     found: &mut [u16; SLOTS],
     pending: &mut [u16],
     used: u16,
@@ -163,6 +169,7 @@ pub(crate) fn key_at(
     level: usize,
     top: usize,
     at: usize,
+    guess: u16,
 ) -> KeyPart
     requires holds { ⌜ Holds (now text) (now rows) (now slots) (now starts) (now found) used texts limit ⌝ }
     requires lent { ⌜ now classes ≡ classTable ⌝ }
@@ -188,6 +195,7 @@ pub(crate) fn key_at(
                 classes,
                 rows,
                 slots,
+                near,
                 starts,
                 found,
                 pending,

@@ -1,14 +1,18 @@
 // Values, members and elements of a JSON text, each over the level that falls.
+use crate::frames::close_items;
+use crate::frames::put_frame;
 use crate::keys::KEY_PLACES;
 use crate::leaves::number_leaf;
 use crate::leaves::string_leaf;
 use crate::leaves::word;
 use crate::members::KeyPart;
 use crate::members::key_at;
+use crate::rows::CELLS;
+use crate::rows::NEAR;
 use crate::rows::Part;
+use crate::rows::TEXTS;
 use crate::rows::close;
-use crate::rows::join;
-use crate::rows::last;
+use base::numbers::size;
 use base::text::byte_at;
 use classes::is_digit;
 use document::Scalar;
@@ -16,20 +20,21 @@ use document::index::SLOTS;
 use document::rows::Row;
 use jsontext::spaces::space_end;
 ghost use mathlib.Core.Path.{_≡_};
-ghost use mathlib.Core.Bool.{true, cond};
-ghost use mathlib.Core.List.{List};
-ghost use Prim.Native.Nat.{ℕ, _+_, _<_, _≤_};
+ghost use mathlib.Core.Bool.{true, false, cond};
+ghost use mathlib.Core.List.{List, []};
+ghost use Prim.Native.Nat.{ℕ, _+_, _*_, _<_, _≤_};
 ghost use lib.ListN.{length, drop};
 ghost use Rattle.base.specs.Text.{byteAt};
 ghost use Rattle.classes.specs.Classes.{classTable};
 ghost use Rattle.names.specs.Lines.{lines};
-ghost use Rattle.json.specs.Signature.{textLeaf};
 ghost use Rattle.json.specs.KeyTable.{KeyTable};
-ghost use Rattle.json.specs.Grammar.{opens?, value, members};
+ghost use Rattle.json.specs.Grammar.{opens?, value};
 ghost use Rattle.json.specs.State.{builtIn, Holds, Says};
 ghost use Rattle.json.specs.declared.rows.Part.the-variants.{Refused};
 ghost use Rattle.json.specs.Seen.{Seen};
-ghost use Rattle.json.specs.Items.{markOf, leafOf, plainAt, restOf, itemAt};
+ghost use Rattle.json.specs.Items.{markOf, leafOf, plainAt, itemsAt};
+ghost use Rattle.json.specs.Frames.{Same};
+ghost use Rattle.json.specs.Heads.{HeadSays};
 
 const END: u16 = 0;
 
@@ -40,6 +45,9 @@ const ITEM: u16 = 3;
 const NULL: u16 = 4;
 
 const FLAG: u16 = 5;
+
+// As many as there are symbols: behind each a guess at the next one's key.
+pub(crate) const SYMBOLS: usize = 64;
 
 // Whether a value can begin with a byte.
 fn opens(classes: &[u8; 256], b: u8) -> bool
@@ -81,9 +89,10 @@ fn past_last(text: &[u8], classes: &[u8; 256], at: usize) -> Part
 fn plain_value(
     text: &[u8],
     classes: &[u8; 256],
-    rows: &mut [u16],
+    rows: &mut [u16; CELLS],
     slots: &mut [u16; SLOTS],
-    starts: &mut [usize],
+    near: &mut [u16; NEAR],
+    starts: &mut [usize; TEXTS],
     found: &mut [u16; SLOTS],
     used: u16,
     texts: u16,
@@ -101,6 +110,7 @@ fn plain_value(
             classes,
             rows,
             slots,
+            near,
             starts,
             found,
             used,
@@ -116,6 +126,7 @@ fn plain_value(
             &*found,
             rows,
             slots,
+            near,
             used,
             texts,
             limit,
@@ -132,6 +143,7 @@ fn plain_value(
             &*found,
             rows,
             slots,
+            near,
             used,
             texts,
             limit,
@@ -148,6 +160,7 @@ fn plain_value(
             &*found,
             rows,
             slots,
+            near,
             used,
             texts,
             limit,
@@ -165,6 +178,7 @@ fn plain_value(
             &*found,
             rows,
             slots,
+            near,
             used,
             texts,
             limit,
@@ -175,18 +189,21 @@ fn plain_value(
 }
 
 // The value at a place, of at most so many levels.
-pub(crate) fn value(
+fn value(
     text: &[u8],
     classes: &[u8; 256],
     list: &[u8],
     places: &[usize; KEY_PLACES],
     key_slots: &[u16; SLOTS],
     limit: u16,
-    rows: &mut [u16],
+    rows: &mut [u16; CELLS],
     slots: &mut [u16; SLOTS],
-    starts: &mut [usize],
+    near: &mut [u16; NEAR],
+    starts: &mut [usize; TEXTS],
     found: &mut [u16; SLOTS],
     pending: &mut [u16],
+    frames: &mut [u16],
+    after: &mut [u16; SYMBOLS],
     used: u16,
     texts: u16,
     level: usize,
@@ -195,32 +212,35 @@ pub(crate) fn value(
     requires holds { ⌜ Holds (now text) (now rows) (now slots) (now starts) (now found) used texts limit ⌝ }
     requires lent { ⌜ now classes ≡ classTable ⌝ }
     requires table { ⌜ KeyTable (now list) (now places) (now «key_slots») ⌝ }
-    requires bounds { ⌜ level ≤ length (now pending) ⌝ }
+    requires bounds { ⌜ (level ≤ 256) × (level ≤ length (now pending)) × (3 * level ≤ length (now frames)) ⌝ }
     ensures { λ r. ⌜ Says (now (text .entry)) (now (rows .exit)) (now (slots .exit)) (now (starts .exit)) (now (found .exit)) (now (starts .entry)) texts limit r (value level (record { keys = lines (now (list .entry)); limit = limit }) (now (text .entry)) at (builtIn (now (text .entry)) (now (rows .entry)) (now (starts .entry)) used texts)) ⌝ }
     ensures kept { λ r. ⌜ drop level (now (pending .exit)) ≡ drop level (now (pending .entry)) ⌝ }
+    ensures above { λ r. ⌜ Same (3 * level) (now (frames .entry)) (now (frames .exit)) ⌝ }
 {
     if level == 0 {
         return past_last(text, classes, at);
     }
     let b = byte_at(text, at);
-    if b == b'{' {
+    if (b == b'{') | (b == b'[') {
         let i = space_end(text, classes, at + 1);
-        if byte_at(text, i) == b'}' {
+        let object = b == b'{';
+        if byte_at(text, i) == mark(object) {
             return close(
                 text,
                 &*starts,
                 &*found,
                 rows,
                 slots,
+                near,
                 used,
                 texts,
                 limit,
                 i,
-                b'}',
-                END,
+                mark(object),
+                closing(object),
             );
         }
-        return object_members(
+        return items(
             text,
             classes,
             list,
@@ -229,53 +249,18 @@ pub(crate) fn value(
             limit,
             rows,
             slots,
+            near,
             starts,
             found,
             pending,
+            frames,
+            after,
             used,
             texts,
             level - 1,
-            level,
             i,
-        );
-    }
-    if b == b'[' {
-        let i = space_end(text, classes, at + 1);
-        if byte_at(text, i) == b']' {
-            return close(
-                text,
-                &*starts,
-                &*found,
-                rows,
-                slots,
-                used,
-                texts,
-                limit,
-                i,
-                b']',
-                STOP,
-            );
-        }
-        return item(
-            text,
-            classes,
-            list,
-            places,
-            key_slots,
-            limit,
-            rows,
-            slots,
-            starts,
-            found,
-            pending,
-            used,
-            texts,
-            level - 1,
-            0,
-            i,
+            object,
             false,
-            ITEM,
-            Row(0),
         );
     }
     plain_value(
@@ -283,6 +268,7 @@ pub(crate) fn value(
         classes,
         rows,
         slots,
+        near,
         starts,
         found,
         used,
@@ -292,94 +278,18 @@ pub(crate) fn value(
     )
 }
 
-// One member or more, after those whose keys have their entries from above the level up to `top`.
-fn object_members(
+// The key of a member and its colon; nothing of an element.
+fn head(
     text: &[u8],
     classes: &[u8; 256],
     list: &[u8],
     places: &[usize; KEY_PLACES],
     key_slots: &[u16; SLOTS],
     limit: u16,
-    rows: &mut [u16],
+    rows: &mut [u16; CELLS],
     slots: &mut [u16; SLOTS],
-    starts: &mut [usize],
-    found: &mut [u16; SLOTS],
-    pending: &mut [u16],
-    used: u16,
-    texts: u16,
-    level: usize,
-    top: usize,
-    at: usize,
-) -> Part
-    requires holds { ⌜ Holds (now text) (now rows) (now slots) (now starts) (now found) used texts limit ⌝ }
-    requires lent { ⌜ now classes ≡ classTable ⌝ }
-    requires table { ⌜ KeyTable (now list) (now places) (now «key_slots») ⌝ }
-    requires bounds { ⌜ (level < top) × (top ≤ length (now pending)) ⌝ }
-    requires known { ⌜ ((seen : List (List ℕ)) × Seen (lines (now list)) (now text) (now starts) (now pending) texts (level + 1) top seen) ⌝ }
-    ensures { λ r. ⌜ ((seen : List (List ℕ)) → Seen (lines (now (list .entry))) (now (text .entry)) (now (starts .entry)) (now (pending .entry)) texts (level + 1) top seen → Says (now (text .entry)) (now (rows .exit)) (now (slots .exit)) (now (starts .exit)) (now (found .exit)) (now (starts .entry)) texts limit r (members level (record { keys = lines (now (list .entry)); limit = limit }) (now (text .entry)) seen at (builtIn (now (text .entry)) (now (rows .entry)) (now (starts .entry)) used texts))) ⌝ }
-    ensures kept { λ r. ⌜ drop (level + 1) (now (pending .exit)) ≡ drop (level + 1) (now (pending .entry)) ⌝ }
-{
-    match key_at(
-        text,
-        classes,
-        list,
-        places,
-        key_slots,
-        &mut *rows,
-        &mut *slots,
-        &mut *starts,
-        &mut *found,
-        &mut *pending,
-        used,
-        texts,
-        limit,
-        level,
-        top,
-        at,
-    ) {
-        KeyPart::NoKey(w, p) => Part::Refused(w, p),
-        KeyPart::Key(symbol, key, next, n, m) => {
-            let i = space_end(text, classes, next);
-            if byte_at(text, i) != b':' {
-                return Part::Refused(71, i);
-            }
-            let first = space_end(text, classes, i + 1);
-            item(
-                text,
-                classes,
-                list,
-                places,
-                key_slots,
-                limit,
-                rows,
-                slots,
-                starts,
-                found,
-                pending,
-                n,
-                m,
-                level,
-                top,
-                first,
-                true,
-                symbol,
-                key,
-            )
-        },
-    }
-}
-
-// A member behind its key, or an element: its value, its rest, then its row.
-fn item(
-    text: &[u8],
-    classes: &[u8; 256],
-    list: &[u8],
-    places: &[usize; KEY_PLACES],
-    key_slots: &[u16; SLOTS],
-    limit: u16,
-    rows: &mut [u16],
-    slots: &mut [u16; SLOTS],
-    starts: &mut [usize],
+    near: &mut [u16; NEAR],
+    starts: &mut [usize; TEXTS],
     found: &mut [u16; SLOTS],
     pending: &mut [u16],
     used: u16,
@@ -388,59 +298,114 @@ fn item(
     top: usize,
     at: usize,
     object: bool,
-    symbol: u16,
-    key: Row,
-) -> Part
+    guess: u16,
+) -> KeyPart
     requires holds { ⌜ Holds (now text) (now rows) (now slots) (now starts) (now found) used texts limit ⌝ }
     requires lent { ⌜ now classes ≡ classTable ⌝ }
     requires table { ⌜ KeyTable (now list) (now places) (now «key_slots») ⌝ }
-    requires bounds { ⌜ level ≤ length (now pending) ⌝ }
     requires below { ⌜ (object ≡ true → (level < top) × (top ≤ length (now pending))) ⌝ }
-    requires plain { ⌜ (symbol ≡ textLeaf → ⊥) × (key .0 < 65535) ⌝ }
-    requires known { ⌜ ((seen : List (List ℕ)) × (object ≡ true → Seen (lines (now list)) (now text) (now starts) (now pending) texts level top seen)) ⌝ }
-    ensures { λ r. ⌜ ((seen : List (List ℕ)) → (object ≡ true → Seen (lines (now (list .entry))) (now (text .entry)) (now (starts .entry)) (now (pending .entry)) texts level top seen) → Says (now (text .entry)) (now (rows .exit)) (now (slots .exit)) (now (starts .exit)) (now (found .exit)) (now (starts .entry)) texts limit r (itemAt object level (record { keys = lines (now (list .entry)); limit = limit }) (now (text .entry)) seen symbol (key .0) at (builtIn (now (text .entry)) (now (rows .entry)) (now (starts .entry)) used texts))) ⌝ }
-    ensures kept { λ r. ⌜ drop level (now (pending .exit)) ≡ drop level (now (pending .entry)) ⌝ }
+    ensures { λ r. ⌜ ((seen : List (List ℕ)) → (object ≡ true → Seen (lines (now (list .entry))) (now (text .entry)) (now (starts .entry)) (now (pending .entry)) texts (level + 1) top seen) → HeadSays object (record { keys = lines (now (list .entry)); limit = limit }) (now (text .entry)) (now (rows .exit)) (now (slots .exit)) (now (starts .exit)) (now (found .exit)) (now (pending .exit)) (now (starts .entry)) texts level top seen at (builtIn (now (text .entry)) (now (rows .entry)) (now (starts .entry)) used texts) r) ⌝ }
+    ensures kept { λ r. ⌜ drop (level + 1) (now (pending .exit)) ≡ drop (level + 1) (now (pending .entry)) ⌝ }
 {
-    match value(
+    if !object {
+        return KeyPart::Key(ITEM, Row(0), at, used, texts);
+    }
+    match key_at(
         text,
         classes,
         list,
         places,
         key_slots,
-        limit,
-        &mut *rows,
-        &mut *slots,
-        &mut *starts,
-        &mut *found,
-        &mut *pending,
+        rows,
+        slots,
+        near,
+        starts,
+        found,
+        pending,
         used,
         texts,
+        limit,
         level,
+        top,
         at,
+        guess,
     ) {
-        Part::Refused(w, p) => Part::Refused(w, p),
-        Part::Read(v, next, n, m) => {
-            let e = space_end(text, classes, next);
-            if byte_at(text, e) != b',' {
-                return last(
-                    text,
-                    &*starts,
-                    &*found,
-                    rows,
-                    slots,
-                    n,
-                    m,
-                    limit,
-                    e,
-                    mark(object),
-                    closing(object),
-                    symbol,
-                    key,
-                    v,
-                );
+        KeyPart::NoKey(w, p) => KeyPart::NoKey(w, p),
+        KeyPart::Key(symbol, key, next, n, m) => {
+            let i = space_end(text, classes, next);
+            if byte_at(text, i) != b':' {
+                return KeyPart::NoKey(71, i);
             }
-            let i = space_end(text, classes, e + 1);
-            match rest(
+            KeyPart::Key(symbol, key, space_end(text, classes, i + 1), n, m)
+        },
+    }
+}
+
+// Items, one after the other, and when the last is read their rows from it back to the first; or one value alone.
+pub(crate) fn items(
+    text: &[u8],
+    classes: &[u8; 256],
+    list: &[u8],
+    places: &[usize; KEY_PLACES],
+    key_slots: &[u16; SLOTS],
+    limit: u16,
+    rows: &mut [u16; CELLS],
+    slots: &mut [u16; SLOTS],
+    near: &mut [u16; NEAR],
+    starts: &mut [usize; TEXTS],
+    found: &mut [u16; SLOTS],
+    pending: &mut [u16],
+    frames: &mut [u16],
+    after: &mut [u16; SYMBOLS],
+    used: u16,
+    texts: u16,
+    level: usize,
+    at: usize,
+    object: bool,
+    alone: bool,
+) -> Part
+    requires holds { ⌜ Holds (now text) (now rows) (now slots) (now starts) (now found) used texts limit ⌝ }
+    requires lent { ⌜ now classes ≡ classTable ⌝ }
+    requires table { ⌜ KeyTable (now list) (now places) (now «key_slots») ⌝ }
+    requires bounds { ⌜ (level ≤ 256) × (level ≤ length (now pending)) × (3 * level ≤ length (now frames)) ⌝ }
+    requires below { ⌜ (alone ≡ false → (level < length (now pending)) × (3 * level + 3 ≤ length (now frames))) ⌝ }
+    requires single { ⌜ (alone ≡ true → object ≡ false) ⌝ }
+    ensures { λ r. ⌜ Says (now (text .entry)) (now (rows .exit)) (now (slots .exit)) (now (starts .exit)) (now (found .exit)) (now (starts .entry)) texts limit r (itemsAt alone object level (record { keys = lines (now (list .entry)); limit = limit }) (now (text .entry)) [] at (builtIn (now (text .entry)) (now (rows .entry)) (now (starts .entry)) used texts)) ⌝ }
+    ensures kept { λ r. ⌜ drop (level + 1) (now (pending .exit)) ≡ drop (level + 1) (now (pending .entry)) ⌝ }
+    ensures above { λ r. ⌜ Same (3 * level + 3) (now (frames .entry)) (now (frames .exit)) ⌝ }
+{
+    let mut n = used;
+    let mut m = texts;
+    let mut l = level;
+    let mut i = at;
+    let mut last = END;
+    loop {
+        let guess = after[size(last) % SYMBOLS];
+        match head(
+            text,
+            classes,
+            list,
+            places,
+            key_slots,
+            limit,
+            &mut *rows,
+            &mut *slots,
+            &mut *near,
+            &mut *starts,
+            &mut *found,
+            &mut *pending,
+            n,
+            m,
+            l,
+            level + 1,
+            i,
+            object,
+            guess,
+        ) {
+            KeyPart::NoKey(w, p) => {
+                return Part::Refused(w, p);
+            },
+            KeyPart::Key(symbol, key, first, x, y) => match value(
                 text,
                 classes,
                 list,
@@ -449,108 +414,56 @@ fn item(
                 limit,
                 &mut *rows,
                 &mut *slots,
+                &mut *near,
                 &mut *starts,
                 &mut *found,
-                pending,
-                n,
-                m,
-                level,
-                top,
-                i,
-                object,
+                &mut *pending,
+                &mut *frames,
+                &mut *after,
+                x,
+                y,
+                l,
+                first,
             ) {
-                Part::Refused(w, p) => Part::Refused(w, p),
-                Part::Read(r, after, x, y) => join(
-                    text,
-                    &*starts,
-                    &*found,
-                    rows,
-                    slots,
-                    x,
-                    y,
-                    limit,
-                    after,
-                    symbol,
-                    key,
-                    v,
-                    r,
-                ),
-            }
-        },
+                Part::Refused(w, p) => {
+                    return Part::Refused(w, p);
+                },
+                Part::Read(v, next, a, b) => {
+                    if alone {
+                        return Part::Read(v, next, a, b);
+                    }
+                    put_frame(&mut *frames, l, symbol, key, v);
+                    let e = space_end(text, classes, next);
+                    if byte_at(text, e) != b',' {
+                        return close_items(
+                            text,
+                            &*starts,
+                            &*found,
+                            rows,
+                            slots,
+                            near,
+                            &*frames,
+                            a,
+                            b,
+                            limit,
+                            e,
+                            mark(object),
+                            closing(object),
+                            l,
+                            level + 1,
+                        );
+                    }
+                    i = space_end(text, classes, e + 1);
+                    if l == 0 {
+                        return Part::Refused(64, i);
+                    }
+                    after[size(last) % SYMBOLS] = symbol;
+                    last = symbol;
+                    l -= 1;
+                    n = a;
+                    m = b;
+                },
+            },
+        }
     }
-}
-
-// The members or elements behind one whose value has so many levels.
-fn rest(
-    text: &[u8],
-    classes: &[u8; 256],
-    list: &[u8],
-    places: &[usize; KEY_PLACES],
-    key_slots: &[u16; SLOTS],
-    limit: u16,
-    rows: &mut [u16],
-    slots: &mut [u16; SLOTS],
-    starts: &mut [usize],
-    found: &mut [u16; SLOTS],
-    pending: &mut [u16],
-    used: u16,
-    texts: u16,
-    level: usize,
-    top: usize,
-    at: usize,
-    object: bool,
-) -> Part
-    requires holds { ⌜ Holds (now text) (now rows) (now slots) (now starts) (now found) used texts limit ⌝ }
-    requires lent { ⌜ now classes ≡ classTable ⌝ }
-    requires table { ⌜ KeyTable (now list) (now places) (now «key_slots») ⌝ }
-    requires bounds { ⌜ level ≤ length (now pending) ⌝ }
-    requires below { ⌜ (object ≡ true → (level < top) × (top ≤ length (now pending))) ⌝ }
-    requires known { ⌜ ((seen : List (List ℕ)) × (object ≡ true → Seen (lines (now list)) (now text) (now starts) (now pending) texts level top seen)) ⌝ }
-    ensures { λ r. ⌜ ((seen : List (List ℕ)) → (object ≡ true → Seen (lines (now (list .entry))) (now (text .entry)) (now (starts .entry)) (now (pending .entry)) texts level top seen) → Says (now (text .entry)) (now (rows .exit)) (now (slots .exit)) (now (starts .exit)) (now (found .exit)) (now (starts .entry)) texts limit r (restOf object level (record { keys = lines (now (list .entry)); limit = limit }) (now (text .entry)) seen at (builtIn (now (text .entry)) (now (rows .entry)) (now (starts .entry)) used texts))) ⌝ }
-    ensures kept { λ r. ⌜ drop level (now (pending .exit)) ≡ drop level (now (pending .entry)) ⌝ }
-{
-    if level == 0 {
-        return Part::Refused(64, at);
-    }
-    if object {
-        return object_members(
-            text,
-            classes,
-            list,
-            places,
-            key_slots,
-            limit,
-            rows,
-            slots,
-            starts,
-            found,
-            pending,
-            used,
-            texts,
-            level - 1,
-            top,
-            at,
-        );
-    }
-    item(
-        text,
-        classes,
-        list,
-        places,
-        key_slots,
-        limit,
-        rows,
-        slots,
-        starts,
-        found,
-        pending,
-        used,
-        texts,
-        level - 1,
-        0,
-        at,
-        false,
-        ITEM,
-        Row(0),
-    )
 }

@@ -8,14 +8,20 @@ use document::builder::Placed;
 use document::builder::find_or_add;
 use document::fields::RowFields;
 use document::index::SLOTS;
+use document::rows::ROW_CELLS;
 use document::rows::Row;
 ghost use mathlib.Core.Path.{_≡_};
 ghost use mathlib.Core.List.{[], _∷_, _++_};
 ghost use Prim.Native.Nat.{_<_};
 ghost use Rattle.document.specs.Fields.{fieldsRow};
 ghost use Rattle.json.specs.Signature.{textLeaf};
-ghost use Rattle.json.specs.Grammar.{leafRow, nodeRow, finish, joined, closeAt};
+ghost use Rattle.json.specs.Grammar.{leafRow, nodeRow, finish, closeAt};
 ghost use Rattle.json.specs.State.{keyRows, builtIn, Holds, Old, Says};
+
+// The cells of as many rows as a table has.
+pub(crate) const CELLS: usize = MAX_ROWS as usize * ROW_CELLS;
+
+pub(crate) const NEAR: usize = 2048;
 
 // As many texts as a table has rows, since each has a row.
 pub(crate) const TEXTS: usize = MAX_ROWS as usize;
@@ -64,10 +70,11 @@ pub(crate) fn node(symbol: u16, key: Row, value: Row, rest: Row) -> RowFields
 // The row of the fields, which is not that of a text still to come, is finished before `next`.
 pub(crate) fn finish(
     text: &[u8],
-    starts: &[usize],
+    starts: &[usize; TEXTS],
     found: &[u16; SLOTS],
-    rows: &mut [u16],
+    rows: &mut [u16; CELLS],
     slots: &mut [u16; SLOTS],
+    near: &mut [u16; NEAR],
     used: u16,
     texts: u16,
     limit: u16,
@@ -89,10 +96,11 @@ pub(crate) fn finish(
 // The row of a member or an element, whose value and rest are read.
 pub(crate) fn join(
     text: &[u8],
-    starts: &[usize],
+    starts: &[usize; TEXTS],
     found: &[u16; SLOTS],
-    rows: &mut [u16],
+    rows: &mut [u16; CELLS],
     slots: &mut [u16; SLOTS],
+    near: &mut [u16; NEAR],
     used: u16,
     texts: u16,
     limit: u16,
@@ -115,6 +123,7 @@ pub(crate) fn join(
         found,
         rows,
         slots,
+        near,
         used,
         texts,
         limit,
@@ -126,10 +135,11 @@ pub(crate) fn join(
 // The closing mark of an object or an array, and its leaf.
 pub(crate) fn close(
     text: &[u8],
-    starts: &[usize],
+    starts: &[usize; TEXTS],
     found: &[u16; SLOTS],
-    rows: &mut [u16],
+    rows: &mut [u16; CELLS],
     slots: &mut [u16; SLOTS],
+    near: &mut [u16; NEAR],
     used: u16,
     texts: u16,
     limit: u16,
@@ -152,65 +162,11 @@ pub(crate) fn close(
         found,
         rows,
         slots,
+        near,
         used,
         texts,
         limit,
         at + 1,
         fields,
     )
-}
-
-// A member or an element that nothing follows: the closing mark, its leaf, then the row.
-pub(crate) fn last(
-    text: &[u8],
-    starts: &[usize],
-    found: &[u16; SLOTS],
-    rows: &mut [u16],
-    slots: &mut [u16; SLOTS],
-    used: u16,
-    texts: u16,
-    limit: u16,
-    at: usize,
-    mark: u8,
-    closing: u16,
-    symbol: u16,
-    key: Row,
-    value: Row,
-) -> Part
-    requires holds { ⌜ Holds (now text) (now rows) (now slots) (now starts) (now found) used texts limit ⌝ }
-    requires printed { ⌜ 0 < mark ⌝ }
-    requires plain { ⌜ (closing ≡ textLeaf → ⊥) × (symbol ≡ textLeaf → ⊥) ⌝ }
-    requires inside { ⌜ (key .0 < 65535) × (value .0 < 65535) ⌝ }
-    ensures { λ r. ⌜ Says (now (text .entry)) (now (rows .exit)) (now (slots .exit)) (now (starts .entry)) (now (found .entry)) (now (starts .entry)) texts limit r (joined limit symbol (keyRows symbol (key .0) ++ value .0 ∷ []) (closeAt limit (now (text .entry)) mark closing at (builtIn (now (text .entry)) (now (rows .entry)) (now (starts .entry)) used texts))) ⌝ }
-{
-    match close(
-        text,
-        starts,
-        found,
-        &mut *rows,
-        &mut *slots,
-        used,
-        texts,
-        limit,
-        at,
-        mark,
-        closing,
-    ) {
-        Part::Refused(w, p) => Part::Refused(w, p),
-        Part::Read(rest, next, n, m) => join(
-            text,
-            starts,
-            found,
-            rows,
-            slots,
-            n,
-            m,
-            limit,
-            next,
-            symbol,
-            key,
-            value,
-            rest,
-        ),
-    }
 }

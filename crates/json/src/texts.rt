@@ -1,5 +1,8 @@
 // Texts that become leaves, numbered by first appearance after decoding: each is known by the place where it first stands, and an index finds it again.
+use crate::rows::CELLS;
+use crate::rows::NEAR;
 use crate::rows::Part;
+use crate::rows::TEXTS;
 use crate::rows::finish;
 use crate::rows::leaf;
 use base::numbers::size;
@@ -10,7 +13,7 @@ use document::index::SLOTS;
 use jsontext::decoded::same;
 ghost use mathlib.Core.Path.{_≡_};
 ghost use Prim.Native.Nat.{_<_};
-ghost use lib.ListN.{getD};
+ghost use lib.ListN.{length, getD};
 ghost use Rattle.classes.specs.Classes.{classTable};
 ghost use Rattle.document.specs.Index.{probe};
 ghost use Rattle.jsontext.specs.Strings.{stringAt};
@@ -31,22 +34,24 @@ pub(crate) enum TextProbed {
 }
 
 // The place where a text first stands; 0 for a number that no text has.
-fn start_of(starts: &[usize], k: u16) -> usize
+fn start_of(starts: &[usize; TEXTS], k: u16) -> usize
+    requires size { ⌜ length (now starts) ≡ 1024 ⌝ }
     ensures { λ r. ⌜ r ≡ getD (now (starts .entry)) k 0 ⌝ }
 {
     let i = size(k);
-    if i < starts.len() { starts[i] } else { 0 }
+    if i < TEXTS { starts[i] } else { 0 }
 }
 
 // Looks for the text of the string at a place, from its slot on.
 pub(crate) fn look_up(
     text: &[u8],
     classes: &[u8; 256],
-    starts: &[usize],
+    starts: &[usize; TEXTS],
     found: &[u16; SLOTS],
     slot: u16,
     at: usize,
 ) -> TextProbed
+    requires size { ⌜ length (now starts) ≡ 1024 ⌝ }
     requires lent { ⌜ now classes ≡ classTable ⌝ }
     ensures { λ r. ⌜ probedOf r ≡ probe (now (found .entry)) (λ k. sameText (stringAt (now (text .entry)) at) (stringAt (now (text .entry)) (getD (now (starts .entry)) k 0))) slot ⌝ }
 {
@@ -68,9 +73,10 @@ pub(crate) fn look_up(
 // The leaf of a text that is new: it gets the next number.
 fn new_text(
     text: &[u8],
-    rows: &mut [u16],
+    rows: &mut [u16; CELLS],
     slots: &mut [u16; SLOTS],
-    starts: &mut [usize],
+    near: &mut [u16; NEAR],
+    starts: &mut [usize; TEXTS],
     found: &mut [u16; SLOTS],
     used: u16,
     texts: u16,
@@ -104,9 +110,10 @@ fn new_text(
 // The leaf of the text of a whole string, by what the probe for it found.
 pub(crate) fn text_leaf(
     text: &[u8],
-    rows: &mut [u16],
+    rows: &mut [u16; CELLS],
     slots: &mut [u16; SLOTS],
-    starts: &mut [usize],
+    near: &mut [u16; NEAR],
+    starts: &mut [usize; TEXTS],
     found: &mut [u16; SLOTS],
     used: u16,
     texts: u16,
@@ -127,6 +134,7 @@ pub(crate) fn text_leaf(
             &*found,
             rows,
             slots,
+            near,
             used,
             texts,
             limit,
@@ -137,6 +145,7 @@ pub(crate) fn text_leaf(
             text,
             rows,
             slots,
+            near,
             starts,
             found,
             used,

@@ -10,28 +10,27 @@ use Rattle.json.proofs.LeafWays.{word-fault, word-is}
 use Rattle.json.proofs.leaves.word.Statement.{statement}
 use Rattle.json.proofs.leaves.word.Tie as tie
 
-add-t17 : tie.Need-add-t17
-add-t17 c = omega (arith, word-short _ _ _ _ (c .before .word-bytes .ensures), c .before .before .before .before .before .before .pre .1 .0)
+add-t18 : tie.Need-add-t18
+add-t18 c = omega (arith, word-short _ _ _ _ (c .before .word-bytes .ensures), c .before .before .before .before .pre .1 .0)
 
 returns : tie.Need-returns
 returns c = word-fault _ _ (word-broken _ _ _ _ _ (c .before .word-bytes .ensures) (c .if1 .taken))
 
 finish-requires : tie.Need-finish-requires
-finish-requires c κs = (c .before .before .before .before .before .before .before .before .before .pre .0, (omega (arith, c .before .before .before .if1 .left, c .before .before .before .before .before .before .before .before .before .pre .1 .1 .0), no-text _ (c .before .before .leaf .ensures .0) (c .before .before .before .before .before .before .before .before .before .pre .1 .1 .1)))
+finish-requires c κs = (c .before .before .before .before .before .before .before .before .pre .0, (omega (arith, c .before .before .before .before .if1 .left, c .before .before .before .before .before .before .before .before .pre .1 .1 .0), no-text _ (c .before .before .before .leaf .ensures .0) (c .before .before .before .before .before .before .before .before .pre .1 .1 .1)))
 
 returns-2 : tie.Need-returns-2
 returns-2 c =
-    word-is (builtIn (now (c .before .before .before .before .before .before .before .before .before .before .before .before .args .text)) (now (c .before .before .before .before .before .before .before .before .before .before .before .before .args .rows)) (now (c .before .before .before .before .before .before .before .before .before .before .before .before .args .starts)) (c .before .before .before .before .before .before .before .before .before .before .before .before .args .used) (c .before .before .before .before .before .before .before .before .before .before .before .before .args .texts)) _ (word-whole _ _ _ _ _ (c .before .before .before .before .before .before .before .word-bytes .ensures) (c .before .before .before .before .before .before .if1 .left)) (c .before .before .before .before .before .leaf .ensures .0) (c .before .before .finish .ensures)
+    word-is (builtIn (now (c .before .before .before .before .before .before .before .before .before .args .text)) (now (c .before .before .before .before .before .before .before .before .before .args .rows)) (now (c .before .before .before .before .before .before .before .before .before .args .starts)) (c .before .before .before .before .before .before .before .before .before .args .used) (c .before .before .before .before .before .before .before .before .before .args .texts)) _ (word-whole _ _ _ _ _ (c .before .before .before .before .before .before .word-bytes .ensures) (c .before .before .before .before .before .if1 .left)) (c .before .before .before .before .leaf .ensures .0) (c .finish .ensures)
 
 pub word-spec : {M : Type 1} → statement M
 word-spec =
     tie.close
     (tie.spec
     (λ c κs. search needs)
-    add-t17
+    add-t18
     returns
     (λ c κs. search needs)
     (λ c. search needs)
     finish-requires
-    (λ c. search needs)
     returns-2)

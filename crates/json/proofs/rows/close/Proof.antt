@@ -14,22 +14,15 @@ returns c = close-wrong _ _ _ _ (λ e. c .if1 .taken (c .before .byte-at .ensure
 
 add-finish : tie.Need-add-finish
 add-finish c =
-    omega (arith, c .before .before .before .before .before .before .before .before .good .0, byte-inside (now (c .before .before .before .before .before .before .before .before .args .text)) (c .before .before .before .before .before .before .before .before .args .at) (c .before .before .before .before .byte-at .result) (c .before .before .before .before .byte-at .ensures) (omega (arith, c .before .before .before .if1 .left, c .before .before .before .before .before .before .before .before .pre .1 .0)))
+    omega (arith, c .before .before .before .before .before .before .before .good .0, byte-inside (now (c .before .before .before .before .before .before .before .args .text)) (c .before .before .before .before .before .before .before .args .at) (c .before .before .before .before .before .byte-at .result) (c .before .before .before .before .before .byte-at .ensures) (omega (arith, c .before .before .before .before .if1 .left, c .before .before .before .before .before .before .before .pre .1 .0)))
 
 finish-requires : tie.Need-finish-requires
-finish-requires c κs = (c .before .before .before .before .before .before .before .before .pre .0, (omega arith, no-text _ (c .before .before .leaf .ensures .0) (c .before .before .before .before .before .before .before .before .pre .1 .1)))
+finish-requires c κs = (c .before .before .before .before .before .before .before .pre .0, (omega arith, no-text _ (c .before .before .before .leaf .ensures .0) (c .before .before .before .before .before .before .before .pre .1 .1)))
 
 returns-2 : tie.Need-returns-2
-returns-2 c = close-right _ _ _ _ (sym (c .before .before .before .before .before .before .before .byte-at .ensures) ∙ c .before .before .before .before .before .before .if1 .left) (c .before .before .before .before .before .leaf .ensures .0) (c .before .before .finish .ensures)
+returns-2 c = close-right _ _ _ _ (sym (c .before .before .before .before .before .before .byte-at .ensures) ∙ c .before .before .before .before .before .if1 .left) (c .before .before .before .before .leaf .ensures .0) (c .finish .ensures)
 
 pub close-spec : {M : Type 1} → statement M
 close-spec =
     tie.close
-    (tie.spec
-    (λ c κs. search needs)
-    returns
-    (λ c κs. search needs)
-    add-finish
-    finish-requires
-    (λ c. search needs)
-    returns-2)
+    (tie.spec (λ c κs. search needs) returns (λ c κs. search needs) add-finish finish-requires returns-2)

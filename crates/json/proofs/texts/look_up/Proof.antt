@@ -21,19 +21,19 @@ abbrev μ-loop : tie.MeasureT-loop
 μ-loop text classes starts found slot at d₀ d = 2048 - d
 
 loop-holds : tie.Need-loop-holds Inv-loop μ-loop
-loop-holds c = let a = c .before .before .args in searched-none (a .found .now) (same? (a .text .now) (a .starts .now) (a .at)) (a .slot)
+loop-holds c = let a = c .before .args in searched-none (a .found .now) (same? (a .text .now) (a .starts .now) (a .at)) (a .slot)
 
 returns : tie.Need-returns Inv-loop μ-loop
 returns c =
     let l = c .before .before .before .before .loop in
-    let a = c .before .before .before .before .before .before .before .args in
+    let a = c .before .before .before .before .before .before .args in
     let z = c .before .before .size in
     searched-free (a .found .now) (same? (a .text .now) (a .starts .now) (a .at)) (a .slot) (l .d) (z .result) _ (l .inv) (search needs) (z .ensures .0) refl (c .if1 .taken)
 
 returns-2 : tie.Need-returns-2 Inv-loop μ-loop
 returns-2 c =
     let l = c .before .before .before .before .before .before .before .loop in
-    let a = c .before .before .before .before .before .before .before .before .before .before .args in
+    let a = c .before .before .before .before .before .before .before .before .before .args in
     let z = c .before .before .before .before .before .size in
     searched-known (a .found .now) (same? (a .text .now) (a .starts .now) (a .at)) (a .slot) (l .d) (z .result) _ (l .inv) (search needs) (z .ensures .0) refl (c .before .same .result) (c .before .before .before .if1 .left)
     (c .before .same .ensures ∙ ap (λ i. sameText (stringAt (a .text .now) (a .at)) (stringAt (a .text .now) i)) (c .before .before .start-of .ensures)) (c .if2 .taken)
@@ -41,7 +41,7 @@ returns-2 c =
 loop-again : tie.Need-loop-again Inv-loop μ-loop
 loop-again c =
     let l = c .before .before .before .before .before .before .before .loop in
-    let a = c .before .before .before .before .before .before .before .before .before .before .args in
+    let a = c .before .before .before .before .before .before .before .before .before .args in
     let z = c .before .before .before .before .before .size in
     searched-more (a .found .now) (same? (a .text .now) (a .starts .now) (a .at)) (a .slot) (l .d) (z .result) _ (l .inv) (search needs) (z .ensures .0) refl (c .before .same .result) (c .before .before .before .if1 .left)
     (c .before .same .ensures ∙ ap (λ i. sameText (stringAt (a .text .now) (a .at)) (stringAt (a .text .now) i)) (c .before .before .start-of .ensures)) (c .if2 .left)
@@ -49,7 +49,7 @@ loop-again c =
 returns-3 : tie.Need-returns-3 Inv-loop μ-loop
 returns-3 c =
     let l = c .before .loop in
-    let a = c .before .before .before .before .args in
+    let a = c .before .before .before .args in
     searched-all (a .found .now) (same? (a .text .now) (a .starts .now) (a .at)) (a .slot) (l .d) (l .inv) (search needs)
 
 pub look-up-spec : {M : Type 1} → statement M
