@@ -4,3 +4,4 @@ pub mod Papers
 pub mod Edges
 pub mod Zeros
 pub mod JudgedJson
+pub mod JudgedExports

@@ -14,6 +14,13 @@ pub mod ValueStarts
 pub mod CompleteValues
 pub mod Exactly
 pub mod ReadTries
+pub mod Computing
+pub mod KeyTries
+pub mod PlaceTries
+pub mod StringTries
+pub mod NumberTries
+pub mod TreeTries
+pub mod Numbering
 pub mod WholeTexts
 pub mod Refusals
 pub mod Finding
