@@ -80,6 +80,32 @@ fn a_text_of_many_megabytes_and_few_rows_is_read() {
     assert_eq!(compare(b"", text.as_bytes(), SPACE), Answer::Value(501));
 }
 
+/// Texts of one length with the same bytes at both ends, each also spelled with escapes.
+#[test]
+fn texts_that_differ_only_in_the_middle() {
+    let text = |middle: String| format!("\"the beginning {middle} and the end\"");
+    let plain = |number: usize| text(format!("{number:02}"));
+    let escaped = |number: usize| text(format!("\\u003{}\\u003{}", number / 10, number % 10));
+    let texts: Vec<String> = (0..100).map(plain).chain((0..100).map(escaped)).collect();
+    let array = format!("[{}]", texts.join(","));
+    assert_eq!(compare(b"", array.as_bytes(), SPACE), Answer::Value(100 + 200 + 1));
+    let object = |keys: &[String]| {
+        let members: Vec<String> = keys.iter().map(|key| format!("{key}:0")).collect();
+        format!("{{{}}}", members.join(","))
+    };
+    let listed = (0..50).map(plain).collect::<String>().replace("\"\"", "\n").replace('"', "");
+    let distinct = object(&texts[50..150]);
+    assert_eq!(compare(b"", distinct.as_bytes(), SPACE), Answer::Value(100 + 1 + 100 + 1));
+    assert_eq!(compare(listed.as_bytes(), distinct.as_bytes(), SPACE), Answer::Value(50 + 1 + 100 + 1));
+    for repeated in 100..150 {
+        let keys = [&texts[..100], &texts[repeated..=repeated]].concat();
+        let text = object(&keys);
+        let place = text.len() - object(&keys[100..]).len() + 1;
+        assert_eq!(compare(b"", text.as_bytes(), SPACE), refused(72, place));
+        assert_eq!(compare(listed.as_bytes(), text.as_bytes(), SPACE), refused(72, place));
+    }
+}
+
 #[test]
 fn exports_that_are_measured() {
     let keys = json_export::key_list(&json_export::KEYS);

@@ -168,16 +168,18 @@ fn numbers_at_their_limits() {
 
 #[test]
 fn levels_around_257() {
+    let mut tally = Tally::of("read_json, levels");
     for (open, close) in [("[", "]"), ("{\"a\":", "}"), ("[0,", "]"), ("{\"a\":0,\"b\":", "}")] {
         for levels in 120..260 {
             for innermost in ["1", "tru", "[]", "{}", "{\"a\":1}", "{\"b\":1,\"b\"", "{\"a", "x", ""] {
                 let text = open.repeat(levels) + innermost + &close.repeat(levels);
-                compare(b"", text.as_bytes(), SPACE);
-                compare(b"a", text.as_bytes(), SPACE);
-                compare(b"a\nb", text.as_bytes(), SPACE);
+                for keys in [&b""[..], b"a", b"a\nb"] {
+                    tally.count(compare(keys, text.as_bytes(), SPACE), |_| "read");
+                }
             }
         }
     }
+    tally.must_reach(15_000, 100, &[64, 71, 72], &["read"]);
 }
 
 #[test]
@@ -188,8 +190,10 @@ fn arrays_and_objects_by_length() {
         let members = format!("{{{}}}", members.join(","));
         let keys: String = (200..256).map(|key| format!("k{key}\n")).collect();
         for text in [elements, members] {
-            compare(b"", text.as_bytes(), SPACE);
-            compare(keys.as_bytes(), text.as_bytes(), SPACE);
+            for keys in [&b""[..], keys.as_bytes()] {
+                let number = compare(keys, text.as_bytes(), SPACE).number();
+                assert_eq!(number, (count > 255).then_some(64), "{count}");
+            }
         }
     }
 }

@@ -142,12 +142,21 @@ fn a_list_with_a_million_spaces_behind_a_name_is_used() {
     assert_eq!(with_little_stack(|| write_term(&set, names, rows, &mut text)), Ok(&b"g(a)"[..]));
 }
 
-/// Arrays or objects down to the deepest level, and what stands there; with its place, and with the end cut off where
-/// that is at fault.
+/// Arrays or objects down to the deepest level, and what stands there; with its place.
 fn nested_json(open: impl Fn(usize) -> String, close: &str, innermost: &str) -> (Vec<u8>, u64) {
     let front: String = (1..LEVELS).map(open).collect();
     let place = front.len() as u64;
     ((front + innermost + &close.repeat(LEVELS - 1)).into_bytes(), place)
+}
+
+/// Reads JSON on the stack that serves it, to the rows that the reference has; answers their number.
+fn rows_of_json(keys: &[u8], text: &[u8]) -> Result<usize, Refusal> {
+    let mut space = vec![0; ROW_CELLS * MAX_ROWS];
+    let rows = with_stack(JSON_STACK, || read_json(keys, text, &mut space))?;
+    let document =
+        reference::read_json(keys, text, ROW_CELLS * MAX_ROWS).expect("the reference reads it too");
+    assert_eq!(rows, document.cells());
+    Ok(document.rows.len())
 }
 
 /// A list of 56 keys of 64 bytes each.
@@ -174,26 +183,32 @@ fn json_of_256_levels_is_read_and_its_faults_are_told() {
             ("12e5", Some((Reason::NumberForm, 0))),
         ] {
             let (text, place) = nested_json(open, close, innermost);
-            let mut space = vec![0; ROW_CELLS * MAX_ROWS];
-            let answer =
-                with_stack(JSON_STACK, || read_json(keys.as_bytes(), &text, &mut space).map(<[u16]>::len));
+            let answer = rows_of_json(keys.as_bytes(), &text);
             let expected = refused.map(|(reason, behind)| Refusal { reason, place: Some(place + behind) });
             assert_eq!(answer.err(), expected, "{innermost}");
         }
     }
 }
 
+/// Each element or member stands a level below the one before it.
+#[test]
+fn the_longest_arrays_and_objects_are_read() {
+    let join = |part: &dyn Fn(usize) -> String| (1..LEVELS).map(part).collect::<Vec<String>>().join(",");
+    let array = format!("[{}]", join(&|k| format!("\"text {k}\"")));
+    assert_eq!(rows_of_json(b"", array.as_bytes()), Ok(2 * (LEVELS - 1) + 1));
+    let object = format!("{{{}}}", join(&|k| format!("\"key {k}\":\"text {k}\"")));
+    assert_eq!(rows_of_json(b"", object.as_bytes()), Ok(3 * (LEVELS - 1) + 1));
+}
+
 #[test]
 fn long_json_is_answered() {
     let million = 1_000_000;
-    let mut space = vec![0; ROW_CELLS * MAX_ROWS];
     let elements = format!("[{}1]", "1,".repeat(million));
-    let answer = with_stack(JSON_STACK, || read_json(b"", elements.as_bytes(), &mut space).map(<[u16]>::len));
-    assert_eq!(answer, Err(Refusal { reason: Reason::TextLevel, place: Some(511) }));
+    let too_deep = Refusal { reason: Reason::TextLevel, place: Some(511) };
+    assert_eq!(rows_of_json(b"", elements.as_bytes()), Err(too_deep));
     for text in ["a", "\\n", "é", "\\ud83d\\ude00"] {
         let text = format!("[\"{0}\",{1}\"{0}\"]", text.repeat(million), " ".repeat(million));
-        let answer = with_stack(JSON_STACK, || read_json(b"", text.as_bytes(), &mut space).map(<[u16]>::len));
-        assert_eq!(answer, Ok(4 * ROW_CELLS));
+        assert_eq!(rows_of_json(b"", text.as_bytes()), Ok(4));
     }
 }
 

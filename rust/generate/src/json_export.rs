@@ -42,13 +42,26 @@ pub fn export_text(servers: usize, columns: Columns, layout: Layout) -> String {
     export_with(servers, &[], layout)
 }
 
-/// An export of one server, with a remark of so many bytes or a few more under a key that is not listed.
-pub fn export_with_remark(bytes: usize) -> String {
-    let line =
-        r#"2026-11-15 20:35:06 web01 was drained for an update and came back, caf\u00e9 pool; é, \"ok\"\n"#;
+/// A line of a remark as it stands in a string, with escapes and a character of two bytes.
+pub const LINE: &str =
+    r#"2026-11-15 20:35:06 web01 was drained for an update and came back, caf\u00e9 pool; é, \"ok\"\n"#;
+/// One without escapes, and in ASCII.
+pub const PLAIN_LINE: &str =
+    "2026-11-15 20:35:06 web01 was drained for an update and came back to the pool at 20:41:17; ";
+
+/// An export of one server, with a remark under a key that is not listed: a line again and again, up to so many bytes or
+/// a few more.
+pub fn export_with_remark(line: &str, bytes: usize) -> String {
     let remark = format!("\"{}\"", line.repeat(bytes.div_ceil(line.len())));
     let server = object(&fields(0, 1, Columns::Agreed), Layout::Compact, 2);
     export_with(vec![server], &[("remark", remark)], Layout::Compact)
+}
+
+/// An export of equal servers in arrays of arrays of arrays, each of so many: of few rows, however long it is.
+pub fn export_of_equal_servers(side: usize) -> String {
+    let array = |part: &String| bracketed("[", "]", &vec![part.clone(); side], Layout::Compact, 0);
+    let server = object(&fields(0, 1, Columns::Agreed), Layout::Compact, 0);
+    export_with(vec![array(&array(&server)); side], &[], Layout::Compact)
 }
 
 /// The servers of an export with what stands around them, and further members in front of them.
@@ -108,14 +121,15 @@ fn bracketed(open: &str, close: &str, parts: &[String], layout: Layout, depth: u
 }
 
 /// The texts that are measured, by what they are: exports of 30 and 60 servers without white space, the latter with it,
-/// and an export with a long text in it.
-pub fn measured() -> [(&'static str, String); 4] {
+/// and two of one server with a long remark, the one with escapes and the other without.
+pub fn measured() -> [(&'static str, String); 5] {
     let export = |servers, layout| export_text(servers, Columns::Agreed, layout);
     [
         ("30 servers", export(30, Layout::Compact)),
         ("60 servers", export(60, Layout::Compact)),
         ("60 servers, a line for each member", export(60, Layout::Pretty)),
-        ("one server and a remark", export_with_remark(150_000)),
+        ("one server and a remark", export_with_remark(LINE, 150_000)),
+        ("one server and a plain remark", export_with_remark(PLAIN_LINE, 150_000)),
     ]
 }
 
@@ -127,7 +141,9 @@ mod tests {
 
     #[test]
     fn the_measured_texts_are_read_and_have_about_the_sizes_wanted() {
-        for ((name, text), kilobytes) in measured().into_iter().zip([6, 12, 21, 150]) {
+        let wanted: [u32; 5] = [6, 12, 21, 150, 150];
+        assert_eq!(measured().len(), wanted.len());
+        for ((name, text), kilobytes) in measured().into_iter().zip(wanted) {
             let read = read_json(&key_list(&KEYS), text.as_bytes(), ROW_CELLS * MAX_ROWS);
             assert!(read.is_ok(), "{name}: {:?}", read.err());
             let size = text.len() as f64 / 1000.0;

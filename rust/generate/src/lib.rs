@@ -7,6 +7,7 @@ pub mod example_files;
 pub mod export;
 pub mod json_export;
 pub mod json_lists;
+pub mod json_series;
 pub mod json_sets;
 pub mod json_shapes;
 pub mod json_texts;

@@ -16,8 +16,11 @@ use manual::{files, EXAMPLES, FORMATS, README, RUST};
 static ONE_AT_A_TIME: Mutex<()> = Mutex::new(());
 
 /// Lines of `gate` blocks that the gate does not run: the benchmarks take minutes, and have no answer to compare.
-const NOT_IN_THE_GATE: [&str; 2] =
-    ["cargo run --release --offline -p bench", "cargo run --release --offline -p bench membership"];
+const NOT_IN_THE_GATE: [&str; 3] = [
+    "cargo run --release --offline -p bench",
+    "cargo run --release --offline -p bench membership",
+    "bench/beside/run",
+];
 
 /// A command of a `console` block, and what it should print.
 struct Shown {
