@@ -1,13 +1,13 @@
 -- Lines entered one after the other: each is a key that is new, or the list does not fit. Assumes nothing.
-use mathlib.Core.Path.{_≡_, sym, ap, subst, _∙_}
+use mathlib.Core.Path.{_≡_, refl, sym, ap, subst, _∙_}
 use mathlib.Core.Bool.{Bool, true, false}
 use mathlib.Core.List.{List, []}
 use mathlib.Core.Option.{none, some}
-use Prim.Native.Nat.{ℕ, suc, _+_, _-_, _*_, _<_, _≤_, min}
+use Prim.Native.Nat.{ℕ, zero, suc, _+_, _-_, _*_, _<_, _≤_, min}
 use native.Mathlib.Nat.{add-zero, mod-lt}
 use native.Mathlib.Numerals.{add-one}
 use native.Mathlib.Omega.{arith}
-use lib.ListN.{length, getD, take, drop, set, replicate, length-set}
+use lib.ListN.{length, getD, take, drop, set, replicate, length-set, length-replicate}
 use lib.Seq.{getD-drop, getD-set-same, getD-set-other}
 use Rattle.model.specs.Lists.{eqList}
 use Rattle.document.specs.Index.{slotCount, probe, Indexed}
@@ -101,9 +101,9 @@ module _ {list places slots : List ℕ} {n a e : ℕ} (x : Entered list places s
             getD-set-other (set places (2 * n) a) (2 * n + 1) (2 * k) e 0 (λ q. omega (arith, q))
             ∙ getD-set-other places (2 * n) (2 * k) a 0 (λ q. omega (arith, q, l))
 
-        end-before : (k : ℕ) → k < n → keyEnd more k ≡ keyEnd places k
-        end-before k l =
-            getD-set-other (set places (2 * n) a) (2 * n + 1) (2 * k + 1) e 0 (λ q. omega (arith, q, l))
+        end-of-other : (k : ℕ) → (k ≡ n → ⊥) → keyEnd more k ≡ keyEnd places k
+        end-of-other k d =
+            getD-set-other (set places (2 * n) a) (2 * n + 1) (2 * k + 1) e 0 (λ q. d (omega (arith, q)))
             ∙ getD-set-other places (2 * n) (2 * k + 1) a 0 (λ q. omega (arith, q))
 
         stands-here : Stands list more n
@@ -123,10 +123,11 @@ module _ {list places slots : List ℕ} {n a e : ℕ} (x : Entered list places s
               few = omega (arith, few);
               room = length-set (set places (2 * n) a) (2 * n + 1) e ∙ length-set places (2 * n) a ∙ x .room;
               inside = omega (arith, there);
-              stands = each-more (Stands list more) n stands-here (λ k l. stands-same (start-before k l) (end-before k l) (x .stands k l));
+              stands = each-more (Stands list more) n stands-here (λ k l. stands-same (start-before k l) (end-of-other k (λ q. omega (arith, q, l))) (x .stands k l));
               keys = each-more (λ k. key? (keyAt list k) ≡ true) n (ap key? (sym line-is) ∙ key) (x .keys);
               distinct = distinct-more (keyAt list) n (x .distinct) differs;
               indexed = subst (λ m. Indexed (set slots t m) m (λ k. textSlot (keyAt list k))) (sym (add-one n)) still-indexed;
+              others = λ k l. end-of-other k (λ q. omega (arith, q, l)) ∙ x .others k (omega (arith, l));
             }
 
         pub places-entered : (i : ℕ) → i ≡ n → key? line ≡ true → Entered list (set (set places (2 * i) a) (2 * i + 1) e) (set slots t (n + 1)) (n + 1)
@@ -146,18 +147,25 @@ pub record Filling (list places slots : List ℕ) (n a : ℕ) : Type 0 where
   pub starts : Starts list n a
   pub entered : Entered list places slots n
 
-pub filling-none : (list places slots : List ℕ) → length places ≡ 128 → slots ≡ replicate slotCount 0 → Filling list places slots 0 0
-filling-none list places slots l e =
+-- of places that are all 0, each is
+no-place : (n i : ℕ) → _≡_ {A = ℕ} (getD (replicate n 0) i 0) 0
+no-place zero i = refl
+no-place (suc n) zero = refl
+no-place (suc n) (suc i) = no-place n i
+
+pub filling-none : (list places slots : List ℕ) → places ≡ replicate 128 0 → slots ≡ replicate slotCount 0 → Filling list places slots 0 0
+filling-none list places slots z e =
     record {
       starts = starts-first list;
       entered = record {
         few = omega arith;
-        room = l;
+        room = ap length z ∙ length-replicate {A = ℕ} 128 0;
         inside = omega arith;
         stands = λ k m. let z : ⊥ = omega (arith, m) in absurd z;
         keys = λ k m. let z : ⊥ = omega (arith, m) in absurd z;
         distinct = λ j k m o q. let z : ⊥ = omega (arith, m) in absurd z;
         indexed = subst (λ s. Indexed s 0 (λ k. textSlot (keyAt list k))) (sym e) (indexed-none (λ k. textSlot (keyAt list k)));
+        others = λ k m. ap (λ l. keyEnd l k) z ∙ no-place 128 (2 * k + 1);
       };
     }
 

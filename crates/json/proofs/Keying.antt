@@ -1,11 +1,14 @@
 -- The index of a key list's lines: what the probe for some bytes finds. Assumes nothing.
 use mathlib.Core.Path.{_≡_, refl, sym, ap, subst, _∙_}
-use mathlib.Core.Bool.{true}
+use mathlib.Core.Bool.{Bool, true, false}
 use mathlib.Core.List.{List, []}
 use mathlib.Core.Option.{Option}
 use Prim.Native.Nat.{ℕ, _-_, _<_, _≤_}
 use native.Mathlib.Omega.{arith}
-use lib.ListN.{length, getD}
+use borrow.Author.Tests.{ltb-true, ltb-false}
+use lib.Dec.{ltb}
+use lib.ListN.{length, getD, take, drop}
+use lib.Seq.{take-take}
 use Rattle.base.specs.Text.{Got, got}
 use Rattle.model.specs.Lists.{eqList}
 use Rattle.automaton.proofs.Parts.{tab-of}
@@ -16,7 +19,7 @@ use Rattle.document.proofs.Probing.{scan, Answers, known, free, answers}
 use Rattle.names.specs.Lines.{lines}
 use Rattle.jsontext.specs.Decoded.{textSlot, isText}
 use Rattle.json.specs.Keys.{maxKeys, findText}
-use Rattle.json.specs.KeyTable.{keyAt, Entered, KeyTable, keyOf}
+use Rattle.json.specs.KeyTable.{keyAt, keyStart, keyEnd, Stands, Entered, KeyTable, keyOf}
 use Rattle.json.specs.declared.keys.KeyFound.{KeyFound}
 use Rattle.json.specs.declared.keys.KeyFound.the-variants.{Listed, Unlisted}
 use Rattle.json.proofs.Finding.{eqList-eq, find-scan}
@@ -47,6 +50,19 @@ module _ {list places slots : List ℕ} {n : ℕ} (x : Entered list places slots
     where
       that : (i : ℕ) → eqList bs (keyAt list i) ≡ true → bs ≡ keyAt list i
       that i e = eqList-eq bs (keyAt list i) e
+
+-- a line whose end is not 0 is one of them
+pub line-placed : {list places slots : List ℕ} → KeyTable list places slots → (k : ℕ) → (keyEnd places k ≡ 0 → ⊥) → k < length (lines list)
+line-placed {list = list} x k z = go (ltb k (length (lines list))) refl
+  where
+    go : (b : Bool) → ltb k (length (lines list)) ≡ b → k < length (lines list)
+    go true e = ltb-true k (length (lines list)) e
+    go false e = absurd (z (x .others k (ltb-false k (length (lines list)) e)))
+
+-- a string that is the bytes from a line's start up to its end
+pub line-string : {list places : List ℕ} (k : ℕ) {j r : ℕ} → j ≡ k → Stands list places k → (g : Got (List ℕ)) → g ≡ got (take (keyEnd places k - keyStart places k) (take (length list - keyStart places k) (drop (keyStart places k) list))) r → g ≡ got (keyAt list j) r
+line-string {list} {places} k {r = r} e x g is =
+    is ∙ ap (λ (bs : List ℕ). got bs r) (take-take (keyEnd places k - keyStart places k) (length list - keyStart places k) (drop (keyStart places k) list) (omega (arith, x .inside)) ∙ x .line ∙ ap (keyAt list) (sym e))
 
 -- What a probe for the bytes of a string answers is the first line that is these bytes.
 module _ {list places slots : List ℕ} (x : KeyTable list places slots) where

@@ -33,7 +33,7 @@ pub record Stands (list places : List ℕ) (k : ℕ) : Type 0 where
   pub inside : keyEnd places k ≤ length list
   pub line : take (keyEnd places k - keyStart places k) (drop (keyStart places k) list) ≡ keyAt list k
 
--- The first n lines are keys, no two of them equal; the places are theirs, and the slots are an index of them.
+-- The first n lines are keys, no two of them equal; the places are theirs, the slots are an index of them, and the ends of others are 0.
 pub record Entered (list places slots : List ℕ) (n : ℕ) : Type 0 where
   pub few : n ≤ maxKeys
   pub room : length places ≡ 128
@@ -42,6 +42,7 @@ pub record Entered (list places slots : List ℕ) (n : ℕ) : Type 0 where
   pub keys : (k : ℕ) → k < n → key? (keyAt list k) ≡ true
   pub distinct : (j k : ℕ) → j < n → k < n → keyAt list j ≡ keyAt list k → j ≡ k
   pub indexed : Indexed slots n (λ k. textSlot (keyAt list k))
+  pub others : (k : ℕ) → n ≤ k → keyEnd places k ≡ 0
 
 -- What the answer for line n says: it is entered behind the others, or the list does not fit.
 pub data Told (list places slots : List ℕ) (n : ℕ) : Bool → Type 0 where

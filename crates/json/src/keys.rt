@@ -4,6 +4,7 @@ use base::numbers::smaller;
 use document::index::SLOTS;
 use jsontext::decoded::is_text;
 use jsontext::slots::slot_of;
+use jsontext::written::written;
 use names::bytes::same;
 use names::lines::line_end;
 ghost use mathlib.Core.Path.{_≡_};
@@ -123,7 +124,7 @@ pub(crate) fn fill_keys(
     places: &mut [usize; KEY_PLACES],
     key_slots: &mut [u16; SLOTS],
 ) -> bool
-    requires room { ⌜ length (now places) ≡ 128 ⌝ }
+    requires zero { ⌜ now places ≡ replicate 128 0 ⌝ }
     requires empty { ⌜ now «key_slots» ≡ replicate slotCount 0 ⌝ }
     ensures { λ r. ⌜ r ≡ keysFit? (now (list .entry)) ⌝ }
     ensures filled { λ r. ⌜ (r ≡ true → KeyTable (now (list .entry)) (now (places .exit)) (now («key_slots» .exit))) ⌝ }
@@ -143,6 +144,33 @@ pub(crate) fn fill_keys(
         }
     }
     true
+}
+
+// The place after the key at a place, where it is line `k` written just as it is; 0 where it is not, or where there is no such line. Most keys follow the one that they followed before, so that nothing is to be looked for.
+pub(crate) fn key_here(
+    text: &[u8],
+    list: &[u8],
+    places: &[usize; KEY_PLACES],
+    k: u16,
+    at: usize,
+) -> usize
+    requires table { ⌜ ((slots : List ℕ) × KeyTable (now list) (now places) slots) ⌝ }
+    ensures { λ r. ⌜ ((r ≡ 0 → ⊥) → (k < 56) × (k < length (lines (now (list .entry)))) × (stringAt (now (text .entry)) at ≡ got (keyAt (now (list .entry)) k) r)) ⌝ }
+{
+    if k >= MAX_KEYS {
+        return 0;
+    }
+    let i = 2 * size(k);
+    let e = places[i + 1];
+    if e == 0 {
+        return 0;
+    }
+    let a = places[i];
+    let n = e - a;
+    if written(text, at, &list[a..], n) {
+        return at + n + 2;
+    }
+    0
 }
 
 // The line that the string at a place is after decoding, looked for from its slot on.

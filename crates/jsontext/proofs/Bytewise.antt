@@ -168,20 +168,25 @@ module _ (xs : List ℕ) (m : ℕ) (e : m ≡ joinBytes (map mark xs)) where
       go (y ∷ ys) zero l = mark-small y
       go (y ∷ ys) (suc i) l = go ys i (omega arith)
 
-  pub plain-below : (k : ℕ) → k < length xs → k < trailingZeros 64 m / 8 → plain? (byteAt xs k) ≡ true
-  plain-below k l h =
-      let z = trailingZeros 64 m in
-      let s : z ≡ z - 8 * (k + 1) + 8 * (k + 1) = omega arith in
-      let a : m % 2 ^ (z - 8 * (k + 1) + 8 * (k + 1)) ≡ 0 = ap (λ (n : ℕ). m % 2 ^ n) (sym s) ∙ zeros-below 64 m in
-      let b : m % 2 ^ (8 * (k + 1)) ≡ 0 = sym (mod-mod-pow m (z - 8 * (k + 1)) (8 * (k + 1))) ∙ ap (λ (n : ℕ). n % 2 ^ (8 * (k + 1))) a ∙ zero-mod (2 ^ (8 * (k + 1))) in
-      let c : joinBytes (take (k + 1) (map mark xs)) ≡ 0 = join-take (k + 1) (map mark xs) marks-bytes ∙ ap₂ (λ (x y : ℕ). x % y) (sym e) (sym (pow-256 (k + 1))) ∙ b in
-      let d : byteAt (map mark xs) k ≡ 0 = sym (getD-take (k + 1) (map mark xs) k 0 (omega arith)) ∙ zero-bytes (take (k + 1) (map mark xs)) c k in
+  -- the first n bytes, where the marks of n are none
+  pub plain-first : (n : ℕ) → m % 2 ^ (8 * n) ≡ 0 → (k : ℕ) → k < n → k < length xs → plain? (byteAt xs k) ≡ true
+  plain-first n b k h l =
+      let c : joinBytes (take n (map mark xs)) ≡ 0 = join-take n (map mark xs) marks-bytes ∙ ap₂ (λ (x y : ℕ). x % y) (sym e) (sym (pow-256 n)) ∙ b in
+      let d : byteAt (map mark xs) k ≡ 0 = sym (getD-take n (map mark xs) k 0 h) ∙ zero-bytes (take n (map mark xs)) c k in
       mark-none (byteAt xs k) (sym (mark-at xs k l) ∙ d)
     where
       mark-at : (ys : List ℕ) (i : ℕ) → i < length ys → byteAt (map mark ys) i ≡ mark (byteAt ys i)
       mark-at [] i l = absurd (omega arith)
       mark-at (y ∷ ys) zero l = refl
       mark-at (y ∷ ys) (suc i) l = mark-at ys i (omega arith)
+
+  pub plain-below : (k : ℕ) → k < length xs → k < trailingZeros 64 m / 8 → plain? (byteAt xs k) ≡ true
+  plain-below k l h =
+      let z = trailingZeros 64 m in
+      let s : z ≡ z - 8 * (k + 1) + 8 * (k + 1) = omega arith in
+      let a : m % 2 ^ (z - 8 * (k + 1) + 8 * (k + 1)) ≡ 0 = ap (λ (n : ℕ). m % 2 ^ n) (sym s) ∙ zeros-below 64 m in
+      let b : m % 2 ^ (8 * (k + 1)) ≡ 0 = sym (mod-mod-pow m (z - 8 * (k + 1)) (8 * (k + 1))) ∙ ap (λ (n : ℕ). n % 2 ^ (8 * (k + 1))) a ∙ zero-mod (2 ^ (8 * (k + 1))) in
+      plain-first (k + 1) b k (omega arith) l
 
 -- the same of the word at a place of a text
 word-eight : (t : List ℕ) (i : ℕ) → i + 8 ≤ length t → length (take 8 (drop i t)) ≡ 8

@@ -29,3 +29,4 @@ pub mod Keeping
 pub mod DecodedSlots
 pub mod Bytewise
 pub mod StringEnds
+pub mod Agreeing

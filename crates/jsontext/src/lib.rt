@@ -9,4 +9,5 @@ mod plain; // plain.rt: bytes that stand for themselves
 mod streams; // streams.rt: the decoded bytes of a string, one by one
 pub mod decoded; // decoded.rt: strings compared after decoding
 pub mod slots; // slots.rt: where a text is looked for first
+pub mod written; // written.rt: a string that is written just as it is
 pub mod strings; // strings.rt: a string's end and slot

@@ -40,7 +40,7 @@ fn marks(w: u64) -> u64
 }
 
 // The marks of the eight bytes at a place.
-fn word_marks(text: &[u8], i: usize) -> u64
+pub(crate) fn word_marks(text: &[u8], i: usize) -> u64
     requires { ⌜ i + 8 ≤ length (now text) ⌝ }
     ensures { λ r. ⌜ r ≡ joinBytes (map mark (take 8 (drop i (now (text .entry))))) ⌝ }
 {
