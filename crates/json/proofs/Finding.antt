@@ -7,6 +7,7 @@ use Prim.Native.Nat.{ℕ, zero, suc, _<_}
 use native.Mathlib.Omega.{arith}
 use borrow.Author.Tests.{eqb-true, eqb-false, eq-eqb, ne-eqb}
 use lib.Dec.{T, eqb}
+use lib.ListN.{length, getD}
 use Rattle.model.specs.Lists.{eqList, tab}
 use Rattle.model.proofs.Members.{eqList→eq, eqList-refl}
 use Rattle.document.proofs.Probing.{scan}
@@ -38,3 +39,14 @@ find-scan bs zero f p h = refl
 find-scan bs (suc n) f p h =
     let e : p 0 ≡ eqList bs (f 0) = h 0 (omega arith) in
     (λ i. cond (sym e i) (some 0) (Option·map suc (find-scan bs n (λ k. f (suc k)) (λ k. p (suc k)) (λ k l. h (suc k) (omega arith)) i)))
+
+-- a line is found where it stands, if no two lines are equal
+pub find-own : (keys : List (List ℕ)) → ((i j : ℕ) → i < length keys → j < length keys → getD keys i [] ≡ getD keys j [] → i ≡ j) → (k : ℕ) → k < length keys → findText (getD keys k []) keys ≡ some k
+unfolding findText
+find-own [] apart k l = absurd (omega (arith, l))
+find-own (x ∷ keys) apart zero l = let e : eqList x x ≡ true = eq-eqList x x refl in rw e
+find-own (x ∷ keys) apart (suc k) l = step (find-own keys (λ i j m n e. let z = apart (suc i) (suc j) (omega (arith, m)) (omega (arith, n)) e in omega (arith, z)) k (omega (arith, l))) (eqList (getD keys k []) x) refl
+  where
+    step : findText (getD keys k []) keys ≡ some k → (r : Bool) → eqList (getD keys k []) x ≡ r → cond r (some 0) (Option·map suc (findText (getD keys k []) keys)) ≡ some (suc k)
+    step h true q = let z = apart (suc k) 0 l (omega arith) (eqList-eq (getD keys k []) x q) in absurd (omega (arith, z))
+    step h false q = ap (Option·map suc) h

@@ -2,6 +2,7 @@
 use crate::keys::KEY_PLACES;
 use crate::keys::KeyFound;
 use crate::keys::find_key;
+use crate::keys::key_here;
 use crate::rows::CELLS;
 use crate::rows::NEAR;
 use crate::rows::OTHER;
@@ -16,7 +17,7 @@ use jsontext::strings::StringRead;
 use jsontext::strings::read;
 ghost use mathlib.Core.Path.{_≡_};
 ghost use mathlib.Core.List.{List};
-ghost use Prim.Native.Nat.{ℕ, _+_, _<_, _≤_, _^_};
+ghost use Prim.Native.Nat.{ℕ, _+_, _-_, _<_, _≤_, _^_};
 ghost use lib.Dec.{eqb};
 ghost use lib.ListN.{length, drop};
 ghost use Rattle.classes.specs.Classes.{classTable};
@@ -150,8 +151,8 @@ fn other_key(
     }
 }
 
-// The key at a place: a listed one by its line, another by its text.
-pub(crate) fn key_at(
+// The key at a place, looked up: a listed one by its line, another by its text.
+fn looked_up(
     text: &[u8],
     classes: &[u8; 256],
     list: &[u8],
@@ -169,7 +170,6 @@ pub(crate) fn key_at(
     level: usize,
     top: usize,
     at: usize,
-    guess: u16,
 ) -> KeyPart
     requires holds { ⌜ Holds (now text) (now rows) (now slots) (now starts) (now found) used texts limit ⌝ }
     requires lent { ⌜ now classes ≡ classTable ⌝ }
@@ -210,4 +210,68 @@ pub(crate) fn key_at(
             ),
         },
     }
+}
+
+// The line of a symbol, of a symbol that is no key's the first.
+fn line_of(symbol: u16) -> u16
+    ensures { λ r. ⌜ r ≡ symbol - 8 ⌝ }
+{
+    if symbol < FIRST_KEY {
+        return 0;
+    }
+    symbol - FIRST_KEY
+}
+
+// The key at a place. Where it is written as the line of the symbol that is guessed, nothing is looked up.
+pub(crate) fn key_at(
+    text: &[u8],
+    classes: &[u8; 256],
+    list: &[u8],
+    places: &[usize; KEY_PLACES],
+    key_slots: &[u16; SLOTS],
+    rows: &mut [u16; CELLS],
+    slots: &mut [u16; SLOTS],
+    near: &mut [u16; NEAR],
+    starts: &mut [usize; TEXTS],
+    found: &mut [u16; SLOTS],
+    pending: &mut [u16],
+    used: u16,
+    texts: u16,
+    limit: u16,
+    level: usize,
+    top: usize,
+    at: usize,
+    guess: u16,
+) -> KeyPart
+    requires holds { ⌜ Holds (now text) (now rows) (now slots) (now starts) (now found) used texts limit ⌝ }
+    requires lent { ⌜ now classes ≡ classTable ⌝ }
+    requires bounds { ⌜ (level < top) × (top ≤ length (now pending)) ⌝ }
+    requires table { ⌜ KeyTable (now list) (now places) (now «key_slots») ⌝ }
+    ensures { λ r. ⌜ ((seen : List (List ℕ)) → Seen (lines (now (list .entry))) (now (text .entry)) (now (starts .entry)) (now (pending .entry)) texts (level + 1) top seen → KeySays (lines (now (list .entry))) (now (text .entry)) (now (rows .exit)) (now (slots .exit)) (now (starts .exit)) (now (found .exit)) (now (pending .exit)) (now (starts .entry)) texts limit level top seen r (keyAt (record { keys = lines (now (list .entry)); limit = limit }) (now (text .entry)) level seen at (builtIn (now (text .entry)) (now (rows .entry)) (now (starts .entry)) used texts))) ⌝ }
+    ensures kept { λ r. ⌜ drop (level + 1) (now (pending .exit)) ≡ drop (level + 1) (now (pending .entry)) ⌝ }
+{
+    let k = line_of(guess);
+    let next = key_here(text, list, places, k, at);
+    if next != 0 {
+        return listed_key(pending, used, texts, level, top, k, at, next);
+    }
+    looked_up(
+        text,
+        classes,
+        list,
+        places,
+        key_slots,
+        rows,
+        slots,
+        near,
+        starts,
+        found,
+        pending,
+        used,
+        texts,
+        limit,
+        level,
+        top,
+        at,
+    )
 }
