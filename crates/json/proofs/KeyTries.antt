@@ -10,10 +10,11 @@ use Rattle.json.specs.Grammar.{leafRow, nodeRow}
 use Rattle.json.specs.Read.{Reading, rowsRead, refusedAt, readOf}
 use Rattle.json.proofs.Computing.{bytes, answered}
 
--- so many lines of one byte each, from 33 on, the last one with byte 10 behind it or not
+-- so many lines of one byte each, from 33 on
 abbrev short : ℕ → List (List ℕ)
 short n = tab n (λ i. (33 + i) ∷ [])
 
+-- lines with byte 10 behind each, and with none behind the last
 abbrev ended : List (List ℕ) → List ℕ
 ended [] = []
 ended (l ∷ ls) = l ++ 10 ∷ ended ls
@@ -61,7 +62,7 @@ first : map (λ t. answered (10 ∷ []) t 0) ([] ∷ bytes "x" ∷ bytes "[1e5" 
 unfolding answered
 first = refl
 
--- the rows of a text by a key list, into so many cells
+-- the rows of an object with one member, 7 under a listed key
 abbrev one-member : ℕ → Reading (List Row)
 one-member symbol = rowsRead (leafRow 6 (Count 7) ∷ leafRow 0 Bare ∷ nodeRow symbol (0 ∷ 1 ∷ []) ∷ [])
 

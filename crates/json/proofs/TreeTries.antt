@@ -55,11 +55,12 @@ of-value : (valueTree keys example [] .0 ≡ tree) × (leafTexts keys example �
 unfolding answered valueTree leafTexts textNumbers
 of-value = (refl, refl, refl)
 
--- THE TEXT HAS THIS TREE, and no other.
+-- the rows that the text is read to
 rows : List Row
 unfolding answered
 rows = elim (within 256 1024 keys document) [ rowsRead rs ↦ rs | refusedAt w p ↦ [] ]
 
+-- THE TEXT HAS THIS TREE, and no other.
 has-tree : TreeOfText keys document tree
 unfolding rows
 has-tree =
