@@ -1,33 +1,118 @@
--- The hash of a row, cell by cell, and the published values of the hash. Assumes nothing.
+-- The hash of a row, cell by cell, with the runs of zero bytes that only multiply, and the published values of the hash. Assumes nothing.
 use mathlib.Core.Path.{_≡_, refl, sym, ap, _∙_}
-use mathlib.Core.List.{List, [], _∷_}
-use Prim.Native.Nat.{ℕ, _+_, _/_, _%_, _≤_, _<_, zero-le}
-use native.Mathlib.Numerals.{add-one, add-one-le}
-use lib.ListN.{length, drop, getD, drop-of-length-le}
-use lib.Seq.{drop-cons}
-use Rattle.document.specs.Hash.{fnvByte, fnvFrom, fnv1a, cellBytes, rowHash}
+use mathlib.Core.List.{List, [], _∷_, _++_}
+use Prim.Native.Nat.{ℕ, zero, suc, _+_, _*_, _/_, _%_, _^_, _<_}
+use native.Mathlib.Nat.{mul-comm, mul-assoc, add-mul, pow-succ', mod-lt, mod-add-div, add-mul-mod-self-left}
+use native.Mathlib.Omega.{arith}
+use lib.Bits.{xor-zero-r}
+use lib.ListN.{length, getD, replicate}
+use Rattle.model.specs.Lists.{tab}
+use Rattle.automaton.proofs.Parts.{tab-of}
+use Rattle.document.specs.Rows.{rowCells, splitCells}
+use Rattle.document.specs.Words.{wordsCells, cellsAt}
+use Rattle.document.specs.Hash.{fnvByte, fnvCell, fnvFrom, fnv1a, cellBytes, rowHash}
 
--- after i cells the hash is h
-pub record Hashed (cells : List ℕ) (h i : ℕ) : Type 0 where
-  pub inside : i ≤ length cells
-  pub rest : fnvFrom h (cellBytes (drop i cells)) ≡ rowHash cells
+-- some cells, then others
+pub cells-append : (h : ℕ) (xs ys : List ℕ) → fnvFrom h (cellBytes (xs ++ ys)) ≡ fnvFrom (fnvFrom h (cellBytes xs)) (cellBytes ys)
+unfolding fnvFrom
+cells-append h [] ys = refl
+cells-append h (x ∷ xs) ys = cells-append (fnvCell h x) xs ys
 
-module _ (cells : List ℕ) where
-  pub hashed-none : Hashed cells 2166136261 0
-  hashed-none = record { inside = zero-le; rest = refl }
+one-cell : (h x : ℕ) → fnvFrom h (cellBytes (x ∷ [])) ≡ fnvCell h x
+unfolding fnvFrom
+one-cell h x = refl
 
-  pub hashed-next : (h i r : ℕ) → Hashed cells h i → i < length cells → r ≡ fnvByte (fnvByte h (getD cells i 0 % 256)) (getD cells i 0 / 256) → Hashed cells r (i + 1)
-  unfolding fnvFrom
-  hashed-next h i r k l e =
-      record {
-        inside = add-one-le l;
-        rest =
-            rw (add-one, e) (sym (ap (λ xs. fnvFrom h (cellBytes xs)) (drop-cons cells i 0 l)) ∙ k .rest);
-      }
+pair-hashed : (h x y : ℕ) → fnvFrom h (cellBytes (x ∷ y ∷ [])) ≡ fnvCell (fnvCell h x) y
+unfolding fnvFrom
+pair-hashed h x y = refl
 
-  pub hashed-all : (h i : ℕ) → Hashed cells h i → length cells ≤ i → h ≡ rowHash cells
-  unfolding fnvFrom
-  hashed-all h i k l = sym (ap (λ xs. fnvFrom h (cellBytes xs)) (drop-of-length-le cells l)) ∙ k .rest
+-- ---- zero bytes
+
+mod-times : (x y m : ℕ) → x % m * y % m ≡ x * y % m
+mod-times x y m =
+    let e : x * y ≡ x % m * y + m * (x / m * y) = ap (λ t. t * y) (sym (mod-add-div x m)) ∙ add-mul (x % m) (m * (x / m)) y ∙ ap (λ t. x % m * y + t) (mul-assoc m (x / m) y) in
+    sym (ap (λ t. t % m) e ∙ add-mul-mod-self-left (x % m * y) m (x / m * y))
+
+-- n zero bytes multiply n times
+pub zeros : (n h : ℕ) → h < 2 ^ 32 → fnvFrom h (replicate n 0) ≡ h * 16777619 ^ n % 2 ^ 32
+unfolding fnvFrom
+zeros zero h l = omega arith
+zeros (suc n) h l =
+    ap (λ t. fnvFrom (t * 16777619 % 2 ^ 32) (replicate n 0)) (xor-zero-r h)
+    ∙ zeros n (h * 16777619 % 2 ^ 32) (mod-lt (h * 16777619) {m = 2 ^ 32} (omega arith))
+    ∙ mod-times (h * 16777619) (16777619 ^ n) (2 ^ 32)
+    ∙ ap (λ t. t % 2 ^ 32) (mul-assoc h 16777619 (16777619 ^ n) ∙ ap (λ t. h * t) (sym (pow-succ' 16777619 n)))
+
+-- at once, by what they multiply by
+pub zeros-at-once : (n factor h : ℕ) → factor ≡ 16777619 ^ n % 2 ^ 32 → h < 2 ^ 32 → fnvFrom h (replicate n 0) ≡ h * factor % 2 ^ 32
+zeros-at-once n factor h e l =
+    zeros n h l
+    ∙ ap (λ t. t % 2 ^ 32) (mul-comm h (16777619 ^ n))
+    ∙ sym (mod-times (16777619 ^ n) h (2 ^ 32))
+    ∙ ap (λ t. t % 2 ^ 32) (mul-comm (16777619 ^ n % 2 ^ 32) h ∙ ap (λ t. h * t) (sym e))
+
+-- a cell of one byte; y is the hash with that byte taken in
+pub small-cell : (y r : ℕ) → y < 2 ^ 32 → r ≡ y * 637696617 % 2 ^ 32 → r ≡ fnvByte (y * 16777619 % 2 ^ 32) 0
+unfolding fnvFrom
+small-cell y r l e = e ∙ sym (zeros-at-once 2 637696617 y refl l) ∙ ap (λ t. fnvByte (t * 16777619 % 2 ^ 32) 0) (xor-zero-r y)
+
+-- ---- the words of a row
+
+pub two-hashed : (h x a b g r : ℕ) → a ≡ x % 65536 → g ≡ fnvCell h a → b ≡ x / 65536 % 65536 → r ≡ fnvCell g b → r ≡ fnvFrom h (cellBytes (splitCells 2 x))
+two-hashed h x a b g r ea eg eb er = er ∙ ap (λ t. fnvCell t b) (eg ∙ ap (fnvCell h) ea) ∙ ap (fnvCell (fnvCell h (x % 65536))) eb ∙ sym (pair-hashed h (x % 65536) (x / 65536 % 65536))
+
+pub front-hashed : (a x y s t r : ℕ) → x ≡ a % 65536 → s ≡ fnvCell 2166136261 x → t ≡ fnvFrom s (cellBytes (splitCells 2 (a / 65536))) → y ≡ a / 281474976710656 % 65536 → r ≡ fnvCell t y → r ≡ fnv1a (cellBytes (splitCells 4 a))
+front-hashed a x y s t r ex es et ey er =
+    let q : a / 281474976710656 ≡ a / 65536 / 65536 / 65536 = omega arith in
+    er
+    ∙ ap (fnvCell t) (ey ∙ ap (λ k. k % 65536) q)
+    ∙ ap (λ k. fnvCell k (a / 65536 / 65536 / 65536 % 65536)) (et ∙ ap (λ k. fnvFrom k (cellBytes (splitCells 2 (a / 65536)))) (es ∙ ap (fnvCell 2166136261) ex ∙ sym (one-cell 2166136261 (a % 65536))) ∙ sym (cells-append 2166136261 (a % 65536 ∷ []) (splitCells 2 (a / 65536))))
+    ∙ sym (one-cell (fnv1a (cellBytes (a % 65536 ∷ splitCells 2 (a / 65536)))) (a / 65536 / 65536 / 65536 % 65536))
+    ∙ sym (cells-append 2166136261 (a % 65536 ∷ splitCells 2 (a / 65536)) (a / 65536 / 65536 / 65536 % 65536 ∷ []))
+
+-- after the front: the place x, and nothing but zeros
+module _ (h b c x g : ℕ) (ex : x ≡ b % 65536) (eg : g ≡ fnvCell h x) where
+  pub bare-hashed : (r : ℕ) → g < 2 ^ 32 → b < 65536 → c ≡ 0 → r ≡ g * 1485291145 % 2 ^ 32 → r ≡ fnvFrom h (cellBytes (splitCells 4 b ++ splitCells 2 c))
+  bare-hashed r l m z e =
+      let q : b / 65536 ≡ 0 = omega arith in
+      let cells : splitCells 4 b ++ splitCells 2 c ≡ b % 65536 ∷ replicate 5 0 = rw (q, z) in
+      e
+      ∙ sym (zeros-at-once 10 1485291145 g refl l)
+      ∙ ap (λ k. fnvFrom k (replicate 10 0)) (eg ∙ ap (fnvCell h) ex ∙ sym (one-cell h (b % 65536)))
+      ∙ sym (cells-append h (b % 65536 ∷ []) (replicate 5 0))
+      ∙ ap (λ l. fnvFrom h (cellBytes l)) (sym cells)
+
+  -- or the kind y and half the payload
+  module _ (y k m : ℕ) (ey : y ≡ b / 65536 % 65536) (ek : k ≡ fnvCell g y) (em : m ≡ fnvFrom k (cellBytes (splitCells 2 (b / 4294967296)))) where
+    half-hashed : m ≡ fnvFrom h (cellBytes (splitCells 4 b))
+    half-hashed =
+        let q : b / 4294967296 ≡ b / 65536 / 65536 = omega arith in
+        em
+        ∙ ap (λ t. fnvFrom k (cellBytes (splitCells 2 t))) q
+        ∙ ap (λ t. fnvFrom t (cellBytes (splitCells 2 (b / 65536 / 65536)))) (ek ∙ ap (fnvCell g) ey ∙ ap (λ t. fnvCell t (b / 65536 % 65536)) (eg ∙ ap (fnvCell h) ex) ∙ sym (pair-hashed h (b % 65536) (b / 65536 % 65536)))
+        ∙ sym (cells-append h (b % 65536 ∷ b / 65536 % 65536 ∷ []) (splitCells 2 (b / 65536 / 65536)))
+
+    -- and no other half, or that too
+    pub low-hashed : (r : ℕ) → m < 2 ^ 32 → c ≡ 0 → r ≡ m * 1345077009 % 2 ^ 32 → r ≡ fnvFrom h (cellBytes (splitCells 4 b ++ splitCells 2 c))
+    low-hashed r l z e =
+        let cells : splitCells 2 c ≡ replicate 2 0 = rw z in
+        e
+        ∙ sym (zeros-at-once 4 1345077009 m refl l)
+        ∙ ap (λ t. fnvFrom t (replicate 4 0)) half-hashed
+        ∙ sym (cells-append h (splitCells 4 b) (replicate 2 0))
+        ∙ ap (λ l. fnvFrom h (cellBytes (splitCells 4 b ++ l))) (sym cells)
+
+    pub rest-hashed : (r : ℕ) → r ≡ fnvFrom m (cellBytes (splitCells 2 c)) → r ≡ fnvFrom h (cellBytes (splitCells 4 b ++ splitCells 2 c))
+    rest-hashed r e = e ∙ ap (λ t. fnvFrom t (cellBytes (splitCells 2 c))) half-hashed ∙ sym (cells-append h (splitCells 4 b) (splitCells 2 c))
+
+pub words-hashed : (a b c f r : ℕ) → f ≡ fnv1a (cellBytes (splitCells 4 a)) → r ≡ fnvFrom f (cellBytes (splitCells 4 b ++ splitCells 2 c)) → r ≡ rowHash (wordsCells a b c)
+words-hashed a b c f r e q = q ∙ ap (λ t. fnvFrom t (cellBytes (splitCells 4 b ++ splitCells 2 c))) e ∙ sym (cells-append 2166136261 (splitCells 4 a) (splitCells 4 b ++ splitCells 2 c))
+
+-- ten cells are those of their words
+pub cells-hashed : (cells : List ℕ) (x y z r : ℕ) → length cells ≡ rowCells → splitCells 4 x ≡ cellsAt 4 cells 0 → splitCells 4 y ≡ cellsAt 4 cells 4 → splitCells 2 z ≡ cellsAt 2 cells 8 → r ≡ rowHash (wordsCells x y z) → r ≡ rowHash cells
+cells-hashed cells x y z r l ex ey ez e =
+    let all : wordsCells x y z ≡ tab 10 (λ k. getD cells k 0) = cc (ex, ey, ez) in
+    e ∙ ap rowHash (all ∙ ap (λ n. tab n (λ k. getD cells k 0)) (sym l) ∙ tab-of 0 cells)
 
 -- The values that FNV-1a's authors publish: of the empty text, of `a`, of `foobar`.
 pub empty-text : fnv1a [] ≡ 2166136261

@@ -6,6 +6,7 @@ pub mod Numbers
 pub mod Children
 pub mod Equality
 pub mod Encoding
+pub mod WordCells
 pub mod Probing
 pub mod Searching
 pub mod Placement
@@ -24,3 +25,4 @@ pub mod Lent
 pub mod Building
 pub mod Floats
 pub mod Ready
+pub mod Nearby

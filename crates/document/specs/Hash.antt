@@ -11,6 +11,10 @@ fnvProduct h = h * 16777619 % 2 ^ 32
 abbrev pub fnvByte : ℕ → ℕ → ℕ
 fnvByte h b = fnvProduct (bitXor h b)
 
+-- a cell more, its low byte first
+abbrev pub fnvCell : ℕ → ℕ → ℕ
+fnvCell h x = fnvByte (fnvByte h (x % 256)) (x / 256)
+
 -- the bytes on, from the hash h
 unfoldable pub fnvFrom : ℕ → List ℕ → ℕ
 fnvFrom h [] = h

@@ -23,7 +23,7 @@ pub enum Placed {
 }
 
 // Room for a row more, after n.
-fn has_room(rows: &[u16], n: u16, limit: u16) -> bool
+pub(crate) fn has_room(rows: &[u16], n: u16, limit: u16) -> bool
     ensures { λ r. ⌜ r ≡ roomFor? (now (rows .entry)) n limit ⌝ }
 {
     let m = size(n);

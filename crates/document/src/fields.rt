@@ -7,6 +7,7 @@ use crate::rows::place;
 use crate::rows::symbol;
 use crate::scalar;
 use crate::scalar::Scalar;
+use crate::words::low_cell;
 use base::limits::PLACES;
 use base::limits::UNUSED;
 ghost use mathlib.Core.Path.{_≡_};
@@ -42,12 +43,6 @@ fn settled(places: [Row; PLACES]) -> [Row; PLACES]
         k += 1;
     }
     p
-}
-
-fn low_cell(x: u64) -> u16
-    ensures { λ r. ⌜ r ≡ x % 65536 ⌝ }
-{
-    (x % 65536) as u16
 }
 
 // The ten cells of a row; they hold all of it.

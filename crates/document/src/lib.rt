@@ -1,10 +1,12 @@
 // Documents: row tables, their scalars, and the index that finds an equal row while a table is built.
 pub mod rows; // rows.rt: lent rows, cell by cell
 pub mod scalar; // scalar.rt: the five kinds of scalars
+pub mod words; // words.rt: a row's cells as three numbers
 pub mod hash; // hash.rt: the hash of a row
 pub mod fields; // fields.rt: a row by value
 pub mod index; // index.rt: the index of a table's rows
 pub mod builder; // builder.rt: the table builder
+pub mod near; // near.rt: the table builder over words
 pub mod marks; // marks.rt: marks of what is used
 mod tests; // tests.rt: the four tests of a table
 
