@@ -1,118 +1,90 @@
--- Bytes of two texts that agree and stand for themselves, word by word, and the string that they are between quotes. Assumes nothing.
+-- Bytes at two places that agree and stand for themselves: one more, a word, and both together. Assumes nothing.
 use mathlib.Core.Path.{_≡_, refl, sym, ap, ap₂, _∙_, subst}
 use mathlib.Core.Bool.{true}
-use mathlib.Core.List.{List, [], _∷_, _++_, map}
-use Prim.Native.Nat.{ℕ, zero, suc, _+_, _-_, _*_, _/_, _%_, _^_, _<_, _≤_}
-use native.Mathlib.Nat.{zero-div}
+use mathlib.Core.List.{List, _∷_, [], _++_, map}
+use Prim.Native.Nat.{ℕ, _+_, _-_, _*_, _%_, _^_, _<_, _≤_}
 use native.Mathlib.Omega.{arith}
-use lib.Pow.{field, shl-shr}
+use lib.Bits.{bitOr, bitXor}
 use lib.ListN.{length, take, drop, length-take, length-drop}
 use lib.Seq.{take-take, getD-take, getD-drop}
-use Rattle.base.specs.Text.{byteAt, got}
-use Rattle.jsontext.specs.Strings.{plain?, stringAt}
+use Rattle.base.specs.Text.{byteAt}
+use Rattle.base.proofs.Bytes.{class-inside}
+use Rattle.jsontext.specs.Strings.{plain?}
 use Rattle.jsontext.specs.Decoded.{joinBytes}
+use Rattle.jsontext.specs.Kept.{Bytes}
 use Rattle.jsontext.specs.Scanned.{part}
 use Rattle.jsontext.specs.StringAnswers.{Plains, mark}
 use Rattle.jsontext.specs.Compared.{Alike}
-use Rattle.jsontext.specs.Kept.{Bytes}
-use Rattle.jsontext.proofs.Ways.{piece-closed}
-use Rattle.jsontext.proofs.PlainRuns.{plains-join}
-use Rattle.jsontext.proofs.Scanning.{part-join, scan-closed}
-use Rattle.jsontext.proofs.Joining.{bytes-tail, join-take}
-use Rattle.jsontext.proofs.Keeping.{bytes-take, bytes-drop, pow-256}
-use Rattle.jsontext.proofs.Bytewise.{plain-first}
-use Rattle.jsontext.proofs.Comparing.{led}
+use Rattle.jsontext.proofs.Joining.{join-take, join-same, pow-256, bytes-take, bytes-drop}
+use Rattle.jsontext.proofs.PlainRuns.{plains-none, plains-more, plains-join}
+use Rattle.jsontext.proofs.Bytewise.{clear, clear-below, clear-few, front-agrees, plains-below}
+use Rattle.jsontext.proofs.Scanning.{part-none, part-snoc, part-join}
 
--- ---- one stretch behind the other, at the front of the second text
-module _ (s : List ℕ) (i : ℕ) (t : List ℕ) (n m o : ℕ) (e : o ≡ n + m) (v : Alike s i t 0 n) (w : Alike s (i + n) t n m) where
-  pub alike-join : Alike s i t 0 o
-  alike-join =
-      let a : i + n + m ≡ i + o = omega arith in
-      let b : n + m ≡ 0 + o = omega arith in
-      let z : 0 + n ≡ n = omega arith in
-      let p : Plains t 0 n = subst (Plains t 0) z (v .second) in
-      record {
-        first = subst (Plains s i) a (plains-join s i (i + n) (v .first) (i + n + m) (w .first));
-        second = subst (Plains t 0) b (plains-join t 0 n p (n + m) (w .second));
-        same =
-            ap (part s i) (sym a)
-            ∙ sym (part-join s i (i + n) (i + n + m) (omega arith) (omega arith))
-            ∙ ap₂ (λ (x y : List ℕ). x ++ y) (v .same ∙ ap (part t 0) z) (w .same)
-            ∙ part-join t 0 n (n + m) (omega arith) (omega arith)
-            ∙ ap (part t 0) b;
-      }
+pub plain-inside : (t : List ℕ) (i b : ℕ) → b ≡ byteAt t i → plain? b ≡ true → i < length t
+unfolding plain?
+plain-inside t i b e f = class-inside plain? refl t i (ap plain? (sym e) ∙ f)
 
--- ---- words
--- the bytes shifted out leave the others
-shifted : (x n : ℕ) → n ≤ 8 → x * 2 ^ (64 - 8 * n) % 2 ^ 64 / 2 ^ (64 - 8 * n) ≡ x % 2 ^ (8 * n)
-shifted x n h =
-    let e : 64 ≡ 8 * n + (64 - 8 * n) = omega arith in
-    ap (λ (k : ℕ). x * 2 ^ (64 - 8 * n) % 2 ^ k / 2 ^ (64 - 8 * n)) e
-    ∙ field (x * 2 ^ (64 - 8 * n)) (8 * n) (64 - 8 * n)
-    ∙ ap (λ (k : ℕ). k % 2 ^ (8 * n)) (shl-shr x (64 - 8 * n))
+module _ (s : List ℕ) (i : ℕ) (t : List ℕ) (j : ℕ) where
+  -- what stands for itself at one place does so at the other
+  alike-of : (n : ℕ) → Plains s i (i + n) → part s i (i + n) ≡ part t j (j + n) → j + n ≤ length t → Alike s i t j n
+  alike-of n p e h = record { first = p; second = record { forward = omega arith; inside = h; each = λ k a b. go k a b }; same = e }
+    where
+      at-part : (u : List ℕ) (x d : ℕ) → d < n → byteAt (part u x (x + n)) d ≡ byteAt u (x + d)
+      at-part u x d l = getD-take (x + n - x) (drop x u) d 0 (omega arith) ∙ getD-drop x u d 0
 
-joined-same : (xs ys : List ℕ) → Bytes xs → Bytes ys → length xs ≡ length ys → joinBytes xs ≡ joinBytes ys → xs ≡ ys
-joined-same [] [] p q h e = refl
-joined-same [] (y ∷ ys) p q h e = absurd (omega arith)
-joined-same (x ∷ xs) [] p q h e = absurd (omega arith)
-joined-same (x ∷ xs) (y ∷ ys) p q h e =
-    let a : x < 256 = p 0 (omega arith) in
-    let b : y < 256 = q 0 (omega arith) in
-    let c : x ≡ y = omega arith in
-    let d : joinBytes xs ≡ joinBytes ys = omega arith in
-    ap₂ (λ (z : ℕ) (zs : List ℕ). z ∷ zs) c (joined-same xs ys (bytes-tail x xs p) (bytes-tail y ys q) (omega arith) d)
+      go : (k : ℕ) → j ≤ k → k < j + n → plain? (byteAt t k) ≡ true
+      go k a b =
+          let z : j + (k - j) ≡ k = omega arith in
+          let l : k - j < n = omega arith in
+          let q : byteAt s (i + (k - j)) ≡ byteAt t k = sym (at-part s i (k - j) l) ∙ ap (λ (y : List ℕ). byteAt y (k - j)) e ∙ at-part t j (k - j) l ∙ ap (byteAt t) z in
+          ap plain? (sym q) ∙ p .each (i + (k - j)) (omega arith) (omega arith)
 
--- the first n of eight bytes at two places
-module _ (s : List ℕ) (i : ℕ) (t : List ℕ) (j n : ℕ) (few : n ≤ 8) (first : i + 8 ≤ length s) (second : j + 8 ≤ length t) where
-  eight : (l : List ℕ) (k : ℕ) → k + 8 ≤ length l → length (take n (drop k l)) ≡ n
-  eight l k h = omega (arith, length-take n (drop k l), length-drop k l)
+  pub alike-none : i ≤ length s → j ≤ length t → Alike s i t j 0
+  alike-none h k =
+      let x : i ≡ i + 0 = omega arith in
+      let y : j ≡ j + 0 = omega arith in
+      alike-of 0 (subst (Plains s i) x (plains-none s i h)) (ap (part s i) (sym x) ∙ part-none s i ∙ sym (part-none t j) ∙ ap (part t j) y) (omega arith)
 
-  low : (l : List ℕ) (k w : ℕ) → Bytes l → w ≡ joinBytes (take 8 (drop k l)) → w % 2 ^ (8 * n) ≡ joinBytes (take n (drop k l))
-  low l k w b e =
-      ap₂ (λ (x y : ℕ). x % y) e (pow-256 n)
-      ∙ sym (join-take n (take 8 (drop k l)) (bytes-take 8 (drop k l) (bytes-drop k l b)))
-      ∙ ap joinBytes (take-take n 8 (drop k l) few)
+  pub alike-join : (n m : ℕ) → Alike s i t j n → Alike s (i + n) t (j + n) m → Alike s i t j (n + m)
+  alike-join n m v w =
+      let x : i + n + m ≡ i + (n + m) = omega arith in
+      let y : j + n + m ≡ j + (n + m) = omega arith in
+      alike-of (n + m) (subst (Plains s i) x (plains-join s i (i + n) (v .first) (i + n + m) (w .first)))
+      (ap (part s i) (sym x) ∙ sym (part-join s i (i + n) (i + n + m) (v .first .forward) (w .first .forward))
+      ∙ ap₂ (λ (a b : List ℕ). a ++ b) (v .same) (w .same)
+      ∙ part-join t j (j + n) (j + n + m) (v .second .forward) (w .second .forward) ∙ ap (part t j) y)
+      (omega (arith, w .second .inside))
 
-  module _ (p : Bytes s) (q : Bytes t) (v w : ℕ) (e : v ≡ joinBytes (take 8 (drop i s))) (f : w ≡ joinBytes (take 8 (drop j t)))
-      (same : v * 2 ^ (64 - 8 * n) % 2 ^ 64 ≡ w * 2 ^ (64 - 8 * n) % 2 ^ 64) where
-    agree : take n (drop i s) ≡ take n (drop j t)
-    agree =
-        joined-same (take n (drop i s)) (take n (drop j t)) (bytes-take n (drop i s) (bytes-drop i s p)) (bytes-take n (drop j t) (bytes-drop j t q)) (eight s i first ∙ sym (eight t j second))
-        (sym (low s i v p e) ∙ sym (shifted v n few) ∙ ap (λ (k : ℕ). k / 2 ^ (64 - 8 * n)) same ∙ shifted w n few ∙ low t j w q f)
+  pub alike-more : (n b d : ℕ) → Alike s i t j n → b ≡ byteAt s (i + n) → plain? b ≡ true → d ≡ byteAt t (j + n) → d ≡ b → Alike s i t j (n + 1)
+  alike-more n b d v e f g q =
+      let x : i + n < length s = plain-inside s (i + n) b e f in
+      let y : j + n < length t = plain-inside t (j + n) b (sym q ∙ g) f in
+      let k : i + n + 1 ≡ i + (n + 1) = omega arith in
+      let l : j + n + 1 ≡ j + (n + 1) = omega arith in
+      alike-of (n + 1) (subst (Plains s i) k (plains-more s i (i + n) (v .first) x (ap plain? (sym e) ∙ f)))
+      (ap (part s i) (sym k) ∙ part-snoc s i (i + n) (v .first .forward) x
+      ∙ ap₂ (λ (a : List ℕ) (z : ℕ). a ++ z ∷ []) (v .same) (sym e ∙ sym q ∙ g)
+      ∙ sym (part-snoc t j (j + n) (v .second .forward) y) ∙ ap (part t j) l)
+      (omega arith)
 
-    module _ (m : ℕ) (g : m ≡ joinBytes (map mark (take 8 (drop j t)))) (none : m * 2 ^ (64 - 8 * n) % 2 ^ 64 ≡ 0) where
-      plain-there : (k : ℕ) → k < n → plain? (byteAt (drop j t) k) ≡ true
-      plain-there k h =
-          let z : m % 2 ^ (8 * n) ≡ 0 = sym (shifted m n few) ∙ ap (λ (x : ℕ). x / 2 ^ (64 - 8 * n)) none ∙ zero-div (2 ^ (64 - 8 * n)) in
-          ap plain? (sym (getD-take 8 (drop j t) k 0 (omega arith)))
-          ∙ plain-first (take 8 (drop j t)) m g n z k h (omega (arith, length-take 8 (drop j t), length-drop j t))
-
-      -- the same byte stands at both places
-      both : (k : ℕ) → k < n → byteAt (drop i s) k ≡ byteAt (drop j t) k
-      both k h = sym (getD-take n (drop i s) k 0 h) ∙ ap (λ (l : List ℕ). byteAt l k) agree ∙ getD-take n (drop j t) k 0 h
-
-      plains-at : (l : List ℕ) (a : ℕ) → a + 8 ≤ length l → ((k : ℕ) → k < n → plain? (byteAt (drop a l) k) ≡ true) → Plains l a (a + n)
-      plains-at l a h f = record { forward = omega arith; inside = omega arith; each = λ k b c. go k b (omega arith) }
-        where
-          go : (k : ℕ) → a ≤ k → k - a < n → plain? (byteAt l k) ≡ true
-          go k b c =
-              let z : a + (k - a) ≡ k = omega arith in
-              ap (λ (x : ℕ). plain? (byteAt l x)) (sym z) ∙ ap plain? (sym (getD-drop a l (k - a) 0)) ∙ f (k - a) c
-
-      pub alike-word : Alike s i t j n
-      alike-word =
-          let a : i + n - i ≡ n = omega arith in
-          let b : j + n - j ≡ n = omega arith in
-          record {
-            first = plains-at s i first (λ k h. ap plain? (both k h) ∙ plain-there k h);
-            second = plains-at t j second plain-there;
-            same = ap (λ (k : ℕ). take k (drop i s)) a ∙ agree ∙ ap (λ (k : ℕ). take k (drop j t)) (sym b);
-          }
-
--- ---- between quotes
-pub between-quotes : (t : List ℕ) (at : ℕ) (bytes : List ℕ) (n : ℕ) → byteAt t at ≡ 34 → byteAt t (at + n + 1) ≡ 34 → Alike t (at + 1) bytes 0 n → stringAt t at ≡ got (take n bytes) (at + n + 2)
-between-quotes t at bytes n e f v =
-    let z : at + 1 + n ≡ at + n + 1 = omega arith in
-    let y : at + 1 + n + 1 ≡ at + n + 2 = omega arith in
-    let closed-here = sym (piece-closed t (at + 1 + n) (byteAt t (at + 1 + n)) refl (ap (byteAt t) z ∙ f)) in
-    scan-closed t at (at + 1 + n) (take n bytes) (led t at (byteAt t at) refl e bytes n v .scanned) closed-here ∙ ap (got (take n bytes)) y
+  -- words: up to the lowest bit that tells them apart or marks a byte
+  pub alike-word : (v w m : ℕ) → Bytes s → Bytes t → i + 8 ≤ length s → j + 8 ≤ length t → v ≡ joinBytes (take 8 (drop i s)) → w ≡ joinBytes (take 8 (drop j t))
+      → m ≡ joinBytes (map mark (take 8 (drop i s))) → Alike s i t j (clear (bitOr (bitXor v w) m))
+  alike-word v w m b d h k e f g =
+      let z = clear (bitOr (bitXor v w) m) in
+      let few : z ≤ 8 = clear-few (bitOr (bitXor v w) m) in
+      let (agree, none) = front-agrees v w m (8 * z) (clear-below (bitOr (bitXor v w) m)) in
+      let fronts : joinBytes (take z (drop i s)) ≡ joinBytes (take z (drop j t)) =
+      front s i v b e z few ∙ ap (λ (p : ℕ). v % p) (sym (pow-256 z)) ∙ agree ∙ ap (λ (p : ℕ). w % p) (pow-256 z) ∙ sym (front t j w d f z few) in
+      let same : take z (drop i s) ≡ take z (drop j t) =
+      join-same (take z (drop i s)) (take z (drop j t)) (bytes-take z (drop i s) (bytes-drop i s b)) (bytes-take z (drop j t) (bytes-drop j t d))
+      (omega (arith, length-take z (drop i s), length-drop i s, length-take z (drop j t), length-drop j t)) fronts in
+      let x : i + z - i ≡ z = omega arith in
+      let y : z ≡ j + z - j = omega arith in
+      alike-of z (plains-below s i m h g z few none)
+      (ap (λ (n : ℕ). take n (drop i s)) x ∙ same ∙ ap (λ (n : ℕ). take n (drop j t)) y)
+      (omega arith)
+    where
+      front : (u : List ℕ) (a n : ℕ) → Bytes u → n ≡ joinBytes (take 8 (drop a u)) → (z : ℕ) → z ≤ 8 → joinBytes (take z (drop a u)) ≡ n % 256 ^ z
+      front u a n c q z l =
+          ap joinBytes (sym (take-take z 8 (drop a u) l)) ∙ join-take z (take 8 (drop a u)) (bytes-take 8 (drop a u) (bytes-drop a u c)) ∙ ap (λ (k : ℕ). k % 256 ^ z) (sym q)

@@ -6,8 +6,8 @@ use Prim.Native.Nat.{ℕ, zero, suc, _+_, _-_, _*_, _/_, _%_, _^_, _<_, _≤_}
 use native.Mathlib.Nat.{zero-mod}
 use native.Mathlib.Numerals.{add-one}
 use native.Mathlib.Omega.{arith}
-use lib.Bits.{bitAnd, bitOr, bitXor, and-block, or-block, xor-block, and-lt, and-le-r, or-lt, xor-lt}
-use lib.Count.{under, trailingZeros, trailing-le, trailing-of-zero}
+use lib.Bits.{bitAnd, bitOr, bitXor, and-block, or-block, xor-block, and-lt, and-le-l, and-le-r, or-lt, xor-lt, or-mod, xor-mod, or-add-and, xor-add-and}
+use lib.Count.{under, trailingZeros, trailing-le}
 use lib.Pow.{mod-pow-add, mod-mod-pow}
 use lib.ListN.{length, take, drop, getD, replicate, length-take, length-drop}
 use lib.Seq.{getD-take, getD-drop}
@@ -18,8 +18,7 @@ use Rattle.jsontext.specs.Strings.{plain?}
 use Rattle.jsontext.specs.Decoded.{joinBytes}
 use Rattle.jsontext.specs.Kept.{Bytes}
 use Rattle.jsontext.specs.StringAnswers.{Plains, mark}
-use Rattle.jsontext.proofs.Joining.{bytes-tail, join-take}
-use Rattle.jsontext.proofs.Keeping.{bytes-take, bytes-drop, pow-256}
+use Rattle.jsontext.proofs.Joining.{bytes-tail, join-take, bytes-take, bytes-drop, pow-256}
 
 -- ---- a word whose bytes are a function of the bytes xs
 pub record Spread (xs : List ℕ) (n : ℕ) (f : ℕ → ℕ) : Type 0 where
@@ -168,11 +167,11 @@ module _ (xs : List ℕ) (m : ℕ) (e : m ≡ joinBytes (map mark xs)) where
       go (y ∷ ys) zero l = mark-small y
       go (y ∷ ys) (suc i) l = go ys i (omega arith)
 
-  -- the first n bytes, where the marks of n are none
-  pub plain-first : (n : ℕ) → m % 2 ^ (8 * n) ≡ 0 → (k : ℕ) → k < n → k < length xs → plain? (byteAt xs k) ≡ true
-  plain-first n b k h l =
-      let c : joinBytes (take n (map mark xs)) ≡ 0 = join-take n (map mark xs) marks-bytes ∙ ap₂ (λ (x y : ℕ). x % y) (sym e) (sym (pow-256 n)) ∙ b in
-      let d : byteAt (map mark xs) k ≡ 0 = sym (getD-take n (map mark xs) k 0 h) ∙ zero-bytes (take n (map mark xs)) c k in
+  -- so many bytes have no mark
+  pub plain-below : (z : ℕ) → m % 2 ^ (8 * z) ≡ 0 → (k : ℕ) → k < length xs → k < z → plain? (byteAt xs k) ≡ true
+  plain-below z none k l h =
+      let c : joinBytes (take z (map mark xs)) ≡ 0 = join-take z (map mark xs) marks-bytes ∙ ap₂ (λ (x y : ℕ). x % y) (sym e) (sym (pow-256 z)) ∙ none in
+      let d : byteAt (map mark xs) k ≡ 0 = sym (getD-take z (map mark xs) k 0 h) ∙ zero-bytes (take z (map mark xs)) c k in
       mark-none (byteAt xs k) (sym (mark-at xs k l) ∙ d)
     where
       mark-at : (ys : List ℕ) (i : ℕ) → i < length ys → byteAt (map mark ys) i ≡ mark (byteAt ys i)
@@ -180,13 +179,19 @@ module _ (xs : List ℕ) (m : ℕ) (e : m ≡ joinBytes (map mark xs)) where
       mark-at (y ∷ ys) zero l = refl
       mark-at (y ∷ ys) (suc i) l = mark-at ys i (omega arith)
 
-  pub plain-below : (k : ℕ) → k < length xs → k < trailingZeros 64 m / 8 → plain? (byteAt xs k) ≡ true
-  plain-below k l h =
-      let z = trailingZeros 64 m in
-      let s : z ≡ z - 8 * (k + 1) + 8 * (k + 1) = omega arith in
-      let a : m % 2 ^ (z - 8 * (k + 1) + 8 * (k + 1)) ≡ 0 = ap (λ (n : ℕ). m % 2 ^ n) (sym s) ∙ zeros-below 64 m in
-      let b : m % 2 ^ (8 * (k + 1)) ≡ 0 = sym (mod-mod-pow m (z - 8 * (k + 1)) (8 * (k + 1))) ∙ ap (λ (n : ℕ). n % 2 ^ (8 * (k + 1))) a ∙ zero-mod (2 ^ (8 * (k + 1))) in
-      plain-first (k + 1) b k (omega arith) l
+-- the whole bytes below the lowest bit that is set
+abbrev pub clear : ℕ → ℕ
+clear n = trailingZeros 64 n / 8
+
+pub clear-below : (n : ℕ) → n % 2 ^ (8 * clear n) ≡ 0
+clear-below n =
+    let z = trailingZeros 64 n in
+    let s : z ≡ z - 8 * (z / 8) + 8 * (z / 8) = omega arith in
+    let a : n % 2 ^ (z - 8 * (z / 8) + 8 * (z / 8)) ≡ 0 = ap (λ (k : ℕ). n % 2 ^ k) (sym s) ∙ zeros-below 64 n in
+    sym (mod-mod-pow n (z - 8 * (z / 8)) (8 * (z / 8))) ∙ ap (λ (k : ℕ). k % 2 ^ (8 * (z / 8))) a ∙ zero-mod (2 ^ (8 * (z / 8)))
+
+pub clear-few : (n : ℕ) → clear n ≤ 8
+clear-few n = omega (arith, trailing-le 64 n)
 
 -- the same of the word at a place of a text
 word-eight : (t : List ℕ) (i : ℕ) → i + 8 ≤ length t → length (take 8 (drop i t)) ≡ 8
@@ -197,15 +202,26 @@ pub word-marked : (t : List ℕ) (i w m : ℕ) → Bytes t → i + 8 ≤ length 
 word-marked t i w m v h e f = f (take 8 (drop i t)) (word-eight t i h) (bytes-take 8 (drop i t) (bytes-drop i t v)) e
 
 module _ (t : List ℕ) (i m : ℕ) (h : i + 8 ≤ length t) (e : m ≡ joinBytes (map mark (take 8 (drop i t)))) where
-  pub plains-front : Plains t i (i + trailingZeros 64 m / 8)
-  plains-front = let b = trailing-le 64 m in record { forward = omega arith; inside = omega arith; each = λ k a l. go k a (omega arith) (omega arith) }
+  pub plains-below : (z : ℕ) → z ≤ 8 → m % 2 ^ (8 * z) ≡ 0 → Plains t i (i + z)
+  plains-below z few none = record { forward = omega arith; inside = omega arith; each = λ k a l. go k a (omega arith) (omega arith) }
     where
-      go : (k : ℕ) → i ≤ k → k - i < 8 → k - i < trailingZeros 64 m / 8 → plain? (byteAt t k) ≡ true
+      go : (k : ℕ) → i ≤ k → k - i < 8 → k - i < z → plain? (byteAt t k) ≡ true
       go k a l g =
           let s : i + (k - i) ≡ k = omega arith in
           let q : byteAt (take 8 (drop i t)) (k - i) ≡ byteAt t k = getD-take 8 (drop i t) (k - i) 0 l ∙ getD-drop i t (k - i) 0 ∙ ap (byteAt t) s in
-          ap plain? (sym q) ∙ plain-below (take 8 (drop i t)) m e (k - i) (omega (arith, word-eight t i h)) g
+          ap plain? (sym q) ∙ plain-below (take 8 (drop i t)) m e z none (k - i) (omega (arith, word-eight t i h)) g
 
-  -- no mark
-  pub plains-word : m ≡ 0 → Plains t i (i + 8)
-  plains-word z = subst (λ (n : ℕ). Plains t i (i + n / 8)) (ap (trailingZeros 64) z ∙ trailing-of-zero 64) plains-front
+  pub plains-front : Plains t i (i + clear m)
+  plains-front = plains-below (clear m) (clear-few m) (clear-below m)
+
+-- ---- words that agree below the lowest bit that is set in what tells them apart, or in the marks
+or-none : (a b : ℕ) → bitOr a b ≡ 0 → (a ≡ 0) × (b ≡ 0)
+or-none a b e = (omega (arith, or-add-and a b, and-le-r a b), omega (arith, or-add-and a b, and-le-l a b))
+
+xor-none : (a b : ℕ) → bitXor a b ≡ 0 → a ≡ b
+xor-none a b e = omega (arith, xor-add-and a b, and-le-r a b, and-le-l a b)
+
+pub front-agrees : (v w m z : ℕ) → bitOr (bitXor v w) m % 2 ^ z ≡ 0 → (v % 2 ^ z ≡ w % 2 ^ z) × (m % 2 ^ z ≡ 0)
+front-agrees v w m z e =
+    let (x, y) = or-none (bitXor v w % 2 ^ z) (m % 2 ^ z) (sym (or-mod (bitXor v w) m z) ∙ e) in
+    (xor-none (v % 2 ^ z) (w % 2 ^ z) (sym (xor-mod v w z) ∙ x), y)

@@ -20,7 +20,7 @@ use Rattle.jsontext.proofs.HexProductions.{first-read, read-first, seco
 
 -- BYTES THAT STAND FOR THEMSELVES
 module _ (b : ℕ) where
-  plain-range : unescaped? b ≡ true → (32 ≤ b) × (b < 128) × (eqb b 34 ≡ false) × (eqb b 92 ≡ false)
+  pub plain-range : unescaped? b ≡ true → (32 ≤ b) × (b < 128) × (eqb b 34 ≡ false) × (eqb b 92 ≡ false)
   unfolding unescaped?
   plain-range =
       either (between 32 33 b) (between 35 91 b || between 93 127 b) (λ e. let r = in-range 32 33 b e in (omega arith, omega arith, ne-eqb b 34 (λ z. omega arith), ne-eqb b 92 (λ z. omega arith)))
@@ -58,7 +58,7 @@ module _ (c b : ℕ) (h : In (c, b) letters) where
   unfolding simple
   letter-same = eqb-true (simple c) b (not-false _ (row (λ r. not (eqb (simple (r .0)) (r .1))) refl))
 
-  letter-one : utf8 b ≡ b ∷ []
+  pub letter-one : utf8 b ≡ b ∷ []
   unfolding utf8
   letter-one = let e : ltb b 128 ≡ true = not-false _ (row (λ r. not (ltb (r .1) 128)) refl) in rw e
 

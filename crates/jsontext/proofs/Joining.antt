@@ -1,12 +1,13 @@
 -- Bytes joined into a number, the first lowest: its digits to base 256 are the bytes. Assumes nothing.
-use mathlib.Core.Path.{_≡_, sym, ap, _∙_}
+use mathlib.Core.Path.{_≡_, refl, sym, ap, ap₂, _∙_, subst}
 use mathlib.Core.List.{List, [], _∷_, _++_}
 use Prim.Native.Nat.{ℕ, zero, suc, _+_, _-_, _*_, _/_, _%_, _^_, _<_, _≤_}
 use native.Mathlib.Nat.{pow-suc, one-le-pow, mul-assoc}
 use native.Mathlib.Omega.{arith}
 use lib.Arith.{digits-div, digits-mod}
-use lib.ListN.{length, take, drop}
-use lib.Seq.{drop-cons}
+use lib.Pow.{pow-add, shl-exact}
+use lib.ListN.{length, take, drop, length-take, length-drop}
+use lib.Seq.{drop-cons, take-all, take-take, getD-take, getD-drop}
 use Rattle.base.specs.Text.{byteAt}
 use Rattle.jsontext.specs.Decoded.{joinBytes}
 use Rattle.jsontext.specs.Kept.{Bytes}
@@ -58,10 +59,75 @@ module _ (k : ℕ) (xs : List ℕ) (h : Bytes xs) where
   pub join-drop : joinBytes (drop k xs) ≡ joinBytes xs / 256 ^ k
   join-drop = sym (ap (λ (n : ℕ). n / 256 ^ k) (join-split k xs) ∙ digits-div (joinBytes (drop k xs)) (join-below k xs h))
 
--- a byte behind them
-pub join-snoc : (xs : List ℕ) (b : ℕ) → joinBytes (xs ++ b ∷ []) ≡ b * 256 ^ length xs + joinBytes xs
-join-snoc [] b = omega arith
-join-snoc (x ∷ xs) b =
-    let e = join-snoc xs b in
-    let f : b * 256 ^ suc (length xs) ≡ b * 256 ^ length xs * 256 = rw (pow-suc 256 (length xs)) (sym (mul-assoc b (256 ^ length xs) 256)) in
+-- others behind them
+pub join-append : (xs ys : List ℕ) → joinBytes (xs ++ ys) ≡ joinBytes ys * 256 ^ length xs + joinBytes xs
+join-append [] ys = omega arith
+join-append (x ∷ xs) ys =
+    let e = join-append xs ys in
+    let f : joinBytes ys * 256 ^ suc (length xs) ≡ joinBytes ys * 256 ^ length xs * 256 = rw (pow-suc 256 (length xs)) (sym (mul-assoc (joinBytes ys) (256 ^ length xs) 256)) in
     omega arith
+
+pub join-whole : (n : ℕ) (xs : List ℕ) → Bytes xs → length xs ≤ n → joinBytes xs < 256 ^ n
+join-whole n xs h l = subst (λ (ys : List ℕ). joinBytes ys < 256 ^ n) (take-all n xs l) (join-below n xs h)
+
+-- as many bytes that come to the same number are the same
+pub join-same : (xs ys : List ℕ) → Bytes xs → Bytes ys → length xs ≡ length ys → joinBytes xs ≡ joinBytes ys → xs ≡ ys
+join-same [] [] h k l e = refl
+join-same [] (y ∷ ys) h k l e = absurd (omega arith)
+join-same (x ∷ xs) [] h k l e = absurd (omega arith)
+join-same (x ∷ xs) (y ∷ ys) h k l e =
+    let a : x < 256 = h 0 (omega arith) in
+    let b : y < 256 = k 0 (omega arith) in
+    let q : x ≡ y = omega arith in
+    let r : joinBytes xs ≡ joinBytes ys = omega arith in
+    ap₂ (λ (z : ℕ) (zs : List ℕ). z ∷ zs) q (join-same xs ys (bytes-tail x xs h) (bytes-tail y ys k) (omega arith) r)
+
+-- a power of 2 as one of 256
+pub pow-256 : (k : ℕ) → 2 ^ (8 * k) ≡ 256 ^ k
+pow-256 zero = refl
+pow-256 (suc k) = let z : 8 * suc k ≡ 8 * k + 8 = omega arith in rw (z, pow-add 2 (8 * k) 8, pow-256 k, pow-suc 256 k)
+
+-- ---- parts of bytes are bytes
+pub bytes-drop : (n : ℕ) (bs : List ℕ) → Bytes bs → Bytes (drop n bs)
+bytes-drop n bs h i l = let e : n + i < length bs = omega (arith, length-drop n bs) in rw (getD-drop n bs i 0) (h (n + i) e)
+
+pub bytes-take : (n : ℕ) (bs : List ℕ) → Bytes bs → Bytes (take n bs)
+bytes-take n bs h i l =
+    let e = length-take n bs in
+    let p : i < n = omega arith in
+    let q : i < length bs = omega arith in
+    rw (getD-take n bs i 0 p) (h i q)
+
+pub bytes-none : Bytes []
+bytes-none i l = absurd (omega arith)
+
+pub bytes-cons : (b : ℕ) (bs : List ℕ) → b < 256 → Bytes bs → Bytes (b ∷ bs)
+bytes-cons b bs h k = λ i. go i
+  where
+    go : (i : ℕ) → i < suc (length bs) → byteAt (b ∷ bs) i < 256
+    go zero l = h
+    go (suc i) l = k i (omega arith)
+
+pub bytes-append : (xs ys : List ℕ) → Bytes xs → Bytes ys → Bytes (xs ++ ys)
+bytes-append [] ys h k = k
+bytes-append (x ∷ xs) ys h k = bytes-cons x (xs ++ ys) (h 0 (omega arith)) (bytes-append xs ys (bytes-tail x xs h) k)
+
+-- a byte anywhere, past the end too
+pub byte-anywhere : (bs : List ℕ) → Bytes bs → (i : ℕ) → byteAt bs i < 256
+byte-anywhere [] h i = omega arith
+byte-anywhere (b ∷ bs) h zero = h 0 (omega arith)
+byte-anywhere (b ∷ bs) h (suc i) = byte-anywhere bs (bytes-tail b bs h) i
+
+-- ---- the lowest n bytes of a word
+module _ (n : ℕ) (h : n < 8) where
+  one-shifted : 1 * 2 ^ (8 * n) % 2 ^ 64 ≡ 256 ^ n
+  one-shifted = shl-exact 1 (8 * n) 64 (omega arith) (omega arith) ∙ rw (pow-256 n) (omega arith)
+
+  pub cut-some : 0 < 1 * 2 ^ (8 * n) % 2 ^ 64
+  cut-some = rw one-shifted (one-le-pow n 256 (omega arith))
+
+pub word-cut : (t : List ℕ) → Bytes t → (i n w : ℕ) → n < 8 → w ≡ joinBytes (take 8 (drop i t)) → w % (1 * 2 ^ (8 * n) % 2 ^ 64) ≡ joinBytes (take n (drop i t))
+word-cut t v i n w h e =
+    ap (λ (m : ℕ). w % m) (one-shifted n h) ∙ ap (λ (m : ℕ). m % 256 ^ n) e
+    ∙ sym (join-take n (take 8 (drop i t)) (bytes-take 8 (drop i t) (bytes-drop i t v)))
+    ∙ ap joinBytes (take-take n 8 (drop i t) (omega arith))

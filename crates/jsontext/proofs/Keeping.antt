@@ -1,144 +1,188 @@
--- What is kept of bytes, one byte more at a time, and the slot that comes of it. Assumes nothing.
+-- What is kept of bytes as more come behind them, and the slot that comes of it. Assumes nothing.
 use mathlib.Core.Path.{_≡_, refl, sym, ap, ap₂, _∙_, subst}
-use mathlib.Core.Logic.{_⊎_, inl, inr}
-use mathlib.Core.List.{List, [], _∷_, _++_}
-use Prim.Native.Nat.{ℕ, zero, suc, _+_, _-_, _*_, _/_, _%_, _^_, _<_, _≤_}
-use native.Mathlib.Nat.{pow-suc, mod-eq-of-lt, eq-or-lt-of-le}
+use mathlib.Core.List.{List, [], _∷_, _++_, append-assoc, append-nil}
+use Prim.Native.Nat.{ℕ, zero, suc, _+_, _-_, _*_, _/_, _%_, _^_, _<_, _≤_, min}
+use native.Mathlib.Nat.{mul-mod-left}
 use native.Mathlib.Omega.{arith}
 use lib.Bits.{bitOr, or-shifted-r}
-use lib.Pow.{pow-add, shl-exact}
-use lib.ListN.{length, take, drop, length-append, length-take, length-drop, List·getD-append}
-use lib.Seq.{drop-cons, take-nil, take-all, take-length, take-take, take-append-le, drop-append-le, drop-drop, getD-take, getD-drop, getD-append-seam}
-use Rattle.document.specs.Hash.{fnv1a}
+use lib.Pow.{shl-exact, shl-shr, shr-lt, mod-pow-add}
+use lib.ListN.{length, take, drop, replicate, length-append, length-take, length-drop}
+use lib.Seq.{drop-cons, take-nil, take-all, take-length, take-take, take-append-le, take-append-add, drop-append-le, drop-append-add, drop-drop}
 use Rattle.base.specs.Text.{byteAt}
-use Rattle.jsontext.specs.Decoded.{joinBytes, textHash, textSlot}
+use Rattle.jsontext.specs.Decoded.{joinBytes, firstEight, lastEight, hashed, textSlot}
 use Rattle.jsontext.specs.declared.slots.Kept.{Kept}
 use Rattle.jsontext.specs.Kept.{Bytes, Keeps}
-use Rattle.jsontext.proofs.Joining.{join-below, join-take, join-drop, join-snoc}
+use Rattle.jsontext.specs.Scanned.{part}
+use Rattle.jsontext.proofs.Joining.{join-take, join-drop, join-append, join-whole, pow-256, bytes-take, bytes-drop, bytes-append}
 
 abbrev kept : ℕ → ℕ → ℕ → ℕ → Kept
 kept n f a z = record { count = n; few = f; first = a; last = z }
 
--- ---- parts of bytes are bytes
-pub bytes-drop : (n : ℕ) (bs : List ℕ) → Bytes bs → Bytes (drop n bs)
-bytes-drop n bs h i l = let e : n + i < length bs = omega (arith, length-drop n bs) in rw (getD-drop n bs i 0) (h (n + i) e)
+pub few-kept : (bs : List ℕ) (k : Kept) → Keeps bs k → k .few ≤ 8
+few-kept bs k v = omega (arith, v .few)
 
-pub bytes-take : (n : ℕ) (bs : List ℕ) → Bytes bs → Bytes (take n bs)
-bytes-take n bs h i l =
-    let e = length-take n bs in
-    let p : i < n = omega arith in
-    let q : i < length bs = omega arith in
-    rw (getD-take n bs i 0 p) (h i q)
+-- ---- the last eight of bytes and more bytes
+abbrev ending : List ℕ → List ℕ
+ending bs = drop (length bs) (replicate 8 0 ++ bs)
 
-bytes-more : (bs : List ℕ) (b : ℕ) → Bytes bs → b < 256 → Bytes (bs ++ b ∷ [])
-bytes-more bs b h k i l = let e : i ≤ length bs = omega (arith, length-append bs (b ∷ [])) in go (eq-or-lt-of-le e)
+ending-eight : (bs : List ℕ) → length (ending bs) ≡ 8
+ending-eight bs = omega (arith, length-drop (length bs) (replicate 8 0 ++ bs), length-append (replicate 8 0) bs)
+
+ending-bytes : (bs : List ℕ) → Bytes bs → Bytes (ending bs)
+ending-bytes bs h = bytes-drop (length bs) (replicate 8 0 ++ bs) (bytes-append (replicate 8 0) bs none h)
   where
-    go : (i ≡ length bs) ⊎ (i < length bs) → byteAt (bs ++ b ∷ []) i < 256
-    go (inl q) = rw (q, getD-append-seam bs b [] 0) k
-    go (inr q) = rw (List·getD-append bs (b ∷ []) 0 i q) (h i q)
+    none : Bytes (replicate 8 0)
+    none i l = go 8 i
+      where
+        go : (n i : ℕ) → byteAt (replicate n 0) i < 256
+        go zero i = omega arith
+        go (suc n) zero = omega arith
+        go (suc n) (suc i) = go n i
 
--- four bytes and four more, of eight
+module _ (bs xs : List ℕ) where
+  ending-more : ending (bs ++ xs) ≡ drop (length xs) (ending bs ++ xs)
+  ending-more =
+      let l : length (bs ++ xs) ≡ length bs + length xs = length-append bs xs in
+      let a : drop (length bs) ((replicate 8 0 ++ bs) ++ xs) ≡ ending bs ++ xs = drop-append-le (length bs) (replicate 8 0 ++ bs) xs (omega (arith, length-append (replicate 8 0) bs)) in
+      ap (λ (n : ℕ). drop n (replicate 8 0 ++ bs ++ xs)) l
+      ∙ ap (drop (length bs + length xs)) (sym (append-assoc (replicate 8 0) bs xs))
+      ∙ sym (drop-drop (length xs) (length bs) ((replicate 8 0 ++ bs) ++ xs))
+      ∙ ap (drop (length xs)) a
+
+  -- eight or more: theirs
+  pub last-long : 8 ≤ length xs → lastEight (bs ++ xs) ≡ joinBytes (drop (length xs - 8) xs)
+  last-long h =
+      let n : length xs ≡ length (ending bs) + (length xs - 8) = omega (arith, ending-eight bs) in
+      ap joinBytes (ending-more ∙ ap (λ (m : ℕ). drop m (ending bs ++ xs)) n ∙ drop-append-add (ending bs) xs (length xs - 8))
+
+  -- fewer: those before move up
+  last-few : Bytes bs → length xs ≤ 8 → lastEight (bs ++ xs) ≡ joinBytes xs * 256 ^ (8 - length xs) + lastEight bs / 256 ^ length xs
+  last-few v h =
+      let m : length (drop (length xs) (ending bs)) ≡ 8 - length xs = omega (arith, length-drop (length xs) (ending bs), ending-eight bs) in
+      ap joinBytes (ending-more ∙ drop-append-le (length xs) (ending bs) xs (omega (arith, ending-eight bs)))
+      ∙ join-append (drop (length xs) (ending bs)) xs
+      ∙ ap₂ (λ (p q : ℕ). joinBytes xs * 256 ^ p + q) m (join-drop (length xs) (ending bs) (ending-bytes bs v))
+
+  -- the same by shifts
+  pub last-shifted : (w n z : ℕ) → Bytes bs → Bytes xs → n ≡ length xs → n < 8 → w ≡ joinBytes xs → z ≡ lastEight bs
+      → bitOr (z / 2 ^ (8 * n)) (w * 2 ^ (64 - 8 * n) % 2 ^ 64) ≡ lastEight (bs ++ xs)
+  last-shifted w n z v u c l e f =
+      let below : w < 2 ^ (8 * n) = rw (e, pow-256 n) (join-whole n xs u (omega arith)) in
+      let sum : 64 - 8 * n + 8 * n ≡ 64 = omega arith in
+      let all : z < 2 ^ (64 - 8 * n + 8 * n) = rw (sum, f) (join-whole 8 (ending bs) (ending-bytes bs v) (omega (arith, ending-eight bs))) in
+      let up : w * 2 ^ (64 - 8 * n) % 2 ^ 64 ≡ w * 2 ^ (64 - 8 * n) = shl-exact (8 * n) (64 - 8 * n) 64 below (omega arith) in
+      let down : z / 2 ^ (8 * n) < 2 ^ (64 - 8 * n) = shr-lt (64 - 8 * n) (8 * n) all in
+      let q : 64 - 8 * n ≡ 8 * (8 - n) = omega arith in
+      ap (bitOr (z / 2 ^ (8 * n))) up
+      ∙ or-shifted-r w (64 - 8 * n) (z / 2 ^ (8 * n)) down
+      ∙ rw (q, pow-256 (8 - n), pow-256 n, e, f, c) (sym (last-few v (omega arith)))
+
+-- ---- the first eight
+module _ (bs xs : List ℕ) (v : Bytes bs) (u : Bytes xs) where
+  -- fewer than eight: behind them
+  first-few : length bs ≤ 8 → firstEight (bs ++ xs) ≡ firstEight xs % 256 ^ (8 - length bs) * 256 ^ length bs + joinBytes bs
+  first-few h =
+      let n : 8 ≡ length bs + (8 - length bs) = omega arith in
+      ap joinBytes (ap (λ (m : ℕ). take m (bs ++ xs)) n ∙ take-append-add bs xs (8 - length bs))
+      ∙ join-append bs (take (8 - length bs) xs)
+      ∙ ap (λ (m : ℕ). m * 256 ^ length bs + joinBytes bs)
+      (ap joinBytes (sym (take-take (8 - length bs) 8 xs (omega arith))) ∙ join-take (8 - length bs) (take 8 xs) (bytes-take 8 xs u))
+
+  -- the same by a shift
+  pub first-shifted : (a b f : ℕ) → f ≡ length bs → f < 8 → a ≡ firstEight bs → b ≡ firstEight xs → bitOr a (b * 2 ^ (8 * f) % 2 ^ 64) ≡ firstEight (bs ++ xs)
+  first-shifted a b f c l d e =
+      let sum : 64 ≡ 64 - 8 * f + 8 * f = omega arith in
+      let up : b * 2 ^ (8 * f) % 2 ^ 64 ≡ b % 2 ^ (64 - 8 * f) * 2 ^ (8 * f) =
+      ap (λ (m : ℕ). b * 2 ^ (8 * f) % 2 ^ m) sum
+      ∙ mod-pow-add (b * 2 ^ (8 * f)) (64 - 8 * f) (8 * f)
+      ∙ ap₂ (λ (x y : ℕ). x % 2 ^ (64 - 8 * f) * 2 ^ (8 * f) + y) (shl-shr b (8 * f)) (mul-mod-left b (2 ^ (8 * f)))
+      ∙ omega arith in
+      let all : a ≡ joinBytes bs = d ∙ ap joinBytes (take-all 8 bs (omega arith)) in
+      let below : a < 2 ^ (8 * f) = rw (all, pow-256 f) (join-whole f bs v (omega arith)) in
+      let q : 64 - 8 * f ≡ 8 * (8 - f) = omega arith in
+      ap (bitOr a) up
+      ∙ or-shifted-r (b % 2 ^ (64 - 8 * f)) (8 * f) a below
+      ∙ rw (q, pow-256 (8 - f), pow-256 f, all, e, c) (sym (first-few (omega arith)))
+
+  pub first-kept : 8 ≤ length bs → firstEight bs ≡ firstEight (bs ++ xs)
+  first-kept h = ap joinBytes (sym (take-append-le 8 bs xs h))
+
+-- ---- all that is kept
+module _ (bs xs : List ℕ) (k : Kept) (v : Keeps bs k) (u : Bytes xs) (n b z c : ℕ) (count : n ≡ length xs) (counted : c ≡ (k .count + n % 2 ^ 32) % 2 ^ 32) (front : b ≡ firstEight xs) (last : z ≡ lastEight (bs ++ xs)) where
+  more : length (bs ++ xs) ≡ length bs + length xs
+  more = length-append bs xs
+
+  all-counted : c ≡ length (bs ++ xs) % 2 ^ 32
+  all-counted = omega (arith, v .count, more)
+
+  pub keep-short : (m : ℕ) → k .few < 8 → m ≡ min n (8 - k .few) → Keeps (bs ++ xs) (kept c (k .few + m) (bitOr (k .first) (b * 2 ^ (8 * k .few) % 2 ^ 64)) z)
+  keep-short m h e =
+      let f : k .few ≡ length bs = omega (arith, v .few) in
+      record {
+        bytes = bytes-append bs xs (v .bytes) u;
+        count = all-counted;
+        few = omega (arith, v .few, more);
+        first = first-shifted bs xs (v .bytes) u (k .first) b (k .few) f h (v .first) front;
+        last = last;
+      }
+
+  pub keep-long : 8 ≤ k .few → Keeps (bs ++ xs) (kept c (k .few) (k .first) z)
+  keep-long h =
+      let f : 8 ≤ length bs = omega (arith, v .few) in
+      record {
+        bytes = bytes-append bs xs (v .bytes) u;
+        count = all-counted;
+        few = omega (arith, v .few, more);
+        first = v .first ∙ first-kept bs xs (v .bytes) u f;
+        last = last;
+      }
+
+-- ---- bytes of a text
 drop-take : (k n : ℕ) (l : List ℕ) → drop k (take (k + n) l) ≡ take n (drop k l)
 drop-take zero n l = let z : 0 + n ≡ n = omega arith in rw z
 drop-take (suc k) n [] = ap (drop (suc k)) (take-nil {A = ℕ} (suc k + n)) ∙ sym (take-nil {A = ℕ} n)
 drop-take (suc k) n (x ∷ l) = let z : suc k + n ≡ suc (k + n) = omega arith in rw z (drop-take k n l)
 
-pub pow-256 : (k : ℕ) → 2 ^ (8 * k) ≡ 256 ^ k
-pow-256 zero = refl
-pow-256 (suc k) = let z : 8 * suc k ≡ 8 * k + 8 = omega arith in rw (z, pow-add 2 (8 * k) 8, pow-256 k, pow-suc 256 k)
+module _ (t : List ℕ) (at end : ℕ) (order : at ≤ end) (inside : end ≤ length t) where
+  pub part-length : end - at ≡ length (part t at end)
+  part-length = omega (arith, length-take (end - at) (drop at t), length-drop at t)
 
--- ---- a byte more
-module _ (bs : List ℕ) (k : Kept) (b w : ℕ) (v : Keeps bs k) (same : w ≡ b) (byte : b < 256) where
-  longer : length (bs ++ b ∷ []) ≡ length bs + 1
-  longer = length-append bs (b ∷ [])
+  pub part-bytes : Bytes t → Bytes (part t at end)
+  part-bytes v = bytes-take (end - at) (drop at t) (bytes-drop at t v)
 
-  count-more : (k .count + 1) % 2 ^ 32 ≡ length (bs ++ b ∷ []) % 2 ^ 32
-  count-more = omega (arith, v .count, longer)
+  -- the words at both ends of eight or more
+  module _ (h : 8 ≤ end - at) where
+    pub part-front : (w : ℕ) → w ≡ joinBytes (take 8 (drop at t)) → w ≡ firstEight (part t at end)
+    part-front w e = e ∙ ap joinBytes (sym (take-take 8 (end - at) (drop at t) h))
 
-  -- fewer than eight: behind all the others
-  module _ (h : k .few < 8) where
-    short : length bs < 8
-    short = omega (arith, v .few)
+    pub part-last : (bs : List ℕ) (w : ℕ) → w ≡ joinBytes (take 8 (drop (end - 8) t)) → w ≡ lastEight (bs ++ part t at end)
+    part-last bs w e =
+        let n : end - at ≡ end - at - 8 + 8 = omega arith in
+        let m : at + (end - at - 8) ≡ end - 8 = omega arith in
+        let l : length (part t at end) - 8 ≡ end - at - 8 = omega (arith, part-length) in
+        let q : drop (length (part t at end) - 8) (part t at end) ≡ take 8 (drop (end - 8) t) =
+        ap (λ (k : ℕ). drop k (part t at end)) l
+        ∙ ap (λ (k : ℕ). drop (end - at - 8) (take k (drop at t))) n
+        ∙ drop-take (end - at - 8) 8 (drop at t)
+        ∙ ap (take 8) (drop-drop (end - at - 8) at t ∙ ap (λ (k : ℕ). drop k t) m) in
+        e ∙ ap joinBytes (sym q) ∙ sym (last-long bs (part t at end) (omega (arith, part-length)))
 
-    all : k .first ≡ joinBytes bs
-    all = v .first ∙ ap joinBytes (take-all 8 bs (omega (arith, short)))
+pub part-all : (t : List ℕ) → part t 0 (length t) ≡ t
+part-all t = let z : length t - 0 ≡ length t = omega arith in rw z (take-length t)
 
-    below : joinBytes bs < 2 ^ (8 * k .few)
-    below =
-        let e : k .few ≡ length bs = omega (arith, v .few, short) in
-        rw (e, pow-256 (length bs)) (subst (λ (l : List ℕ). joinBytes l < 256 ^ length bs) (take-length bs) (join-below (length bs) bs (v .bytes)))
+-- none more
+pub keep-same : (bs xs : List ℕ) (k : Kept) → length xs ≡ 0 → Keeps bs k → Keeps (bs ++ xs) k
+keep-same bs [] k e v = subst (λ (l : List ℕ). Keeps l k) (sym (append-nil bs)) v
+keep-same bs (x ∷ xs) k e v = absurd (omega arith)
 
-    joined : bitOr (k .first) (w * 2 ^ (8 * k .few) % 2 ^ 64) ≡ joinBytes (bs ++ b ∷ [])
-    joined =
-        let e : k .few ≡ length bs = omega (arith, v .few, short) in
-        let x : w * 2 ^ (8 * k .few) % 2 ^ 64 ≡ w * 2 ^ (8 * k .few) = shl-exact 8 (8 * k .few) 64 (omega arith) (omega arith) in
-        rw (x, all, or-shifted-r w (8 * k .few) (joinBytes bs) below, e, pow-256 (length bs), same) (sym (join-snoc bs b))
+-- ---- the slot
+pub slot-kept : (bs : List ℕ) (k : Kept) → Keeps bs k → hashed (k .count) (k .first) (k .last) % 2 ^ 32 / 2 ^ 21 ≡ textSlot bs
+unfolding textSlot
+slot-kept bs k v = rw (v .count, v .first, v .last)
 
-    pub keep-short : Keeps (bs ++ b ∷ []) (kept ((k .count + 1) % 2 ^ 32) (k .few + 1) (bitOr (k .first) (w * 2 ^ (8 * k .few) % 2 ^ 64)) (bitOr (k .first) (w * 2 ^ (8 * k .few) % 2 ^ 64)))
-    keep-short =
-        let z : length (bs ++ b ∷ []) - 8 ≡ 0 = omega (arith, longer, short) in
-        record {
-          bytes = bytes-more bs b (v .bytes) byte;
-          count = count-more;
-          few = omega (arith, v .few, longer, short);
-          first = joined ∙ ap joinBytes (sym (take-all 8 (bs ++ b ∷ []) (omega (arith, longer, short))));
-          last = joined ∙ ap (λ (n : ℕ). joinBytes (drop n (bs ++ b ∷ []))) (sym z);
-        }
-
-  -- eight or more: the first stay, the last move up
-  module _ (h : 8 ≤ k .few) where
-    long : 8 ≤ length bs
-    long = omega (arith, v .few)
-
-    moved : drop (length (bs ++ b ∷ []) - 8) (bs ++ b ∷ []) ≡ drop 1 (drop (length bs - 8) bs) ++ b ∷ []
-    moved =
-        let e : length (bs ++ b ∷ []) - 8 ≡ length bs - 8 + 1 = omega (arith, longer, long) in
-        rw (e, drop-append-le (length bs - 8 + 1) bs (b ∷ []) (omega (arith, long)), drop-drop 1 (length bs - 8) bs)
-
-    seven : length (drop 1 (drop (length bs - 8) bs)) ≡ 7
-    seven = omega (arith, length-drop 1 (drop (length bs - 8) bs), length-drop (length bs - 8) bs, long)
-
-    pub keep-long : Keeps (bs ++ b ∷ []) (kept ((k .count + 1) % 2 ^ 32) (k .few) (k .first) (k .last / 256 + w * 72057594037927936))
-    keep-long =
-        let xs = drop (length bs - 8) bs in
-        let d : joinBytes (drop 1 xs) ≡ joinBytes xs / 256 = join-drop 1 xs (bytes-drop (length bs - 8) bs (v .bytes)) in
-        let s : joinBytes (drop 1 xs ++ b ∷ []) ≡ b * 256 ^ length (drop 1 xs) + joinBytes (drop 1 xs) = join-snoc (drop 1 xs) b in
-        let p : 256 ^ length (drop 1 xs) ≡ 72057594037927936 = ap (λ (n : ℕ). 256 ^ n) seven in
-        let m : joinBytes (drop 1 xs ++ b ∷ []) ≡ b * 72057594037927936 + joinBytes xs / 256 = s ∙ ap₂ (λ (x y : ℕ). b * x + y) p d in
-        record {
-          bytes = bytes-more bs b (v .bytes) byte;
-          count = count-more;
-          few = omega (arith, v .few, longer, long);
-          first = v .first ∙ ap joinBytes (sym (take-append-le 8 bs (b ∷ []) long));
-          last =
-              ap₂ (λ (x y : ℕ). x / 256 + y * 72057594037927936) (v .last) same
-              ∙ omega (arith, m)
-              ∙ ap joinBytes (sym moved);
-        }
-
--- ---- bytes at hand: fewer than eight from the last to the first, or two words
-module _ (bs : List ℕ) (h : Bytes bs) where
-  module _ (s : length bs < 8) where
-    pub short-room : (i w : ℕ) → 0 < i → w ≡ joinBytes (drop i bs) → w < 256 ^ 6
-    short-room i w l e =
-        let f : length (drop i bs) ≤ 6 = omega (arith, length-drop i bs) in
-        rw e (subst (λ (x : List ℕ). joinBytes x < 256 ^ 6) (take-all 6 (drop i bs) f) (join-below 6 (drop i bs) (bytes-drop i bs h)))
-
-    pub kept-short : (w : ℕ) → w ≡ joinBytes bs → Keeps bs (kept (length bs) (length bs) w w)
-    kept-short w e =
-        let z : length bs - 8 ≡ 0 = omega arith in
-        record {
-          bytes = h;
-          count = omega arith;
-          few = omega arith;
-          first = e ∙ ap joinBytes (sym (take-all 8 bs (omega arith)));
-          last = e ∙ ap (λ (n : ℕ). joinBytes (drop n bs)) (sym z);
-        }
-
-  pub kept-long : 8 ≤ length bs → (c a z : ℕ) → c ≡ length bs % 2 ^ 32 → a ≡ joinBytes (take 8 (drop 0 bs)) → z ≡ joinBytes (take 8 (drop (length bs - 8) bs)) → Keeps bs (kept c 8 a z)
-  kept-long l c a z e f g =
-      let s : length (drop (length bs - 8) bs) ≤ 8 = omega (arith, length-drop (length bs - 8) bs) in
-      record { bytes = h; count = e; few = omega arith; first = f; last = g ∙ ap joinBytes (take-all 8 (drop (length bs - 8) bs) s) }
+-- ---- fewer than eight bytes from the last to the first
+pub short-room : (bs : List ℕ) → Bytes bs → length bs < 8 → (i w : ℕ) → 0 < i → w ≡ joinBytes (drop i bs) → w < 256 ^ 6
+short-room bs h s i w l e = rw e (join-whole 6 (drop i bs) (bytes-drop i bs h) (omega (arith, length-drop i bs)))
 
 pub short-next : (bs : List ℕ) (i w b : ℕ) → 0 < i → i ≤ length bs → w ≡ joinBytes (drop i bs) → b ≡ byteAt bs (i - 1) → w * 256 + b ≡ joinBytes (drop (i - 1) bs)
 short-next bs i w b h l e f =
@@ -146,37 +190,3 @@ short-next bs i w b h l e f =
     let d : joinBytes (drop (i - 1) bs) ≡ byteAt bs (i - 1) + 256 * joinBytes (drop i bs) =
     ap joinBytes (drop-cons bs (i - 1) 0 (omega arith)) ∙ ap (λ (n : ℕ). byteAt bs (i - 1) + 256 * joinBytes (drop n bs)) z in
     omega arith
-
-pub few-kept : (bs : List ℕ) (k : Kept) → Keeps bs k → k .few ≤ 8
-few-kept bs k v = omega (arith, v .few)
-
--- ---- the slot
-module _ (bs : List ℕ) (k : Kept) (v : Keeps bs k) where
-  first-four : k .first % 2 ^ 32 ≡ joinBytes (take 4 bs)
-  first-four = ap (λ (n : ℕ). n % 2 ^ 32) (v .first) ∙ sym (join-take 4 (take 8 bs) (bytes-take 8 bs (v .bytes))) ∙ ap joinBytes (take-take 4 8 bs (omega arith))
-
-  next-four : k .first / 2 ^ 32 % 2 ^ 32 ≡ joinBytes (take 4 (drop 4 bs))
-  next-four =
-      let e : k .first / 2 ^ 32 ≡ joinBytes (take 4 (drop 4 bs)) =
-      ap (λ (n : ℕ). n / 2 ^ 32) (v .first) ∙ sym (join-drop 4 (take 8 bs) (bytes-take 8 bs (v .bytes))) ∙ ap joinBytes (drop-take 4 4 bs) in
-      ap (λ (n : ℕ). n % 2 ^ 32) e ∙ mod-eq-of-lt (join-below 4 (drop 4 bs) (bytes-drop 4 bs (v .bytes)))
-
-  third-four : k .last % 2 ^ 32 ≡ joinBytes (take 4 (drop (length bs - 8) bs))
-  third-four = ap (λ (n : ℕ). n % 2 ^ 32) (v .last) ∙ sym (join-take 4 (drop (length bs - 8) bs) (bytes-drop (length bs - 8) bs (v .bytes)))
-
-  last-four : k .last / 256 ^ (k .few - 4) % 2 ^ 32 ≡ joinBytes (drop (length bs - 4) bs)
-  last-four =
-      let z : length bs - 8 + (k .few - 4) ≡ length bs - 4 = omega (arith, v .few) in
-      let e : k .last / 256 ^ (k .few - 4) ≡ joinBytes (drop (length bs - 4) bs) =
-      ap (λ (n : ℕ). n / 256 ^ (k .few - 4)) (v .last)
-      ∙ sym (join-drop (k .few - 4) (drop (length bs - 8) bs) (bytes-drop (length bs - 8) bs (v .bytes)))
-      ∙ ap joinBytes (drop-drop (k .few - 4) (length bs - 8) bs ∙ ap (λ (n : ℕ). drop n bs) z) in
-      let s : length (drop (length bs - 4) bs) ≤ 4 = omega (arith, length-drop (length bs - 4) bs) in
-      let l : joinBytes (drop (length bs - 4) bs) < 2 ^ 32 =
-      subst (λ (x : List ℕ). joinBytes x < 2 ^ 32) (take-all 4 (drop (length bs - 4) bs) s) (join-below 4 (drop (length bs - 4) bs) (bytes-drop (length bs - 4) bs (v .bytes))) in
-      ap (λ (n : ℕ). n % 2 ^ 32) e ∙ mod-eq-of-lt l
-
-  pub slot-kept : (a b c d : ℕ) → a ≡ k .first % 2 ^ 32 → b ≡ k .first / 2 ^ 32 % 2 ^ 32 → c ≡ k .last % 2 ^ 32 → d ≡ k .last / 256 ^ (k .few - 4) % 2 ^ 32
-      → fnv1a (k .count ∷ a ∷ b ∷ c ∷ d ∷ []) / 2 ^ 21 ≡ textSlot bs
-  unfolding textHash
-  slot-kept a b c d e f g h = rw (v .count, e ∙ first-four, f ∙ next-four, g ∙ third-four, h ∙ last-four)

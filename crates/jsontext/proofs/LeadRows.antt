@@ -6,7 +6,7 @@ use mathlib.Core.Option.{Option, none, some}
 use Prim.Native.Nat.{ℕ, zero, suc, _+_, _-_, _<_, _≤_}
 use native.Mathlib.Omega.{arith}
 use borrow.Author.Tests.{not-true, not-false}
-use lib.Dec.{eqb}
+use lib.Dec.{eqb, ltb}
 use lib.ListN.{length, getD, replicate}
 use Rattle.model.specs.Lists.{tab}
 use Rattle.model.proofs.Tab.{tab-at}
@@ -50,6 +50,39 @@ by-row (s ∷ ss) t i = go (s .lead (byteAt t i)) (by-row ss t i)
         → elim b [ true ↦ passAt (s .more) t (i + 1) | false ↦ sequenceIn ss t i ] ≡ passRow (elim b [ true ↦ some (s .more) | false ↦ rowOf ss (byteAt t i) ]) t i
     go true r = refl
     go false r = r
+
+-- how many bytes a character has, by its first
+unfoldable pub sizeBy : ℕ → ℕ
+sizeBy b = cond (ltb b 128) 1 (cond (ltb b 224) 2 (cond (ltb b 240) 3 4))
+
+-- a row has as many
+abbrev rowSize : Row → ℕ → ℕ
+rowSize none b = sizeBy b
+rowSize (some ps) b = suc (length ps)
+
+sizes : tab 256 (λ b. rowSize (rowOf sequences b) b) ≡ tab 256 sizeBy
+unfolding sizeBy
+sizes = refl
+
+pass-size : (ps : List (ℕ → Bool)) (t : List ℕ) (i n : ℕ) → passAt ps t i ≡ upTo n → n ≡ i + length ps
+unfolding passAt
+pass-size [] t i n e = let z : i ≡ n = cc in omega arith
+pass-size (p ∷ ps) t i n e = go (pass-size ps t (i + 1) n) (p (byteAt t i)) e
+  where
+    go : (passAt ps t (i + 1) ≡ upTo n → n ≡ i + 1 + length ps) → (b : Bool) → elim b [ true ↦ passAt ps t (i + 1) | false ↦ brokenAt i ] ≡ upTo n → n ≡ i + suc (length ps)
+    go r true q = let k = r q in omega arith
+    go r false q = let z : _≡_ {A = ℕ} 0 1 = cc in absurd (omega arith)
+
+pub sequence-size : (t : List ℕ) (i n : ℕ) → byteAt t i < 256 → sequenceAt t i ≡ upTo n → n ≡ i + sizeBy (byteAt t i)
+unfolding sequenceAt
+sequence-size t i n h e =
+    let known : rowSize (rowOf sequences (byteAt t i)) (byteAt t i) ≡ sizeBy (byteAt t i) =
+    sym (tab-at 0 256 (λ b. rowSize (rowOf sequences b) b) (byteAt t i) h) ∙ ap (λ (l : List ℕ). getD l (byteAt t i) 0) sizes ∙ tab-at 0 256 sizeBy (byteAt t i) h in
+    go (rowOf sequences (byteAt t i)) known (sym (by-row sequences t i) ∙ e)
+  where
+    go : (r : Row) → rowSize r (byteAt t i) ≡ sizeBy (byteAt t i) → passRow r t i ≡ upTo n → n ≡ i + sizeBy (byteAt t i)
+    go none k q = let z : _≡_ {A = ℕ} 0 1 = cc in absurd (omega arith)
+    go (some ps) k q = let r = pass-size ps t (i + 1) n q in omega arith
 
 -- 0 is below the bounds
 lowest-rejects : (b h : ℕ) → between (lowest b) h 0 ≡ false

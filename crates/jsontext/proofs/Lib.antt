@@ -21,12 +21,13 @@ pub mod NumberSizes
 pub mod NumberParts
 pub mod NumberScalars
 pub mod Packing
-pub mod Handing
+pub mod Agreeing
 pub mod Comparing
 pub mod NumberNearest
 pub mod Joining
 pub mod Keeping
+pub mod CharReads
 pub mod DecodedSlots
 pub mod Bytewise
 pub mod StringEnds
-pub mod Agreeing
+pub mod Writing

@@ -1,6 +1,6 @@
 -- A string read piece by piece: what a loop knows at its head. Assumes nothing.
 use mathlib.Core.Path.{_≡_, refl, sym, ap, _∙_, subst}
-use mathlib.Core.Bool.{Bool, true, false}
+use mathlib.Core.Bool.{true, false}
 use mathlib.Core.List.{List, [], _∷_, _++_, append-assoc, append-nil}
 use Prim.Native.Nat.{ℕ, zero, suc, _+_, _-_, _<_, _≤_}
 use native.Mathlib.Numerals.{add-one}
@@ -8,13 +8,13 @@ use native.Mathlib.Omega.{arith}
 use lib.Dec.{eqb}
 use lib.ListN.{length, take, drop}
 use lib.Seq.{take-add, drop-drop, drop-cons}
-use borrow.Author.Tests.{eq-eqb, ne-eqb, eqb-true, eqb-false}
+use borrow.Author.Tests.{eq-eqb, ne-eqb}
 use Rattle.base.specs.Text.{byteAt, Got, got, fault}
 use Rattle.base.proofs.Bytes.{past, byte-inside}
-use Rattle.jsontext.specs.Utf8.{utf8, upTo, brokenAt}
+use Rattle.jsontext.specs.Utf8.{utf8}
 use Rattle.jsontext.specs.Strings.{closed, raw, code, bad, pieceAt, plain?, withFront, stringFrom, stringAt}
 use Rattle.jsontext.specs.Scanned.{part, Scanned}
-use Rattle.jsontext.specs.StringAnswers.{Plains, placeOf, RawString}
+use Rattle.jsontext.specs.StringAnswers.{Plains}
 use Rattle.jsontext.proofs.Ways.{plain-piece}
 use Rattle.jsontext.proofs.PieceEnds.{Ahead, raw-ahead, code-ahead, piece-past, quote-inside}
 
@@ -130,73 +130,3 @@ scan-start t at b e q =
 pub no-quote : (t : List ℕ) (at b : ℕ) → b ≡ byteAt t at → (b ≡ 34 → ⊥) → stringAt t at ≡ fault at
 unfolding stringAt
 no-quote t at b e q = rw (stringAt, ne-eqb (byteAt t at) 34 (λ z. q (e ∙ z)))
-
--- ---- the scan of a whole string: whether all pieces so far were raw
-pub record Scanning (t : List ℕ) (at : ℕ) (all : Bool) (i : ℕ) : Type 0 where
-  pub front : List ℕ
-  pub scanned : Scanned t at i front
-  pub begun : at + 1 ≤ i
-  pub plain : all ≡ true → front ≡ part t (at + 1) i
-
-pub scanning-start : (t : List ℕ) (at b : ℕ) → b ≡ byteAt t at → b ≡ 34 → Scanning t at true (at + 1)
-scanning-start t at b e q = record { front = []; scanned = scan-start t at b e q; begun = omega arith; plain = λ _. sym (part-none t (at + 1)) }
-
-module _ (t : List ℕ) (at : ℕ) (all : Bool) (i : ℕ) (v : Scanning t at all i) where
-  longer : (n : ℕ) → i ≤ n → all ≡ true → v .front ++ part t i n ≡ part t (at + 1) n
-  longer n h e = ap (λ (l : List ℕ). l ++ part t i n) (v .plain e) ∙ part-join t (at + 1) i n (v .begun) h
-
-  pub scanning-plains : (n : ℕ) → Plains t i n → Scanning t at all n
-  scanning-plains n p =
-      record {
-        front = v .front ++ part t i n;
-        scanned = scan-plains t at i n (v .front) (v .scanned) p;
-        begun = omega (arith, v .begun, p .forward);
-        plain = longer n (p .forward);
-      }
-
-  pub scanning-raw : (n : ℕ) → pieceAt t i ≡ raw n → Scanning t at all n
-  scanning-raw n e =
-      let a = raw-ahead t i n e in
-      record {
-        front = v .front ++ part t i n;
-        scanned = scan-raw t at i (v .front) (v .scanned) n e;
-        begun = omega (arith, v .begun, a .forward);
-        plain = longer n (omega (arith, a .forward));
-      }
-
-  pub scanning-code : (c n : ℕ) → pieceAt t i ≡ code c n → Scanning t at false n
-  scanning-code c n e =
-      let a = code-ahead t i c n e in
-      record {
-        front = v .front ++ utf8 c;
-        scanned = scan-code t at i (v .front) (v .scanned) c n e;
-        begun = omega (arith, v .begun, a .forward);
-        plain = λ z. let y : _≡_ {A = ℕ} 0 1 = cc in absurd (omega arith);
-      }
-
-  pub scanning-closed : pieceAt t i ≡ closed → upTo (i + 1) ≡ placeOf (stringAt t at)
-  scanning-closed e = sym (ap placeOf (scan-closed t at i (v .front) (v .scanned) e))
-
-  pub scanning-bytes : pieceAt t i ≡ closed → all ≡ true → RawString t at (i + 1)
-  scanning-bytes e a =
-      let h : i < length t = quote-inside t i e in
-      let z : i + 1 - 1 ≡ i = omega arith in
-      record {
-        forward = omega (arith, v .begun);
-        inside = omega arith;
-        string = rw z (scan-closed t at i (v .front) (v .scanned) e ∙ ap (λ (l : List ℕ). got l (i + 1)) (v .plain a));
-      }
-
-  pub scanning-bad : (p : ℕ) → pieceAt t i ≡ bad p → brokenAt p ≡ placeOf (stringAt t at)
-  scanning-bad p e = sym (ap placeOf (scan-bad t at i (v .front) (v .scanned) p e))
-
--- a string that ends has its quote
-pub quoted : (t : List ℕ) (at n : ℕ) → upTo n ≡ placeOf (stringAt t at) → byteAt t at ≡ 34
-quoted t at n e = go (eqb (byteAt t at) 34) refl
-  where
-    go : (b : Bool) → eqb (byteAt t at) 34 ≡ b → byteAt t at ≡ 34
-    go true q = eqb-true (byteAt t at) 34 q
-    go false q =
-        let w : upTo n ≡ brokenAt at = e ∙ ap placeOf (no-quote t at (byteAt t at) refl (eqb-false (byteAt t at) 34 q)) in
-        let z : _≡_ {A = ℕ} 0 1 = cc in
-        absurd (omega arith)

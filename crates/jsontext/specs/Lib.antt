@@ -9,6 +9,6 @@ pub mod Productions
 pub mod Lead
 pub mod Scanned
 pub mod StringAnswers
-pub mod Streams
 pub mod Compared
+pub mod Chars
 pub mod Kept

@@ -1,22 +1,25 @@
-// Strings compared after decoding: with each other, and with given bytes.
+// Strings compared after decoding: with each other, and with given bytes. Bytes that stand for themselves are compared where they stand, other characters one by one.
+use crate::chars::CharRead;
+use crate::chars::char_at;
 use crate::plain::is_plain;
-use crate::streams::Stream;
-use crate::streams::StreamStep;
-use crate::streams::next;
-use crate::streams::stream_at;
+use crate::plain::marks;
+use crate::words::WORD;
+use crate::words::few_bytes;
+use crate::words::word;
+use base::numbers::smaller;
 use base::text::byte_at;
 ghost use mathlib.Core.Path.{_≡_};
-ghost use mathlib.Core.List.{List};
-ghost use Prim.Native.Nat.{ℕ, _+_, _≤_};
+ghost use mathlib.Core.List.{[]};
+ghost use Prim.Native.Nat.{_+_, _≤_};
 ghost use lib.ListN.{length};
 ghost use Rattle.classes.specs.Classes.{classTable};
 ghost use Rattle.jsontext.specs.Strings.{stringAt};
 ghost use Rattle.jsontext.specs.Decoded.{sameText, isText};
-ghost use Rattle.jsontext.specs.Streams.{Handed};
-ghost use Rattle.jsontext.specs.Compared.{Alike, Agreed, Led};
+ghost use Rattle.jsontext.specs.Scanned.{Scanned};
+ghost use Rattle.jsontext.specs.Compared.{Alike};
 
-// How many bytes at two places agree and stand for themselves in a string.
-fn alike(s: &[u8], i: usize, t: &[u8], j: usize) -> usize
+// How many bytes at two places agree and stand for themselves in a string, one by one.
+fn alike_rest(s: &[u8], i: usize, t: &[u8], j: usize) -> usize
     requires first { ⌜ i ≤ length (now s) ⌝ }
     requires second { ⌜ j ≤ length (now t) ⌝ }
     ensures { λ r. ⌜ Alike (now (s .entry)) i (now (t .entry)) j r ⌝ }
@@ -34,48 +37,66 @@ fn alike(s: &[u8], i: usize, t: &[u8], j: usize) -> usize
     }
 }
 
-// Whether a stream has handed out the whole string.
-fn is_whole(text: &[u8], classes: &[u8; 256], s: Stream) -> bool
-    requires { ⌜ s .at ≤ length (now text) ⌝ }
-    requires lent { ⌜ now classes ≡ classTable ⌝ }
-    ensures { λ r. ⌜ ((start : ℕ) (out : List ℕ) → Handed (now (text .entry)) start out s → r ≡ isText (stringAt (now (text .entry)) start) out) ⌝ }
+// How many of the eight bytes at two places agree and stand for themselves, up to the first that does not.
+fn alike_word(s: &[u8], i: usize, t: &[u8], j: usize) -> usize
+    requires first { ⌜ i + 8 ≤ length (now s) ⌝ }
+    requires second { ⌜ j + 8 ≤ length (now t) ⌝ }
+    ensures { λ r. ⌜ Alike (now (s .entry)) i (now (t .entry)) j r ⌝ }
 {
-    match next(text, classes, s) {
-        StreamStep::End => true,
-        StreamStep::Byte(_, _) => false,
-        StreamStep::Broken => false,
-    }
+    let w = word(s, i);
+    (u64::trailing_zeros((w ^ word(t, j)) | marks(w)) / 8) as usize
 }
 
-// Whether the strings at two places, of which n bytes agree, are the same.
-fn same_from(text: &[u8], classes: &[u8; 256], a: usize, b: usize, n: usize) -> bool
-    requires { ⌜ Agreed (now text) a b n ⌝ }
+// How many bytes at two places agree and stand for themselves, eight at once.
+fn alike(s: &[u8], i: usize, t: &[u8], j: usize) -> usize
+    requires first { ⌜ i ≤ length (now s) ⌝ }
+    requires second { ⌜ j ≤ length (now t) ⌝ }
+    ensures { λ r. ⌜ Alike (now (s .entry)) i (now (t .entry)) j r ⌝ }
+{
+    let room = smaller(s.len() - i, t.len() - j);
+    let mut n: usize = 0;
+    while room - n >= WORD {
+        let m = alike_word(s, i + n, t, j + n);
+        n += m;
+        if m < WORD {
+            return n;
+        }
+    }
+    n + alike_rest(s, i + n, t, j + n)
+}
+
+// Whether the strings at two places, which have their quotes, are the same.
+fn same_quoted(text: &[u8], classes: &[u8; 256], a: usize, b: usize) -> bool
+    requires { ⌜ Scanned (now text) a (a + 1) [] × Scanned (now text) b (b + 1) [] ⌝ }
     requires lent { ⌜ now classes ≡ classTable ⌝ }
     ensures { λ r. ⌜ r ≡ sameText (stringAt (now (text .entry)) a) (stringAt (now (text .entry)) b) ⌝ }
 {
-    let mut x = stream_at(a + 1 + n);
-    let mut y = stream_at(b + 1 + n);
+    let mut i = a + 1;
+    let mut j = b + 1;
     loop {
-        match next(text, classes, x) {
-            StreamStep::Broken => {
+        let n = alike(text, i, text, j);
+        i += n;
+        j += n;
+        if byte_at(text, i) == b'"' {
+            return byte_at(text, j) == b'"';
+        }
+        if byte_at(text, j) == b'"' {
+            return false;
+        }
+        match char_at(text, classes, i) {
+            CharRead::Broken(_) => {
                 return false;
             },
-            StreamStep::End => {
-                return is_whole(text, classes, y);
-            },
-            StreamStep::Byte(p, x_after) => match next(text, classes, y) {
-                StreamStep::Broken => {
+            CharRead::Char(v, _, x) => match char_at(text, classes, j) {
+                CharRead::Broken(_) => {
                     return false;
                 },
-                StreamStep::End => {
-                    return false;
-                },
-                StreamStep::Byte(q, y_after) => {
-                    if p != q {
+                CharRead::Char(w, _, y) => {
+                    if v != w {
                         return false;
                     }
-                    x = x_after;
-                    y = y_after;
+                    i = x;
+                    j = y;
                 },
             },
         }
@@ -93,35 +114,7 @@ pub fn same(text: &[u8], classes: &[u8; 256], a: usize, b: usize) -> bool
     if byte_at(text, b) != b'"' {
         return false;
     }
-    same_from(text, classes, a, b, alike(text, a + 1, text, b + 1))
-}
-
-// Whether the string at a place, of which the first n bytes agree, is these bytes.
-fn is_text_from(text: &[u8], classes: &[u8; 256], at: usize, bytes: &[u8], n: usize) -> bool
-    requires { ⌜ Led (now text) at (now bytes) n ⌝ }
-    requires lent { ⌜ now classes ≡ classTable ⌝ }
-    ensures { λ r. ⌜ r ≡ isText (stringAt (now (text .entry)) at) (now (bytes .entry)) ⌝ }
-{
-    let mut x = stream_at(at + 1 + n);
-    let mut k = n;
-    while k < bytes.len() {
-        match next(text, classes, x) {
-            StreamStep::Broken => {
-                return false;
-            },
-            StreamStep::End => {
-                return false;
-            },
-            StreamStep::Byte(p, after) => {
-                if p != bytes[k] {
-                    return false;
-                }
-                x = after;
-                k += 1;
-            },
-        }
-    }
-    is_whole(text, classes, x)
+    same_quoted(text, classes, a, b)
 }
 
 // Whether the string at a place is these bytes after decoding; a string that is not whole is none.
@@ -132,5 +125,29 @@ pub fn is_text(text: &[u8], classes: &[u8; 256], at: usize, bytes: &[u8]) -> boo
     if byte_at(text, at) != b'"' {
         return false;
     }
-    is_text_from(text, classes, at, bytes, alike(text, at + 1, bytes, 0))
+    let mut i = at + 1;
+    let mut k: usize = 0;
+    loop {
+        let n = alike(text, i, bytes, k);
+        i += n;
+        k += n;
+        if byte_at(text, i) == b'"' {
+            return k == bytes.len();
+        }
+        match char_at(text, classes, i) {
+            CharRead::Broken(_) => {
+                return false;
+            },
+            CharRead::Char(w, m, x) => {
+                if bytes.len() - k < m {
+                    return false;
+                }
+                if few_bytes(bytes, k, m) != w {
+                    return false;
+                }
+                i = x;
+                k += m;
+            },
+        }
+    }
 }

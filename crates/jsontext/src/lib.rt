@@ -6,8 +6,8 @@ mod utf8; // utf8.rt: sequences of bytes above 127
 mod pieces; // pieces.rt: what stands at a place of a string
 mod words; // words.rt: eight bytes at once
 mod plain; // plain.rt: bytes that stand for themselves
-mod streams; // streams.rt: the decoded bytes of a string, one by one
+mod chars; // chars.rt: a character of a string, decoded
 pub mod decoded; // decoded.rt: strings compared after decoding
 pub mod slots; // slots.rt: where a text is looked for first
 pub mod written; // written.rt: a string that is written just as it is
-pub mod strings; // strings.rt: a string's end and slot
+pub mod strings; // strings.rt: a string's slot and end

@@ -28,3 +28,28 @@ pub(crate) fn word(bytes: &[u8], i: usize) -> u64
         + wide(bytes[i + 6]) * 281474976710656
         + wide(bytes[i + 7]) * 72057594037927936
 }
+
+// All of fewer than eight bytes.
+fn short_word(bytes: &[u8]) -> u64
+    requires { ⌜ length (now bytes) < 8 ⌝ }
+    ensures { λ r. ⌜ r ≡ joinBytes (now (bytes .entry)) ⌝ }
+{
+    let mut w: u64 = 0;
+    let mut i = bytes.len();
+    while i > 0 {
+        i -= 1;
+        w = w * 256 + wide(bytes[i]);
+    }
+    w
+}
+
+// The n bytes at a place, fewer than eight: most often eight can be read, and the others are cut off.
+pub(crate) fn few_bytes(bytes: &[u8], at: usize, n: usize) -> u64
+    requires { ⌜ (n < 8) × (at + n ≤ length (now bytes)) ⌝ }
+    ensures { λ r. ⌜ r ≡ joinBytes (take n (drop at (now (bytes .entry)))) ⌝ }
+{
+    if bytes.len() - at >= WORD {
+        return word(bytes, at) % (1u64 << (8 * n));
+    }
+    short_word(&bytes[at..at + n])
+}

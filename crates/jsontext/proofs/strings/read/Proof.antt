@@ -1,47 +1,41 @@
--- By how the string ends. Assumes nothing.
-use mathlib.Core.Path.{sym, ap, _∙_, subst}
-use Prim.Native.Nat.{ℕ}
+-- A quote behind the bytes that stand for themselves, or a char. Assumes nothing.
+use mathlib.Core.Path.{_∙_}
+use Prim.Native.Nat.{_<_}
 use borrow.Author.Needs.{needs}
 use native.Mathlib.Omega.{arith}
 use denote.Ref.{now}
-use Rattle.base.specs.Text.{got}
-use Rattle.jsontext.specs.Strings.{stringAt}
-use Rattle.jsontext.specs.Decoded.{asSlot}
-use Rattle.jsontext.specs.StringAnswers.{endOf, RawString, RawWhere}
-use Rattle.jsontext.proofs.Scanning.{quoted}
-use Rattle.jsontext.proofs.DecodedSlots.{slot-broken, slot-whole}
+use lib.ListN.{length}
+use Rattle.base.proofs.Bytes.{byte-inside}
+use Rattle.jsontext.proofs.Scanning.{scan-start}
+use Rattle.jsontext.proofs.DecodedSlots.{keeping-begin, keeping-end, slot-none}
 use Rattle.jsontext.proofs.strings.read.Statement.{statement}
 use Rattle.jsontext.proofs.strings.read.Tie as tie
 
--- the bytes between the quotes
-module _ (c : tie.After-known-told2) where
-  between : RawString (now (c .before .before .before .before .before .args .text)) (c .before .before .before .before .before .args .at) (c .before .n .given .0 .0)
-  between = subst (RawWhere (now (c .before .before .before .before .before .args .text)) (c .before .before .before .before .before .args .at)) (c .before .n .given .1) (c .before .before .before .string-end .ensures .1)
-
-returns : tie.Need-returns
-returns c = slot-broken _ (stringAt (now (c .before .before .before .before .before .args .text)) (c .before .before .before .before .before .args .at)) (ap endOf (sym (c .before .p .given .1)) ∙ c .before .before .before .string-end .ensures .0)
+-- the opening quote stands inside
+module _ (c : tie.Else1) where
+  inside : c .before .before .before .args .at < length (now (c .before .before .before .args .text))
+  inside = byte-inside (now (c .before .before .before .args .text)) (c .before .before .before .args .at) _ (c .before .byte-at .ensures) (omega arith)
 
 returns-2 : tie.Need-returns-2
-returns-2 c = ap (λ (s : ℕ). got s (c .before .before .before .n .given .0 .0)) (c .slot-of .ensures) ∙ ap asSlot (sym (between (c .before .before) .string))
-
-returns-3 : tie.Need-returns-3
-returns-3 c = slot-whole _ _ (stringAt (now (c .before .before .before .before .before .before .args .text)) (c .before .before .before .before .before .before .args .at)) (ap endOf (sym (c .before .before .n2 .given .1)) ∙ c .before .before .before .before .string-end .ensures .0) (c .decoded-slot .ensures)
+returns-2 c =
+    keeping-end _ _ _ _
+    (keeping-begin _ _ _ _ (c .before .before .before .before .before .plain-end .ensures) _ _ (scan-start _ _ _ (c .before .before .before .before .before .before .before .byte-at .ensures) (c .before .before .before .before .before .before .if1 .left)) (c .before .before .keep-none .ensures) (c .before .keep-part .ensures)) _
+    (c .before .before .before .before .byte-at2 .ensures) (c .before .before .before .if2 .taken) _ (c .kept-slot .ensures)
 
 pub read-spec : {M : Type 1} → statement M
 read-spec =
     tie.close
     (tie.spec
     (λ c κs. search needs)
-    (λ c. search needs)
-    (λ c. search needs)
-    (λ c. omega (arith, between c .forward, between c .inside))
-    (λ c. omega (arith, between c .forward))
-    (λ c. omega (arith, between c .forward))
-    (λ c. omega (arith, between c .forward))
-    (λ c. omega (arith, between c .inside))
+    (λ c. slot-none _ _ _ (c .before .byte-at .ensures) (c .if1 .taken))
+    (λ c. omega (arith, inside c))
+    (λ c κs. omega (arith, inside c))
     (λ c κs. search needs)
-    (λ c. search needs)
-    (λ c κs. (quoted (now (c .before .before .before .before .before .args .text)) (c .before .before .before .before .before .args .at) _ (ap endOf (sym (c .before .n2 .given .1)) ∙ c .before .before .before .string-end .ensures .0), c .before .before .before .before .before .pre))
-    returns
+    (λ c κs. search needs)
+    (λ c. omega (arith, inside (c .before .before .before .before)))
+    (λ c κs. (omega (arith, c .keep-none .ensures .few), c .before .before .before .plain-end .ensures .forward, c .before .before .before .plain-end .ensures .inside))
+    (λ c κs. search needs)
+    (λ c. omega (arith, byte-inside (now (c .before .before .before .before .before .before .before .before .before .args .text)) (c .before .before .before .before .before .plain-end .result) _ (c .before .before .before .before .byte-at2 .ensures) (omega arith)))
     returns-2
-    returns-3)
+    (λ c κs. (λ q. c .if2 .left (c .before .byte-at2 .ensures ∙ q), ((scan-start _ _ _ (c .before .before .before .before .byte-at .ensures) (c .before .before .before .if1 .left), c .before .before .plain-end .ensures), c .before .before .before .before .before .before .pre)))
+    (λ c. c .read-on .ensures))

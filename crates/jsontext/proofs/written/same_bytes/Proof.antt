@@ -6,7 +6,7 @@ use borrow.Author.Tests.{not-false}
 use native.Mathlib.Omega.{arith}
 use Rattle.jsontext.specs.Compared.{Alike}
 use Rattle.jsontext.proofs.Places.{never}
-use Rattle.jsontext.proofs.Comparing.{alike-none, alike-more}
+use Rattle.jsontext.proofs.Agreeing.{alike-none, alike-more}
 use Rattle.jsontext.proofs.written.same_bytes.Statement.{statement}
 use Rattle.jsontext.proofs.written.same_bytes.Tie as tie
 

@@ -6,8 +6,8 @@ use borrow.Author.Tests.{not-false}
 use native.Mathlib.Omega.{arith}
 use Rattle.jsontext.specs.Compared.{Alike}
 use Rattle.jsontext.proofs.Places.{never}
-use Rattle.jsontext.proofs.Comparing.{alike-none}
-use Rattle.jsontext.proofs.Agreeing.{alike-join}
+use Rattle.jsontext.proofs.Agreeing.{alike-none}
+use Rattle.jsontext.proofs.Writing.{alike-join}
 use Rattle.jsontext.proofs.written.same_part.Statement.{statement}
 use Rattle.jsontext.proofs.written.same_part.Tie as tie
 

@@ -4,7 +4,7 @@ use borrow.Author.Needs.{needs}
 use borrow.Author.Tests.{eqb-true}
 use native.Mathlib.Omega.{arith}
 use Rattle.jsontext.proofs.Places.{never}
-use Rattle.jsontext.proofs.Agreeing.{alike-word}
+use Rattle.jsontext.proofs.Writing.{alike-word}
 use Rattle.jsontext.proofs.written.same_word.Statement.{statement}
 use Rattle.jsontext.proofs.written.same_word.Tie as tie
 

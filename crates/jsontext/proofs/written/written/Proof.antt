@@ -2,7 +2,7 @@
 use mathlib.Core.Path.{sym}
 use borrow.Author.Needs.{needs}
 use Rattle.jsontext.proofs.Places.{never}
-use Rattle.jsontext.proofs.Agreeing.{between-quotes}
+use Rattle.jsontext.proofs.Writing.{between-quotes}
 use Rattle.jsontext.proofs.written.written.Statement.{statement}
 use Rattle.jsontext.proofs.written.written.Tie as tie
 

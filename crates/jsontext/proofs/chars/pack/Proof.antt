@@ -1,8 +1,8 @@
 -- By the size of the code point. Assumes nothing.
 use borrow.Author.Needs.{needs}
 use Rattle.jsontext.proofs.Packing.{packs-one, packs-two, packs-three, packs-four}
-use Rattle.jsontext.proofs.streams.pack.Statement.{statement}
-use Rattle.jsontext.proofs.streams.pack.Tie as tie
+use Rattle.jsontext.proofs.chars.pack.Statement.{statement}
+use Rattle.jsontext.proofs.chars.pack.Tie as tie
 
 returns : tie.Need-returns
 returns c = packs-one _ (c .if1 .taken)

@@ -8,8 +8,8 @@ use lib.ListN.{length, drop}
 use lib.Seq.{drop-length}
 use Rattle.jsontext.specs.Decoded.{joinBytes}
 use Rattle.jsontext.proofs.Keeping.{short-room, short-next}
-use Rattle.jsontext.proofs.slots.short_word.Statement.{statement}
-use Rattle.jsontext.proofs.slots.short_word.Tie as tie
+use Rattle.jsontext.proofs.words.short_word.Statement.{statement}
+use Rattle.jsontext.proofs.words.short_word.Tie as tie
 
 abbrev Inv-loop : tie.InvT-loop
 Inv-loop bytes w₀ i₀ w i = (i ≤ length bytes) × (w ≡ joinBytes (drop i bytes))
