@@ -8,7 +8,7 @@ use lib.Bits.{xor-zero-r}
 use lib.ListN.{length, getD, replicate}
 use Rattle.model.specs.Lists.{tab}
 use Rattle.automaton.proofs.Parts.{tab-of}
-use Rattle.document.specs.Rows.{rowCells, splitCells}
+use Rattle.document.specs.Rows.{rowCells, splitCells, encodeRow}
 use Rattle.document.specs.Words.{wordsCells, cellsAt}
 use Rattle.document.specs.Hash.{fnvByte, fnvCell, fnvFrom, fnv1a, cellBytes, rowHash}
 
@@ -131,3 +131,12 @@ text-foobar = refl
 pub cells-foobar : rowHash (28518 ∷ 25199 ∷ 29281 ∷ []) ≡ 3214735720
 unfolding fnvFrom
 cells-foobar = refl
+
+-- The row of a leaf of symbol 6 that counts 7, and that of a row of symbol 8 over row 3.
+pub leaf-hash : rowHash (wordsCells 18446744073709486086 30064967679 0) ≡ 1578999038
+unfolding fnvFrom
+leaf-hash = refl
+
+pub node-hash : rowHash (encodeRow (record { symbol = 8; kind = 0; payload = 0; children = 3 ∷ [] })) ≡ 1647065064
+unfolding fnvFrom
+node-hash = refl

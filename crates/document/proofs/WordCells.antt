@@ -11,24 +11,22 @@ use lib.Arith.{mod-mul}
 use lib.Dec.{eqb}
 use lib.ListN.{length, getD, set, take, drop, length-append}
 use lib.Seq.{set-split, drop-drop}
-use Rattle.model.specs.Limits.{maxRows}
+use Rattle.model.specs.Limits.{maxRows, unused}
 use Rattle.model.specs.Lists.{eqList, tab}
 use Rattle.model.specs.Space.{putAt}
 use Rattle.model.proofs.Space.{put-fits, put-length, put-up-to, put-behind}
 use Rattle.automaton.proofs.Parts.{tab-same}
-use Rattle.document.specs.Rows.{rowCells, cellIn, splitCells}
-use Rattle.document.specs.Words.{wordsCells, cellsAt, sameWords}
+use Rattle.document.specs.Rows.{rowCells, cellIn, placesOf, splitCells}
+use Rattle.document.specs.Words.{wordsCells, Words, cellsAt, sameWords}
 
 -- ---- numbers of cells
 
--- a number of two cells, and one of four
-pub two-cells : (cells : List ℕ) (at x y : ℕ) → x ≡ getD cells at 0 → y ≡ getD cells (at + 1) 0 → x < 65536 → y < 65536 → splitCells 2 (x + y * 65536) ≡ cellsAt 2 cells at
-two-cells cells at x y e f h l =
+pub split-pair : (x y : ℕ) → x < 65536 → y < 65536 → splitCells 2 (x + y * 65536) ≡ x ∷ y ∷ []
+split-pair x y h l =
     let a : (x + y * 65536) % 65536 ≡ x = omega arith in
     let b : (x + y * 65536) / 65536 ≡ y = omega arith in
     let d : y % 65536 ≡ y = omega arith in
-    let z : at + 0 ≡ at = omega arith in
-    rw (a, b, d, z, e, f)
+    rw (a, b, d)
 
 -- the lower half of four cells, and the upper
 pub split-four : (x : ℕ) → splitCells 4 x ≡ splitCells 2 x ++ splitCells 2 (x / 4294967296)
@@ -44,14 +42,18 @@ split-low x =
     let b : x % 4294967296 / 65536 ≡ x / 65536 % 65536 = omega arith in
     rw (a, b, mod-mod (x / 65536) 65536)
 
-pub four-cells : (cells : List ℕ) (at x y : ℕ) → splitCells 2 x ≡ cellsAt 2 cells at → splitCells 2 y ≡ cellsAt 2 cells (at + 2) → x < 4294967296 → splitCells 4 (x + y * 4294967296) ≡ cellsAt 4 cells at
-four-cells cells at x y e f h =
+pub split-join : (x y : ℕ) → x < 4294967296 → splitCells 4 (x + y * 4294967296) ≡ splitCells 2 x ++ splitCells 2 y
+split-join x y h =
     let a : (x + y * 4294967296) % 4294967296 ≡ x = omega arith in
     let b : (x + y * 4294967296) / 4294967296 ≡ y = omega arith in
-    let p : at + 2 + 0 ≡ at + 2 = omega arith in
-    let q : at + 2 + 1 ≡ at + 3 = omega arith in
-    let g : splitCells 2 (x + y * 4294967296) ≡ cellsAt 2 cells at = sym (split-low (x + y * 4294967296)) ∙ ap (splitCells 2) a ∙ e in
-    split-four (x + y * 4294967296) ∙ ap (λ l. l ++ splitCells 2 ((x + y * 4294967296) / 4294967296)) g ∙ ap (λ n. cellsAt 2 cells at ++ splitCells 2 n) b ∙ ap (λ l. cellsAt 2 cells at ++ l) f ∙ (rw (p, q))
+    split-four (x + y * 4294967296) ∙ ap (λ l. l ++ splitCells 2 ((x + y * 4294967296) / 4294967296)) (sym (split-low (x + y * 4294967296)) ∙ ap (splitCells 2) a) ∙ ap (λ n. splitCells 2 x ++ splitCells 2 n) b
+
+-- the cells that stand at a place
+pub cells-two : (cells : List ℕ) (at : ℕ) → getD cells at 0 ∷ getD cells (at + 1) 0 ∷ [] ≡ cellsAt 2 cells at
+cells-two cells at = let z : at + 0 ≡ at = omega arith in rw z
+
+pub cells-four : (cells : List ℕ) (at : ℕ) → getD cells at 0 ∷ getD cells (at + 1) 0 ∷ getD cells (at + 2) 0 ∷ getD cells (at + 3) 0 ∷ [] ≡ cellsAt 4 cells at
+cells-four cells at = let z : at + 0 ≡ at = omega arith in rw z
 
 -- ---- two numbers are the same where their cells are
 
@@ -116,6 +118,18 @@ pub no-row : (cells : List ℕ) (a b c i : ℕ) → maxRows ≤ i → false ≡ 
 unfolding sameWords
 no-row cells a b c i l = rw (le-ltb i maxRows l)
 
+-- a leaf's words: its symbol and unused places; one more, the kind and half the payload; the other half
+pub leaf-words : (symbol kind payload a b c : ℕ) → payload < 2 ^ 64 → splitCells 4 a ≡ symbol ∷ unused ∷ unused ∷ unused ∷ [] → splitCells 4 b ≡ unused ∷ kind ∷ payload % 65536 ∷ payload / 65536 % 65536 ∷ [] → c ≡ payload / 4294967296
+    → Words (record { symbol = symbol; kind = kind; payload = payload; children = [] }) a b c
+leaf-words symbol kind payload a b c h ea eb ec =
+    record {
+      kept = record { few = omega arith; used-all = refl; payload = h };
+      cells =
+          ap (λ l. symbol ∷ placesOf [] ++ kind ∷ l) (split-four payload ∙ ap (λ n. splitCells 2 payload ++ splitCells 2 n) (sym ec))
+          ∙ ap (λ l. l ++ (unused ∷ kind ∷ payload % 65536 ∷ payload / 65536 % 65536 ∷ []) ++ splitCells 2 c) (sym ea)
+          ∙ ap (λ l. splitCells 4 a ++ l ++ splitCells 2 c) (sym eb);
+    }
+
 -- ---- cells put into a space, some behind the others
 
 module _ (out : List ℕ) (at : ℕ) where
@@ -164,3 +178,7 @@ module _ (out : List ℕ) (at : ℕ) where
       g
       ∙ ap (λ o. putAt o (at + 8) (splitCells 2 c)) (f ∙ ap (λ o. putAt o (at + 4) (splitCells 4 b)) e ∙ put-more out at (splitCells 4 a) (splitCells 4 b) (omega arith))
       ∙ put-more out at (splitCells 4 a ++ splitCells 4 b) (splitCells 2 c) (omega arith)
+
+-- A leaf of symbol 6 that counts 7.
+pub seven : Words (record { symbol = 6; kind = 2; payload = 7; children = [] }) 18446744073709486086 30064967679 0
+seven = leaf-words 6 2 7 18446744073709486086 30064967679 0 (omega arith) refl refl refl

@@ -5,6 +5,7 @@ use base::limits::MAX_ROWS;
 use base::numbers::size;
 use base::numbers::wide;
 ghost use mathlib.Core.Path.{_≡_};
+ghost use mathlib.Core.List.{[], _∷_};
 ghost use Prim.Native.Nat.{_+_, _*_, _<_, _≤_, _%_};
 ghost use lib.ListN.{length};
 ghost use Rattle.model.specs.Limits.{maxRows};
@@ -19,19 +20,33 @@ pub const CELLS: usize = MAX_ROWS as usize * ROW_CELLS;
 pub(crate) const TWO_CELLS: u64 = 4294967296;
 
 // Two cells as one number.
+fn pair(x: u16, y: u16) -> u64
+    ensures { λ r. ⌜ (splitCells 2 r ≡ x ∷ y ∷ []) × (r < 4294967296) ⌝ }
+{
+    wide(x) + wide(y) * 65536
+}
+
+// Four cells as one number: a word to place a row by.
+pub fn word(x: u16, y: u16, z: u16, w: u16) -> u64
+    ensures { λ r. ⌜ splitCells 4 r ≡ x ∷ y ∷ z ∷ w ∷ [] ⌝ }
+{
+    pair(x, y) + pair(z, w) * TWO_CELLS
+}
+
+// Two cells that stand at a place.
 pub(crate) fn two(cells: &[u16], at: usize) -> u64
     requires { ⌜ at + 2 ≤ length (now cells) ⌝ }
     ensures { λ r. ⌜ (splitCells 2 r ≡ cellsAt 2 (now (cells .entry)) at) × (r < 4294967296) ⌝ }
 {
-    wide(cells[at]) + wide(cells[at + 1]) * 65536
+    pair(cells[at], cells[at + 1])
 }
 
-// Four cells as one number.
+// Four cells that stand at a place.
 pub(crate) fn four(cells: &[u16], at: usize) -> u64
     requires { ⌜ at + 4 ≤ length (now cells) ⌝ }
     ensures { λ r. ⌜ splitCells 4 r ≡ cellsAt 4 (now (cells .entry)) at ⌝ }
 {
-    two(cells, at) + two(cells, at + 2) * TWO_CELLS
+    word(cells[at], cells[at + 1], cells[at + 2], cells[at + 3])
 }
 
 // Whether row i has the cells of the words; none past the last row that a table may have.
@@ -46,7 +61,7 @@ pub(crate) fn same_words(rows: &[u16; CELLS], i: Row, a: u64, b: u64, c: u64) ->
 }
 
 // A number's lowest cell.
-pub(crate) fn low_cell(x: u64) -> u16
+pub fn low_cell(x: u64) -> u16
     ensures { λ r. ⌜ r ≡ x % 65536 ⌝ }
 {
     (x % 65536) as u16
