@@ -111,17 +111,17 @@ found-inside r (x ∷ rows) i e = go (eqRow r x) (λ k q. found-inside r rows k 
 
 -- fields whose row is no text's
 pub no-text : (texts : ℕ) {r q : Row} → r ≡ q → (q .symbol ≡ textLeaf → ⊥) → Old texts r
-no-text texts {r} {q} f plain k l =
+no-text texts {r} {q} f plain =
     let e : eqb textLeaf (q .symbol) ≡ false = ne-eqb _ _ (λ p. plain (sym p)) in
-    ap (eqRow (leafRow textLeaf (Name k))) f ∙ rw e
+    record { differs = λ k l. ap (eqRow (leafRow textLeaf (Name k))) f ∙ rw e }
 
 -- the leaf of a text that has its number
 pub numbered-text : (texts n : ℕ) → n < texts → Old texts (leafRow textLeaf (Name n))
-numbered-text texts n h k l = let e : eqb k n ≡ false = ne-eqb k n (λ q. omega (arith, h, l, q)) in rw e
+numbered-text texts n h = record { differs = λ k l. let e : eqb k n ≡ false = ne-eqb k n (λ q. omega (arith, h, l, q)) in rw e }
 
 -- fields whose row is that leaf
 pub old-leaf : (texts n : ℕ) {r : Row} → r ≡ leafRow textLeaf (Name n) → n < texts → Old texts r
-old-leaf texts n e l k m = ap (eqRow (leafRow textLeaf (Name k))) e ∙ numbered-text texts n l k m
+old-leaf texts n e l = record { differs = λ k m. ap (eqRow (leafRow textLeaf (Name k))) e ∙ numbered-text texts n l .differs k m }
 
 -- the part that the builder's answer becomes
 abbrev pub partAfter : ℕ → ℕ → ℕ → Placed → Part
@@ -163,7 +163,7 @@ module _ (t cells slots starts found : List ℕ) (used texts limit : ℕ) (h : H
           distinct = h .distinct;
           indexed = h .indexed;
           few = omega (arith, h .few);
-          fresh = λ k l. ap (findRow (leafRow textLeaf (Name k))) e ∙ find-more (leafRow textLeaf (Name k)) r (rowsBelow cells used) (old k l) (h .fresh k l);
+          fresh = λ k l. ap (findRow (leafRow textLeaf (Name k))) e ∙ find-more (leafRow textLeaf (Name k)) r (rowsBelow cells used) (old .differs k l) (h .fresh k l);
         }
 
     finish-says : (cs ss : List ℕ) {a : Placed} → Put cells slots cs ss used limit r a → Says t cs ss starts found starts texts limit (partAfter next used texts a) (finish limit r next (builtIn t cells starts used texts))

@@ -125,7 +125,7 @@ module _ (t cells slots starts found : List ℕ) (used texts limit : ℕ) (h : H
           few = omega (arith, h .few);
           fresh = λ k l.
               ap (findRow (leafRow textLeaf (Name k))) e
-              ∙ find-more (leafRow textLeaf (Name k)) (leafRow textLeaf (Name texts)) (rowsBelow cells used) (numbered-text (texts + 1) texts (omega arith) k l) (h .fresh k (omega (arith, l)));
+              ∙ find-more (leafRow textLeaf (Name k)) (leafRow textLeaf (Name texts)) (rowsBelow cells used) (numbered-text (texts + 1) texts (omega arith) .differs k l) (h .fresh k (omega (arith, l)));
         }
 
 -- what a text that is new has

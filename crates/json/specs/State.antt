@@ -61,8 +61,8 @@ pub record Holds (t cells slots starts found : List ℕ) (used texts limit : ℕ
   pub fresh : (k : ℕ) → texts ≤ k → findRow (leafRow textLeaf (Name k)) (rowsBelow cells used) ≡ none
 
 -- A row that is not the leaf of a text still to come.
-abbrev pub Old : ℕ → Row → Type 0
-Old texts r = (k : ℕ) → texts ≤ k → eqRow (leafRow textLeaf (Name k)) r ≡ false
+pub record Old (texts : ℕ) (r : Row) : Type 0 where
+  pub differs : (k : ℕ) → texts ≤ k → eqRow (leafRow textLeaf (Name k)) r ≡ false
 
 -- A row was read, after so many texts that stay as they were.
 pub record After (t cells slots starts found old : List ℕ) (before limit : ℕ) (r : Part) (j next : ℕ) (b : Built) : Type 0 where

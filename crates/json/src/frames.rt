@@ -1,12 +1,12 @@
 // Members and elements whose rest is still to come, one at each level: a symbol, the row of a key's text and a value's row.
-use crate::rows::CELLS;
-use crate::rows::NEAR;
 use crate::rows::Part;
 use crate::rows::TEXTS;
 use crate::rows::close;
 use crate::rows::join;
 use document::index::SLOTS;
+use document::near::NEAR;
 use document::rows::Row;
+use document::words::CELLS;
 ghost use mathlib.Core.Path.{_≡_};
 ghost use Prim.Native.Nat.{_+_, _-_, _*_, _<_, _≤_};
 ghost use lib.ListN.{length};

@@ -1,6 +1,4 @@
 // Values without parts: words, numbers and strings.
-use crate::rows::CELLS;
-use crate::rows::NEAR;
 use crate::rows::Part;
 use crate::rows::TEXTS;
 use crate::rows::finish;
@@ -10,6 +8,8 @@ use crate::texts::text_leaf;
 use base::text::word_bytes;
 use document::Scalar;
 use document::index::SLOTS;
+use document::near::NEAR;
+use document::words::CELLS;
 use jsontext::number::NumberRead;
 use jsontext::number::number;
 use jsontext::strings::StringRead;
@@ -54,7 +54,7 @@ pub(crate) fn word(
     if n != letters.len() {
         return Part::Refused(71, at + n);
     }
-    let fields = leaf(symbol, scalar);
+    let w = leaf(symbol, scalar);
     finish(
         text,
         starts,
@@ -66,7 +66,9 @@ pub(crate) fn word(
         texts,
         limit,
         at + n,
-        fields,
+        w.a,
+        w.b,
+        w.c,
     )
 }
 
@@ -92,7 +94,7 @@ pub(crate) fn number_leaf(
         NumberRead::Fault(p) => Part::Refused(71, p),
         NumberRead::Outside(_) => Part::Refused(73, at),
         NumberRead::Is(scalar, next) => {
-            let fields = leaf(NUMBER, scalar);
+            let w = leaf(NUMBER, scalar);
             finish(
                 text,
                 starts,
@@ -104,7 +106,9 @@ pub(crate) fn number_leaf(
                 texts,
                 limit,
                 next,
-                fields,
+                w.a,
+                w.b,
+                w.c,
             )
         },
     }

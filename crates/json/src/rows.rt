@@ -1,27 +1,30 @@
 // Rows of what was read: each is looked for among the rows so far, and added where it is new.
 use base::limits::MAX_ROWS;
-use base::limits::PLACES;
 use base::limits::UNUSED;
 use base::text::byte_at;
 use document::Scalar;
 use document::builder::Placed;
-use document::builder::find_or_add;
-use document::fields::RowFields;
 use document::index::SLOTS;
-use document::rows::ROW_CELLS;
+use document::near::NEAR;
+use document::near::place_row;
 use document::rows::Row;
+use document::scalar;
+use document::words::CELLS;
+use document::words::low_cell;
+use document::words::word;
 ghost use mathlib.Core.Path.{_≡_};
 ghost use mathlib.Core.List.{[], _∷_, _++_};
 ghost use Prim.Native.Nat.{_<_};
-ghost use Rattle.document.specs.Fields.{fieldsRow};
+ghost use Rattle.model.specs.Table as table;
+ghost use Rattle.document.specs.Words.{Words};
 ghost use Rattle.json.specs.Signature.{textLeaf};
 ghost use Rattle.json.specs.Grammar.{leafRow, nodeRow, finish, closeAt};
 ghost use Rattle.json.specs.State.{keyRows, builtIn, Holds, Old, Says};
 
-// The cells of as many rows as a table has.
-pub(crate) const CELLS: usize = MAX_ROWS as usize * ROW_CELLS;
+// What one cell holds, and what two do.
+const CELL: u64 = 65536;
 
-pub(crate) const NEAR: usize = 2048;
+const TWO_CELLS: u64 = 4294967296;
 
 // As many texts as a table has rows, since each has a row.
 pub(crate) const TEXTS: usize = MAX_ROWS as usize;
@@ -35,39 +38,50 @@ pub(crate) enum Part {
     Refused(u16, usize),
 }
 
+// A row as the builder takes it: four cells, four, and two, in each number the first cell lowest.
+pub(crate) struct RowWords {
+    pub(crate) a: u64,
+    pub(crate) b: u64,
+    pub(crate) c: u64,
+}
+
 // A row without children.
-pub(crate) fn leaf(symbol: u16, scalar: Scalar) -> RowFields
-    ensures { λ r. ⌜ fieldsRow r ≡ leafRow symbol scalar ⌝ }
-    ensures named { λ r. ⌜ r .symbol ≡ symbol ⌝ }
+pub(crate) fn leaf(symbol: u16, scalar: Scalar) -> RowWords
+    ensures { λ r. ⌜ Words (leafRow symbol scalar) (r .a) (r .b) (r .c) ⌝ }
 {
-    RowFields {
-        symbol,
-        places: [Row(UNUSED); PLACES],
-        scalar,
+    let x = scalar::payload(scalar);
+    RowWords {
+        a: word(symbol, UNUSED, UNUSED, UNUSED),
+        b: word(
+            UNUSED,
+            scalar::kind(scalar),
+            low_cell(x),
+            low_cell(x / CELL),
+        ),
+        c: x / TWO_CELLS,
     }
 }
 
 // The row of a member or an element: its value and its rest, behind the text of a key that is not listed.
-pub(crate) fn node(symbol: u16, key: Row, value: Row, rest: Row) -> RowFields
+fn node(symbol: u16, key: Row, value: Row, rest: Row) -> RowWords
     requires { ⌜ (key .0 < 65535) × (value .0 < 65535) × (rest .0 < 65535) ⌝ }
-    ensures { λ r. ⌜ fieldsRow r ≡ nodeRow symbol ((keyRows symbol (key .0) ++ value .0 ∷ []) ++ rest .0 ∷ []) ⌝ }
-    ensures named { λ r. ⌜ r .symbol ≡ symbol ⌝ }
+    ensures { λ r. ⌜ Words (nodeRow symbol ((keyRows symbol (key .0) ++ value .0 ∷ []) ++ rest .0 ∷ [])) (r .a) (r .b) (r .c) ⌝ }
 {
     if symbol == OTHER {
-        return RowFields {
-            symbol,
-            places: [key, value, rest, Row(UNUSED)],
-            scalar: Scalar::Bare,
+        return RowWords {
+            a: word(symbol, key.0, value.0, rest.0),
+            b: word(UNUSED, 0, 0, 0),
+            c: 0,
         };
     }
-    RowFields {
-        symbol,
-        places: [value, rest, Row(UNUSED), Row(UNUSED)],
-        scalar: Scalar::Bare,
+    RowWords {
+        a: word(symbol, value.0, rest.0, UNUSED),
+        b: word(UNUSED, 0, 0, 0),
+        c: 0,
     }
 }
 
-// The row of the fields, which is not that of a text still to come, is finished before `next`.
+// The row of the words, which is not that of a text still to come, is finished before `next`.
 pub(crate) fn finish(
     text: &[u8],
     starts: &[usize; TEXTS],
@@ -79,14 +93,15 @@ pub(crate) fn finish(
     texts: u16,
     limit: u16,
     next: usize,
-    fields: RowFields,
+    a: u64,
+    b: u64,
+    c: u64,
 ) -> Part
     requires holds { ⌜ Holds (now text) (now rows) (now slots) (now starts) (now found) used texts limit ⌝ }
     requires behind { ⌜ 0 < next ⌝ }
-    requires old { ⌜ Old texts (fieldsRow fields) ⌝ }
-    ensures { λ r. ⌜ Says (now (text .entry)) (now (rows .exit)) (now (slots .exit)) (now (starts .entry)) (now (found .entry)) (now (starts .entry)) texts limit r (finish limit (fieldsRow fields) next (builtIn (now (text .entry)) (now (rows .entry)) (now (starts .entry)) used texts)) ⌝ }
+    ensures { λ r. ⌜ ((x : table.Row) → Words x a b c → Old texts x → Says (now (text .entry)) (now (rows .exit)) (now (slots .exit)) (now (starts .entry)) (now (found .entry)) (now (starts .entry)) texts limit r (finish limit x next (builtIn (now (text .entry)) (now (rows .entry)) (now (starts .entry)) used texts))) ⌝ }
 {
-    match find_or_add(rows, slots, used, limit, fields) {
+    match place_row(rows, slots, near, used, limit, a, b, c) {
         Placed::Known(i) => Part::Read(i, next, used, texts),
         Placed::Added(i) => Part::Read(i, next, used + 1, texts),
         Placed::Full => Part::Refused(67, next - 1),
@@ -116,7 +131,7 @@ pub(crate) fn join(
     requires inside { ⌜ (key .0 < 65535) × (value .0 < 65535) × (rest .0 < 65535) ⌝ }
     ensures { λ r. ⌜ Says (now (text .entry)) (now (rows .exit)) (now (slots .exit)) (now (starts .entry)) (now (found .entry)) (now (starts .entry)) texts limit r (finish limit (nodeRow symbol ((keyRows symbol (key .0) ++ value .0 ∷ []) ++ rest .0 ∷ [])) next (builtIn (now (text .entry)) (now (rows .entry)) (now (starts .entry)) used texts)) ⌝ }
 {
-    let fields = node(symbol, key, value, rest);
+    let w = node(symbol, key, value, rest);
     finish(
         text,
         starts,
@@ -128,7 +143,9 @@ pub(crate) fn join(
         texts,
         limit,
         next,
-        fields,
+        w.a,
+        w.b,
+        w.c,
     )
 }
 
@@ -155,7 +172,7 @@ pub(crate) fn close(
     if byte_at(text, at) != mark {
         return Part::Refused(71, at);
     }
-    let fields = leaf(symbol, Scalar::Bare);
+    let w = leaf(symbol, Scalar::Bare);
     finish(
         text,
         starts,
@@ -167,6 +184,8 @@ pub(crate) fn close(
         texts,
         limit,
         at + 1,
-        fields,
+        w.a,
+        w.b,
+        w.c,
     )
 }

@@ -1,6 +1,4 @@
 // Texts that become leaves, numbered by first appearance after decoding: each is known by the place where it first stands, and an index finds it again.
-use crate::rows::CELLS;
-use crate::rows::NEAR;
 use crate::rows::Part;
 use crate::rows::TEXTS;
 use crate::rows::finish;
@@ -8,8 +6,10 @@ use crate::rows::leaf;
 use base::numbers::size;
 use document::Scalar;
 use document::builder::Placed;
-use document::builder::find_or_add;
 use document::index::SLOTS;
+use document::near::NEAR;
+use document::near::place_row;
+use document::words::CELLS;
 use jsontext::decoded::same;
 ghost use mathlib.Core.Path.{_≡_};
 ghost use Prim.Native.Nat.{_<_};
@@ -90,13 +90,8 @@ fn new_text(
     requires new { ⌜ ProbedAt (now text) (now starts) (now found) at next (Free free) ⌝ }
     ensures { λ r. ⌜ Says (now (text .entry)) (now (rows .exit)) (now (slots .exit)) (now (starts .exit)) (now (found .exit)) (now (starts .entry)) texts limit r (afterText limit (builtIn (now (text .entry)) (now (rows .entry)) (now (starts .entry)) used texts) (stringAt (now (text .entry)) at)) ⌝ }
 {
-    match find_or_add(
-        rows,
-        slots,
-        used,
-        limit,
-        leaf(TEXT, Scalar::Name(texts as u32)),
-    ) {
+    let w = leaf(TEXT, Scalar::Name(texts as u32));
+    match place_row(rows, slots, near, used, limit, w.a, w.b, w.c) {
         Placed::Known(_) => Part::Refused(67, next - 1),
         Placed::Added(i) => {
             starts[size(texts)] = at;
@@ -128,19 +123,24 @@ pub(crate) fn text_leaf(
     ensures { λ r. ⌜ Says (now (text .entry)) (now (rows .exit)) (now (slots .exit)) (now (starts .exit)) (now (found .exit)) (now (starts .entry)) texts limit r (afterText limit (builtIn (now (text .entry)) (now (rows .entry)) (now (starts .entry)) used texts) (stringAt (now (text .entry)) at)) ⌝ }
 {
     match probed {
-        TextProbed::Known(k) => finish(
-            text,
-            &*starts,
-            &*found,
-            rows,
-            slots,
-            near,
-            used,
-            texts,
-            limit,
-            next,
-            leaf(TEXT, Scalar::Name(k as u32)),
-        ),
+        TextProbed::Known(k) => {
+            let w = leaf(TEXT, Scalar::Name(k as u32));
+            finish(
+                text,
+                &*starts,
+                &*found,
+                rows,
+                slots,
+                near,
+                used,
+                texts,
+                limit,
+                next,
+                w.a,
+                w.b,
+                w.c,
+            )
+        },
         TextProbed::Free(free) => new_text(
             text,
             rows,

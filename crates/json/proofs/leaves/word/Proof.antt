@@ -2,7 +2,7 @@
 use native.Mathlib.Omega.{arith}
 use borrow.Author.Needs.{needs}
 use denote.Ref.{now}
-use mathlib.Core.Path.{ap, _∙_}
+use mathlib.Core.Path.{refl, ap, _∙_}
 use Rattle.base.proofs.Words.{word-short, word-whole, word-broken}
 use Rattle.json.specs.State.{builtIn}
 use Rattle.json.proofs.Holding.{no-text}
@@ -17,11 +17,11 @@ returns : tie.Need-returns
 returns c = word-fault _ _ (word-broken _ _ _ _ _ (c .before .word-bytes .ensures) (c .if1 .taken))
 
 finish-requires : tie.Need-finish-requires
-finish-requires c κs = (c .before .before .before .before .before .before .before .before .pre .0, (omega (arith, c .before .before .before .before .if1 .left, c .before .before .before .before .before .before .before .before .pre .1 .1 .0), no-text _ (c .before .before .before .leaf .ensures .0) (c .before .before .before .before .before .before .before .before .pre .1 .1 .1)))
+finish-requires c κs = (c .before .before .before .before .before .before .before .before .pre .0, omega (arith, c .before .before .before .before .if1 .left, c .before .before .before .before .before .before .before .before .pre .1 .1 .0))
 
 returns-2 : tie.Need-returns-2
 returns-2 c =
-    word-is (builtIn (now (c .before .before .before .before .before .before .before .before .before .args .text)) (now (c .before .before .before .before .before .before .before .before .before .args .rows)) (now (c .before .before .before .before .before .before .before .before .before .args .starts)) (c .before .before .before .before .before .before .before .before .before .args .used) (c .before .before .before .before .before .before .before .before .before .args .texts)) _ (word-whole _ _ _ _ _ (c .before .before .before .before .before .before .word-bytes .ensures) (c .before .before .before .before .before .if1 .left)) (c .before .before .before .before .leaf .ensures .0) (c .finish .ensures)
+    word-is (builtIn (now (c .before .before .before .before .before .before .before .before .before .args .text)) (now (c .before .before .before .before .before .before .before .before .before .args .rows)) (now (c .before .before .before .before .before .before .before .before .before .args .starts)) (c .before .before .before .before .before .before .before .before .before .args .used) (c .before .before .before .before .before .before .before .before .before .args .texts)) _ (word-whole _ _ _ _ _ (c .before .before .before .before .before .before .word-bytes .ensures) (c .before .before .before .before .before .if1 .left)) refl (c .finish .ensures _ (c .before .before .before .before .leaf .ensures) (no-text _ refl (c .before .before .before .before .before .before .before .before .before .pre .1 .1 .1)))
 
 pub word-spec : {M : Type 1} → statement M
 word-spec =

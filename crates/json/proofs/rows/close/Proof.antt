@@ -1,5 +1,5 @@
 -- Another byte is refused; the mark stands inside the text, and its leaf is finished behind it. Assumes nothing.
-use mathlib.Core.Path.{sym, _∙_}
+use mathlib.Core.Path.{refl, sym, _∙_}
 use native.Mathlib.Omega.{arith}
 use borrow.Author.Needs.{needs}
 use denote.Ref.{now}
@@ -17,10 +17,10 @@ add-finish c =
     omega (arith, c .before .before .before .before .before .before .before .good .0, byte-inside (now (c .before .before .before .before .before .before .before .args .text)) (c .before .before .before .before .before .before .before .args .at) (c .before .before .before .before .before .byte-at .result) (c .before .before .before .before .before .byte-at .ensures) (omega (arith, c .before .before .before .before .if1 .left, c .before .before .before .before .before .before .before .pre .1 .0)))
 
 finish-requires : tie.Need-finish-requires
-finish-requires c κs = (c .before .before .before .before .before .before .before .pre .0, (omega arith, no-text _ (c .before .before .before .leaf .ensures .0) (c .before .before .before .before .before .before .before .pre .1 .1)))
+finish-requires c κs = (c .before .before .before .before .before .before .before .pre .0, omega arith)
 
 returns-2 : tie.Need-returns-2
-returns-2 c = close-right _ _ _ _ (sym (c .before .before .before .before .before .before .byte-at .ensures) ∙ c .before .before .before .before .before .if1 .left) (c .before .before .before .before .leaf .ensures .0) (c .finish .ensures)
+returns-2 c = close-right _ _ _ _ (sym (c .before .before .before .before .before .before .byte-at .ensures) ∙ c .before .before .before .before .before .if1 .left) refl (c .finish .ensures _ (c .before .before .before .before .leaf .ensures) (no-text _ refl (c .before .before .before .before .before .before .before .before .pre .1 .1)))
 
 pub close-spec : {M : Type 1} → statement M
 close-spec =
