@@ -1,14 +1,14 @@
 -- The closing mark, and the row of a member or an element that it closes: each way through the definitions. Assumes nothing.
-use mathlib.Core.Path.{_≡_, ap, refl}
+use mathlib.Core.Path.{_≡_, refl}
 use mathlib.Core.Bool.{true, false}
-use mathlib.Core.List.{List, [], _∷_, _++_}
+use mathlib.Core.List.{List}
 use Prim.Native.Nat.{ℕ, _+_}
 use borrow.Author.Tests.{eq-eqb, ne-eqb}
 use lib.Dec.{eqb}
 use Rattle.base.specs.Text.{byteAt}
 use Rattle.model.specs.Table.{Row}
 use Rattle.document.specs.declared.scalar.Scalar.the-variants.{Bare}
-use Rattle.json.specs.Grammar.{Built, Outcome, good, refused, leafRow, nodeRow, finish, closeAt, joined}
+use Rattle.json.specs.Grammar.{Built, refused, leafRow, finish, closeAt}
 use Rattle.json.specs.State.{Says, says-refused}
 use Rattle.json.specs.declared.rows.Part.{Part}
 use Rattle.json.specs.declared.rows.Part.the-variants.{Refused}

@@ -1,23 +1,21 @@
 -- What the readers of values, members and elements hand to each other. Assumes nothing.
 use mathlib.Core.Path.{_≡_, refl, sym, ap, subst, _∙_}
-use mathlib.Core.Bool.{Bool, true, false}
+use mathlib.Core.Bool.{true, false}
 use mathlib.Core.List.{List, [], _∷_, _++_, List·Memᴰ as In, List·Memᴰ·not-nil as not-nil}
 use Prim.Native.Nat.{ℕ, zero, suc, _+_, _-_, _<_, _≤_}
-use native.Mathlib.Numerals.{add-one}
 use native.Mathlib.Omega.{arith}
-use lib.ListN.{length, getD, take, drop}
+use lib.ListN.{getD, take, drop}
 use Rattle.model.specs.Limits.{unused}
 use Rattle.model.specs.Lists.{any, eqList}
 use Rattle.document.specs.Fields.{asRow}
 use Rattle.document.specs.declared.rows.Row as number
-use Rattle.json.specs.Signature.{textLeaf, item}
-use Rattle.json.specs.Grammar.{Setting, Built, refused, members, elements}
+use Rattle.json.specs.Signature.{textLeaf}
+use Rattle.json.specs.Grammar.{members, elements}
 use Rattle.json.specs.State.{keyRows, builtIn, Holds}
 use Rattle.json.specs.Seen.{entryKey, entries, Seen, KeyOutcome, key-good, key-refused, KeySays, key-says, key-says-no}
-use Rattle.json.specs.Items.{membersBelow, elementsBelow, restOf, itemAt}
+use Rattle.json.specs.Items.{}
 use Rattle.json.specs.declared.members.KeyPart.{KeyPart}
 use Rattle.json.specs.declared.members.KeyPart.the-variants.{Key, NoKey}
-use Rattle.json.proofs.Walking.{elements-item}
 
 -- an answer that says what key was read
 pub record KeySaid (keys : List (List ℕ)) (t cells slots starts found pending old : List ℕ) (before limit lo hi : ℕ) (seen : List (List ℕ)) (o : KeyOutcome) (symbol : ℕ) (row : number.Row) (next used texts : ℕ) : Type 0 where
@@ -75,39 +73,9 @@ pub back : (l : ℕ) → (l ≡ 0 → ⊥) → l - 1 + 1 ≡ l
 back zero n = absurd (n refl)
 back (suc l) n = omega arith
 
-pub seen-back : {keys : List (List ℕ)} {t starts pending : List ℕ} {texts hi : ℕ} {seen : List (List ℕ)} (l : ℕ) → (l ≡ 0 → ⊥) → Seen keys t starts pending texts l hi seen → Seen keys t starts pending texts (l - 1 + 1) hi seen
-seen-back {keys} {t} {starts} {pending} {texts} {hi} {seen} l n s = subst (λ m. Seen keys t starts pending texts m hi seen) (sym (back l n)) s
-
 pub kept-back : (l : ℕ) → (l ≡ 0 → ⊥) → (a b : List ℕ) → drop (l - 1 + 1) a ≡ drop (l - 1 + 1) b → drop l a ≡ drop l b
 kept-back l n a b e = subst (λ m. drop m a ≡ drop m b) (back l n) e
 
-drop-one : (l : ℕ) (a : List ℕ) → drop (suc l) a ≡ drop 1 (drop l a)
-drop-one zero a = refl
-drop-one (suc l) [] = refl
-drop-one (suc l) (x ∷ a) = drop-one l a
-
-pub kept-more : (l : ℕ) (a b : List ℕ) → drop l a ≡ drop l b → drop (l + 1) a ≡ drop (l + 1) b
-kept-more l a b e = ap (λ n. drop n a) (add-one l) ∙ drop-one l a ∙ ap (drop 1) e ∙ sym (drop-one l b) ∙ sym (ap (λ n. drop n b) (add-one l))
-
--- ---- the rest behind a value
-
-module _ (l : ℕ) (S : Setting) (t : List ℕ) (seen : List (List ℕ)) (at : ℕ) (b : Built) where
-  pub rest-deep : (object : Bool) → l ≡ 0 → restOf object l S t seen at b ≡ refused 64 at
-  rest-deep object e = ap (λ m. restOf object m S t seen at b) e ∙ go object
-    where
-      go : (object : Bool) → restOf object 0 S t seen at b ≡ refused 64 at
-      go true = refl
-      go false = refl
-
-  below-some : (m : ℕ) → (m ≡ 0 → ⊥) → (membersBelow m S t seen at b ≡ members (m - 1) S t seen at b) × (elementsBelow m S t at b ≡ elements (m - 1) S t at b)
-  below-some zero n = absurd (n refl)
-  below-some (suc m) n = let e : suc m - 1 ≡ m = omega arith in (ap (λ k. members k S t seen at b) (sym e), ap (λ k. elements k S t at b) (sym e))
-
-  pub rest-members : (object : Bool) → object ≡ true → (l ≡ 0 → ⊥) → restOf object l S t seen at b ≡ members (l - 1) S t seen at b
-  rest-members object e n = ap (λ o. restOf o l S t seen at b) e ∙ below-some l n .0
-
-  pub rest-elements : (object : Bool) → object ≡ false → (l ≡ 0 → ⊥) → restOf object l S t seen at b ≡ itemAt false (l - 1) S t [] item 0 at b
-  rest-elements object e n = ap (λ o. restOf o l S t seen at b) e ∙ below-some l n .1 ∙ elements-item S t (l - 1) at b
-
+-- no test is both
 pub no-object : {A : Type 0} → false ≡ true → A
 no-object e = let z : _≡_ {A = ℕ} 0 1 = cc in absurd (omega arith)

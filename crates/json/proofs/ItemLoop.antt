@@ -11,25 +11,21 @@ use lib.Seq.{drop-drop}
 use Rattle.base.specs.Text.{byteAt}
 use Rattle.document.specs.declared.rows.Row as number
 use Rattle.jsontext.specs.Spaces.{spaceEnd}
-use Rattle.json.specs.Signature.{textLeaf, item}
-use Rattle.json.specs.Grammar.{Setting, Built, Outcome, good, refused, joined, closeAt, value}
+use Rattle.json.specs.Grammar.{Setting, Built, Outcome, refused, joined, closeAt, value}
 use Rattle.json.specs.State.{keyRows, builtIn, Holds, Says, says-refused}
 use Rattle.json.specs.Seen.{Seen}
-use Rattle.json.specs.Items.{markOf, leafOf, membersBelow, elementsBelow, restOf, listAt, itemsAt, itemAt, plainAt}
+use Rattle.json.specs.Items.{markOf, leafOf, restOf, listAt, itemsAt, itemAt, plainAt}
 use Rattle.json.specs.Frames.{joins, Framed, Same, FrameSet}
 use Rattle.json.specs.Heads.{Headed, HeadSays, head-says, head-says-no}
 use Rattle.json.specs.declared.members.KeyPart.{KeyPart}
 use Rattle.json.specs.declared.members.KeyPart.the-variants.{Key, NoKey}
 use Rattle.json.specs.declared.rows.Part.{Part}
-use Rattle.json.specs.declared.rows.Part.the-variants.{Read, Refused}
+use Rattle.json.specs.declared.rows.Part.the-variants.{Refused}
 use Rattle.json.proofs.Holding.{says-by, says-since, Said, small}
 use Rattle.json.proofs.ItemWays.{seen-kept, item-refused, item-last, item-rest}
 use Rattle.json.proofs.Walking.{empty-object, some-members, empty-array, some-elements, plain-one}
-use Rattle.json.proofs.CycleWays.{seen-none}
+use Rattle.json.proofs.CycleWays.{seen-none, no-object}
 use Rattle.json.proofs.Framing.{same-from, same-then, joins-refused, joins-none, frame-made, framed-more}
-
-not-both : {A : Type 0} → false ≡ true → A
-not-both e = let z : _≡_ {A = ℕ} 0 1 = cc in absurd (omega arith)
 
 -- what agrees from a place on agrees from a later one on
 drop-further : (k n : ℕ) (a b : List ℕ) → k ≤ n → drop k a ≡ drop k b → drop n a ≡ drop n b
@@ -124,7 +120,7 @@ module _ {alone object : Bool} {S : Setting} {t : List ℕ} {top : ℕ} {o : Out
 
   -- a member is no value alone
   pub walk-many : (alone ≡ true → object ≡ false) → object ≡ true → alone ≡ false
-  walk-many single is-object = not-true (λ q. not-both (sym (single q) ∙ is-object))
+  walk-many single is-object = not-true (λ q. no-object (sym (single q) ∙ is-object))
 
   -- the key is refused
   pub walk-no-key : (alone ≡ true → object ≡ false) → {k x : ℕ} → (object ≡ true) × (listAt object l S t (w .seen) i (builtIn t cells starts used texts) ≡ refused k x) → {cs ss st fd : List ℕ} → Says t cs ss st fd old before (S .limit) (Refused k x) o
@@ -228,11 +224,11 @@ module _ {alone object : Bool} {S : Setting} {t : List ℕ} {top : ℕ} {o : Out
 -- ---- a value that holds items
 
 either : (x y : Bool) → (x || y) ≡ true → x ≡ false → y ≡ true
-either true y e f = not-both (sym f)
+either true y e f = no-object (sym f)
 either false y e f = e
 
 neither : (x y : Bool) → (x || y) ≡ false → (x ≡ false) × (y ≡ false)
-neither true y e = not-both (sym e)
+neither true y e = no-object (sym e)
 neither false y e = (refl, e)
 
 module _ (S : Setting) (t : List ℕ) (at : ℕ) (b : Built) (l : ℕ) (deep : l ≡ 0 → ⊥) (c : ℕ) (first : c ≡ byteAt t at) where

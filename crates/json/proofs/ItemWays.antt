@@ -1,22 +1,18 @@
 -- A member behind its key, or an element: what was said of its value, its rest and its row is said of it. Assumes nothing.
-use mathlib.Core.Path.{_≡_, refl, sym, ap, subst, _∙_}
-use mathlib.Core.Bool.{Bool, true, false}
+use mathlib.Core.Path.{_≡_, sym, ap, subst, _∙_}
+use mathlib.Core.Bool.{Bool}
 use mathlib.Core.List.{List, [], _∷_, _++_, List·Memᴰ as In}
 use Prim.Native.Nat.{ℕ, _+_, _-_, _<_, _≤_}
-use native.Mathlib.Omega.{arith}
-use lib.ListN.{length, getD, take, drop}
+use lib.ListN.{getD, take, drop}
 use Rattle.base.specs.Text.{byteAt}
 use Rattle.jsontext.specs.Spaces.{spaceEnd}
 use Rattle.document.specs.declared.rows.Row as number
-use Rattle.json.specs.Grammar.{Setting, Built, Outcome, good, refused, Reader, nodeRow, finish, closeAt, joined, restAt, afterValue, value}
-use Rattle.json.specs.State.{keyRows, builtIn, Says, says-refused}
+use Rattle.json.specs.Grammar.{Setting, Built, Outcome, good, refused, closeAt, joined, restAt, afterValue, value}
+use Rattle.json.specs.State.{keyRows}
 use Rattle.json.specs.Seen.{entryKey, entries, Seen}
 use Rattle.json.specs.Items.{markOf, leafOf, restOf, itemAt}
-use Rattle.json.specs.declared.rows.Part.{Part}
-use Rattle.json.specs.declared.rows.Part.the-variants.{Refused}
 use Rattle.model.specs.Limits.{maxRows}
 use Rattle.model.specs.Lists.{any, eqList}
-use Rattle.json.proofs.Holding.{says-by, says-since, Said}
 use Rattle.json.proofs.SeenKeys.{any-same, entry-kept, entry-stays}
 use Rattle.json.proofs.Walking.{rest-comma, rest-none}
 

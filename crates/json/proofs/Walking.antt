@@ -1,8 +1,8 @@
 -- Each way through the definitions of values, members and elements. Assumes nothing.
-use mathlib.Core.Path.{_≡_, refl, sym, ap, subst, _∙_}
-use mathlib.Core.Bool.{Bool, true, false, _||_, cond}
+use mathlib.Core.Path.{_≡_, refl, sym, ap, _∙_}
+use mathlib.Core.Bool.{Bool, true, false, cond}
 use mathlib.Core.List.{List, [], _∷_, _++_}
-use Prim.Native.Nat.{ℕ, zero, suc, _+_, _-_, _<_, _≤_}
+use Prim.Native.Nat.{ℕ, zero, suc, _+_, _-_}
 use native.Mathlib.Omega.{arith}
 use borrow.Author.Tests.{eq-eqb, ne-eqb}
 use lib.Dec.{eqb}
@@ -11,17 +11,13 @@ use Rattle.base.specs.Text.{byteAt, Got, got, fault}
 use Rattle.model.specs.Lists.{any, eqList}
 use Rattle.jsontext.specs.Spaces.{spaceEnd}
 use Rattle.jsontext.specs.Strings.{stringAt}
-use Rattle.document.specs.declared.scalar.Scalar.the-variants.{Bare}
 use Rattle.document.specs.declared.rows.Row as number
 use Rattle.json.specs.Signature.{end, stop, item, keySymbol}
 use Rattle.json.specs.Keys.{findText}
-use Rattle.json.specs.Grammar.{Setting, Built, Outcome, good, refused, Reader, MemberReader, leafRow, finish, finishText, opens?, noValue, closeAt, restAt, joined, afterValue, elementBy, memberBy, afterKey, keyBy, membersBy, bodyAt, valueBy, members, elements, value}
-use Rattle.json.specs.State.{keyRows, builtIn, Says, says-refused}
-use Rattle.json.specs.Seen.{KeyOutcome, key-good, key-refused, otherKey, keyOf, keyAt, behindKey}
-use Rattle.json.specs.Items.{markOf, leafOf, membersBelow, elementsBelow, restOf, itemAt, plainAt}
-use Rattle.json.specs.declared.rows.Part.{Part}
-use Rattle.json.specs.declared.rows.Part.the-variants.{Refused}
-use Rattle.json.proofs.Holding.{says-by, Said}
+use Rattle.json.specs.Grammar.{Setting, Built, Outcome, good, refused, Reader, MemberReader, finishText, opens?, noValue, closeAt, restAt, afterValue, elementBy, memberBy, afterKey, keyBy, membersBy, bodyAt, valueBy, members, elements, value}
+use Rattle.json.specs.State.{keyRows}
+use Rattle.json.specs.Seen.{key-good, key-refused, otherKey, keyOf, keyAt, behindKey}
+use Rattle.json.specs.Items.{membersBelow, itemAt, plainAt}
 
 -- ---- a value by its first byte
 
