@@ -41,11 +41,11 @@ module _ (r : DigitRun) (b x : ℕ) (value : x ≡ b - 48) (d : Digits) (held : 
 
 -- one digit
 module _ (t : List ℕ) (d : Digits) (i n : ℕ) where
-  pub no-digit : digit? (byteAt t i) ≡ false → digitsFrom (suc n) t d i ≡ got d i
+  no-digit : digit? (byteAt t i) ≡ false → digitsFrom (suc n) t d i ≡ got d i
   unfolding digitsFrom
   no-digit e = rw (digitsFrom, e)
 
-  pub next-digit : digit? (byteAt t i) ≡ true → digitsFrom (suc n) t d i ≡ digitsFrom n t (withDigit d (byteAt t i)) (i + 1)
+  next-digit : digit? (byteAt t i) ≡ true → digitsFrom (suc n) t d i ≡ digitsFrom n t (withDigit d (byteAt t i)) (i + 1)
   unfolding digitsFrom
   next-digit e = rw (digitsFrom, e)
 

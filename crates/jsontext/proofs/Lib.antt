@@ -20,7 +20,6 @@ pub mod NumberWays
 pub mod NumberSizes
 pub mod NumberParts
 pub mod NumberScalars
-pub mod ShortRuns
 pub mod Packing
 pub mod Agreeing
 pub mod Comparing

@@ -1,16 +1,11 @@
 -- What the number scanner's answers stand for. Assumes nothing.
 use mathlib.Core.Path.{_≡_}
-use mathlib.Core.Bool.{true, false}
-use mathlib.Core.List.{List}
 use mathlib.Core.Option.{Option, none, some}
-use Prim.Native.Nat.{ℕ, _+_, _-_, _^_, _<_, _≤_, min}
+use Prim.Native.Nat.{ℕ, _-_, _^_, _<_, _≤_, min}
 use lib.Dec.{ltb}
-use lib.ListN.{length}
-use Rattle.base.specs.Text.{byteAt, Got, got, fault}
-use Rattle.classes.specs.Classes.{digit?}
+use Rattle.base.specs.Text.{Got, got, fault}
 use Rattle.document.specs.declared.scalar.Scalar.{Scalar}
-use Rattle.jsontext.specs.Number.{Digits, digitsOf, digitsFrom}
-use Rattle.jsontext.specs.declared.digits.ShortRun.{ShortRun}
+use Rattle.jsontext.specs.Number.{Digits}
 use Rattle.jsontext.specs.declared.number.DigitRun.{DigitRun}
 use Rattle.jsontext.specs.declared.number.DigitsRead.{DigitsRead}
 use Rattle.jsontext.specs.declared.number.DigitsRead.the-variants.{Digits as Run, Fault as NoDigits}
@@ -36,19 +31,6 @@ pub record Carried (r : DigitRun) (i : ℕ) : Type 0 where
 abbrev pub carriedAt : Got Digits → DigitsRead
 carriedAt (got d n) = Run (carried d) n
 carriedAt (fault p) = NoDigits p
-
--- The digits from place `at` up to place i, after others that come to `before`, come to v; so the digits from `at` on are they and those from i on.
-pub record Summed (t : List ℕ) (before at v i : ℕ) : Type 0 where
-  pub forward : at ≤ i
-  pub first : at < i → digit? (byteAt t at) ≡ true
-  pub small : (n : ℕ) → before < 10 ^ n → v < 10 ^ (n + (i - at))
-  pub same : (n : ℕ) → digitsFrom (length t - i) t (digitsOf v (n + (i - at))) i ≡ digitsFrom (length t - at) t (digitsOf before n) at
-
--- Digits were read from place `at` up to the first byte that is none, or up to place `last`.
-pub record FewRead (t : List ℕ) (before at last : ℕ) (r : ShortRun) : Type 0 where
-  pub summed : Summed t before at (r .value) (r .end)
-  pub inside : r .end ≤ last
-  pub stops : r .end < last → digit? (byteAt t (r .end)) ≡ false
 
 -- a number: its scalar, or none where it is outside the forms that become one
 abbrev pub numberOf : NumberRead → Got (Option Scalar)

@@ -1,6 +1,5 @@
 // JSON (RFC 8259) at a place of a text: white space, strings, numbers.
 pub mod number; // number.rt: a number, and the scalar that it becomes
-mod digits; // digits.rt: digits that fit into 64 bits
 mod rate; // rate.rt: a decimal number as a rate
 pub mod spaces; // spaces.rt: white space
 mod utf8; // utf8.rt: sequences of bytes above 127

@@ -1,6 +1,4 @@
 // A JSON number at a place of a text, and the scalar that it becomes.
-use crate::digits::FITTING;
-use crate::digits::few_digits;
 use crate::rate::rate;
 use base::text::byte_at;
 use classes::is_digit;
@@ -8,12 +6,12 @@ use document::Scalar;
 use document::scalar::bits_of;
 use document::scalar::row_rate;
 ghost use mathlib.Core.Path.{_≡_};
-ghost use mathlib.Core.Bool.{true, false};
+ghost use mathlib.Core.Bool.{true};
 ghost use Prim.Native.Nat.{_+_, _-_, _<_, _≤_, _^_};
 ghost use lib.ListN.{length};
-ghost use Rattle.base.specs.Text.{byteAt, got};
+ghost use Rattle.base.specs.Text.{got};
 ghost use Rattle.classes.specs.Classes.{digit?, classTable};
-ghost use Rattle.jsontext.specs.Number.{Digits, Number, digitsOf, noDigits, withDigit, digitsFrom, someDigits, wholeAt, signEnd, withExponent, plainNumber, exponentAt, fractionAt, afterWhole, numberAt, numberScalar, asScalar};
+ghost use Rattle.jsontext.specs.Number.{Digits, Number, noDigits, withDigit, digitsFrom, someDigits, wholeAt, signEnd, withExponent, plainNumber, exponentAt, fractionAt, afterWhole, numberAt, numberScalar, asScalar};
 ghost use Rattle.jsontext.specs.NumberAnswer.{carried, carriedAt, Carried, numberOf};
 
 const MAX_COUNT: u64 = 18446744073709551615;
@@ -236,8 +234,8 @@ fn behind_sign(text: &[u8], classes: &[u8; 256], negative: bool, at: usize) -> N
     }
 }
 
-// The number at a place, however long it is.
-fn any_number(text: &[u8], classes: &[u8; 256], at: usize) -> NumberRead
+// The number at a place, the longest one, as a scalar.
+pub fn number(text: &[u8], classes: &[u8; 256], at: usize) -> NumberRead
     requires lent { ⌜ now classes ≡ classTable ⌝ }
     ensures { λ r. ⌜ numberOf r ≡ asScalar (numberAt (now (text .entry)) at) ⌝ }
 {
@@ -245,67 +243,4 @@ fn any_number(text: &[u8], classes: &[u8; 256], at: usize) -> NumberRead
         return behind_sign(text, classes, true, at + 1);
     }
     behind_sign(text, classes, false, at)
-}
-
-// The number at a place, whose whole part has no sign and ends at a point, where its digits end before place `last`.
-fn short_fraction(
-    text: &[u8],
-    classes: &[u8; 256],
-    at: usize,
-    whole: u64,
-    point: usize,
-    last: usize,
-) -> NumberRead
-    requires order { ⌜ (at < point) × (point < last) × (last ≤ at + 19) × (last ≤ length (now text)) ⌝ }
-    requires small { ⌜ whole < 10 ^ (point - at) ⌝ }
-    requires read { ⌜ numberAt (now text) at ≡ fractionAt (now text) false (digitsOf whole (point - at)) point ⌝ }
-    requires pointed { ⌜ byteAt (now text) point ≡ 46 ⌝ }
-    requires lent { ⌜ now classes ≡ classTable ⌝ }
-    ensures { λ r. ⌜ numberOf r ≡ asScalar (numberAt (now (text .entry)) at) ⌝ }
-{
-    let first = point + 1;
-    let run = few_digits(text, classes, whole, first, last);
-    let value = run.value;
-    let next = run.end;
-    if (next == first) | (next == last) {
-        return any_number(text, classes, at);
-    }
-    let all = DigitRun {
-        value: value,
-        fits: true,
-        count: next - at - 1,
-    };
-    behind_digits(text, classes, false, all, next - first, true, next)
-}
-
-// The number at a place, the longest one, as a scalar. One without sign and with at most 18 digits, before the last bytes of the text, is read in a shorter way.
-pub fn number(text: &[u8], classes: &[u8; 256], at: usize) -> NumberRead
-    requires lent { ⌜ now classes ≡ classTable ⌝ }
-    ensures { λ r. ⌜ numberOf r ≡ asScalar (numberAt (now (text .entry)) at) ⌝ }
-{
-    if text.len() < FITTING {
-        return any_number(text, classes, at);
-    }
-    if at > text.len() - FITTING {
-        return any_number(text, classes, at);
-    }
-    let last = at + FITTING;
-    let run = few_digits(text, classes, 0, at, last);
-    let value = run.value;
-    let next = run.end;
-    if (next == at) | (next == last) {
-        return any_number(text, classes, at);
-    }
-    if (text[at] == b'0') & (next > at + 1) {
-        return any_number(text, classes, at);
-    }
-    if text[next] == b'.' {
-        return short_fraction(text, classes, at, value, next, last);
-    }
-    let whole = DigitRun {
-        value: value,
-        fits: true,
-        count: next - at,
-    };
-    behind_digits(text, classes, false, whole, 0, false, next)
 }

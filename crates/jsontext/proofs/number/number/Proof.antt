@@ -1,53 +1,22 @@
--- Digits that end early are the whole part, or all of the number. Assumes nothing.
-use mathlib.Core.Path.{_∙_}
-use Prim.Native.Nat.{_+_, _-_}
-use native.Mathlib.Nat.{le-refl}
+-- A minus stands inside the text. Assumes nothing.
+use mathlib.Core.Path.{sym, ap, _∙_}
+use denote.Ref.{now}
 use native.Mathlib.Omega.{arith}
 use borrow.Author.Needs.{needs}
-use denote.Ref.{now}
-use Rattle.jsontext.specs.Number.{digitsOf}
-use Rattle.jsontext.proofs.ShortRuns.{ShortWhole, short-whole, carried-fits, few-fit, whole-number}
+use Rattle.base.proofs.Bytes.{byte-inside}
+use Rattle.jsontext.specs.Number.{asScalar}
+use Rattle.jsontext.proofs.NumberWays.{number-negative, number-plain}
 use Rattle.jsontext.proofs.number.number.Statement.{statement}
 use Rattle.jsontext.proofs.number.number.Tie as tie
 
-few-digits-requires : tie.Need-few-digits-requires
-few-digits-requires c κs = ((omega arith, omega arith), ((0, omega arith, omega arith), c .before .before .before .pre))
+add-behind-sign : tie.Need-add-behind-sign
+add-behind-sign c = omega (arith, byte-inside (now (c .before .before .before .args .text)) (c .before .before .before .args .at) (c .before .byte-at .result) (c .before .byte-at .ensures) (omega (arith, c .if1 .taken)))
 
-whole : (c : tie.Else4) → ShortWhole (now (c .before .before .before .before .before .before .before .args .text)) (c .before .before .before .before .before .before .before .args .at) (c .before .before .before .before .before .before .before .args .at + 19) (c .before .before .before .few-digits .result)
-whole c = short-whole _ _ _ _ (c .before .before .before .few-digits .ensures) (omega arith) (c .before .before .if3 .left) (c .if4 .left)
+returns : tie.Need-returns
+returns c = c .behind-sign .ensures ∙ ap asScalar (sym (number-negative _ _ _ (c .before .before .byte-at .ensures) (c .before .if1 .taken)))
 
-short-fraction-requires : tie.Need-short-fraction-requires
-short-fraction-requires c κs =
-    let w = whole (c .before .before) in
-    ((w .some, w .early, le-refl _, omega arith), (w .small, (w .begins, (c .if5 .taken, c .before .before .before .before .before .before .before .before .before .pre))))
-
-returns-6 : tie.Need-returns-6
-returns-6 c =
-    let w = whole (c .before .before .before) in
-    let r = c .before .before .before .before .before .before .few-digits .result in
-    let n = r .end - c .before .before .before .before .before .before .before .before .before .before .args .at in
-    c .behind-digits .ensures (digitsOf (r .value) n) (carried-fits _ n (few-fit _ n (w .small) (omega arith))) ∙ whole-number _ _ _ _ (w .begins) (c .before .if5 .left)
+returns-2 : tie.Need-returns-2
+returns-2 c = c .behind-sign2 .ensures ∙ ap asScalar (sym (number-plain _ _ _ (c .before .before .byte-at .ensures) (c .before .if1 .left)))
 
 pub number-spec : {M : Type 1} → statement M
-number-spec =
-    tie.close
-    (tie.spec
-    (λ c κs. search needs)
-    (λ c. search needs)
-    (λ c. search needs)
-    (λ c κs. search needs)
-    (λ c. search needs)
-    (λ c. search needs)
-    few-digits-requires
-    (λ c κs. search needs)
-    (λ c. search needs)
-    (λ c. search needs)
-    (λ c. search needs)
-    (λ c κs. search needs)
-    (λ c. search needs)
-    (λ c. let w = whole (c .before) in omega arith)
-    short-fraction-requires
-    (λ c. search needs)
-    (λ c. search needs)
-    (λ c κs. let w = whole (c .before .before) in ((w .small, omega arith), c .before .before .before .before .before .before .before .before .before .pre))
-    returns-6)
+number-spec = tie.close (tie.spec (λ c κs. search needs) add-behind-sign (λ c κs. search needs) returns (λ c κs. search needs) returns-2)
