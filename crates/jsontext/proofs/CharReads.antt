@@ -16,7 +16,7 @@ use Rattle.jsontext.specs.Scanned.{Scanned}
 use Rattle.jsontext.specs.Productions.{CharAt, unescaped, above-7F, letter, unicode, pair}
 use Rattle.jsontext.specs.Chars.{Joined, Character}
 use Rattle.jsontext.proofs.Joining.{bytes-take, bytes-drop, join-same}
-use Rattle.jsontext.proofs.LeadRows.{sizeBy, sequence-size}
+use Rattle.jsontext.proofs.LeadRows.{sizeBy, size-some, size-few, sequence-size}
 use Rattle.jsontext.proofs.Packing.{size-one, utf8-sized}
 use Rattle.jsontext.proofs.SequenceProductions.{read-sequence, sequence-ahead}
 use Rattle.jsontext.proofs.CharProductions.{plain-range, letter-one, PieceIs, piece-is, PieceFor, as-raw, as-code, char-piece, char-ahead}
@@ -50,27 +50,6 @@ module _ (t : List ℕ) (i : ℕ) where
   quoted e = subst (PieceIs t i) e (piece-is t i)
 
 -- ---- as many bytes as the first says
-module _ (b : ℕ) where
-  pub size-some : 0 < sizeBy b
-  unfolding sizeBy
-  size-some = go (ltb b 128) (ltb b 224) (ltb b 240)
-    where
-      go : (x y z : Bool) → 0 < cond x 1 (cond y 2 (cond z 3 4))
-      go true y z = omega arith
-      go false true z = omega arith
-      go false false true = omega arith
-      go false false false = omega arith
-
-  pub size-few : sizeBy b ≤ 4
-  unfolding sizeBy
-  size-few = go (ltb b 128) (ltb b 224) (ltb b 240)
-    where
-      go : (x y z : Bool) → cond x 1 (cond y 2 (cond z 3 4)) ≤ 4
-      go true y z = omega arith
-      go false true z = omega arith
-      go false false true = omega arith
-      go false false false = omega arith
-
 module _ (t : List ℕ) where
   char-sized : {i n : ℕ} {bs : List ℕ} → CharAt t i bs n → Bytes bs → length bs ≡ sizeBy (byteAt bs 0)
   char-sized {i = i} (unescaped h e) v = let (lo, hi, p, q) = plain-range (byteAt t i) h in size-one (byteAt t i) hi
@@ -93,14 +72,9 @@ module _ (t : List ℕ) (i w m n : ℕ) (c : Character t i w m n) where
   pub char-few : (0 < m) × (m ≤ 4)
   char-few = let e = char-size in (omega (arith, size-some (byteAt (c .bs) 0)), omega (arith, size-few (byteAt (c .bs) 0)))
 
-module _ (t : List ℕ) (i : ℕ) where
-  -- a raw piece is short
-  pub raw-few : (n : ℕ) → pieceAt t i ≡ raw n → Bytes t → (i < n) × (n ≤ length t) × (n - i < 8)
-  raw-few n e v =
-      let c : CharAt t i (take (n - i) (drop i t)) n = subst (PieceIs t i) e (piece-is t i) in
-      let (l, k) = char-ahead t c in
-      let z : length (take (n - i) (drop i t)) ≡ n - i = omega (arith, length-take (n - i) (drop i t), length-drop i t) in
-      (l, k, omega (arith, char-sized t c (bytes-take (n - i) (drop i t) (bytes-drop i t v)), size-few (byteAt (take (n - i) (drop i t)) 0)))
+-- one to four bytes of a code point
+pub joined-few : (c w m : ℕ) → Joined (utf8 c) w m → (0 < m) × (m ≤ 4)
+joined-few c w m j = (omega (arith, j .count, utf8-sized c, size-some (byteAt (utf8 c) 0)), omega (arith, j .count, utf8-sized c, size-few (byteAt (utf8 c) 0)))
 
 -- ---- two chars
 lead-joined : (bs : List ℕ) (w m : ℕ) → Joined bs w m → w % 256 ≡ byteAt bs 0

@@ -21,9 +21,10 @@ use Rattle.jsontext.specs.Compared.{Alike}
 use Rattle.jsontext.proofs.Joining.{join-same, bytes-take, bytes-drop}
 use Rattle.jsontext.proofs.Ways.{piece-closed}
 use Rattle.jsontext.proofs.PieceEnds.{raw-ahead}
+use Rattle.jsontext.proofs.LeadRows.{size-some}
 use Rattle.jsontext.proofs.Packing.{utf8-sized}
 use Rattle.jsontext.proofs.Scanning.{scan-plains, scan-raw, scan-code, scan-closed, scan-bad, no-quote}
-use Rattle.jsontext.proofs.CharReads.{quoted, size-some, char-scan, chars-same, chars-front}
+use Rattle.jsontext.proofs.CharReads.{quoted, char-scan, chars-same, chars-front}
 
 -- ---- what the answers say
 not-so : (b : Bool) → (b ≡ true → ⊥) → false ≡ b

@@ -10,7 +10,8 @@ use Rattle.base.specs.Text.{byteAt, got}
 use Rattle.base.proofs.Tenths.{tenth-fits, tenth-past}
 use Rattle.classes.specs.Classes.{digit?}
 use Rattle.jsontext.specs.Number.{Digits, withDigit, digitsFrom}
-use Rattle.jsontext.specs.NumberAnswer.{carried, carriedAt}
+use Rattle.jsontext.specs.NumberAnswer.{carried, carriedAt, Bounded}
+use Rattle.jsontext.proofs.Rates.{power-more}
 use Rattle.jsontext.specs.declared.number.DigitRun.{DigitRun}
 use Rattle.jsontext.specs.declared.number.DigitsRead.the-variants.{Digits as Run}
 
@@ -39,6 +40,14 @@ module _ (r : DigitRun) (b x : ℕ) (value : x ≡ b - 48) (d : Digits) (held : 
       let l : d .value * 10 + (b - 48) < 2 ^ 64 = omega arith in
       same-run (omega arith) (ap (λ (s : DigitRun). s .fits) held ∙ lt-ltb (d .value) (2 ^ 64) (omega arith) ∙ sym (lt-ltb _ _ l)) (ap (λ (s : DigitRun). s .count + 1) held)
 
+-- a value that is no longer than its digits stays so, and so does 2^64 - 1 where it stands for a larger one
+module _ (v n x : ℕ) (small : v < 10 ^ n) (few : x ≤ 9) where
+  pub more-small : v * 10 + x < 10 ^ (n + 1)
+  more-small = let p = power-more n in omega arith
+
+  pub past-small : (2 ^ 64 - 1 - x) / 10 < v → 2 ^ 64 - 1 < 10 ^ (n + 1)
+  past-small h = let k : 2 ^ 64 - 1 < v * 10 + x = tenth-past _ _ _ h in omega (arith, more-small)
+
 -- one digit
 module _ (t : List ℕ) (d : Digits) (i n : ℕ) where
   no-digit : digit? (byteAt t i) ≡ false → digitsFrom (suc n) t d i ≡ got d i
@@ -55,42 +64,45 @@ pub record Left (t : List ℕ) (d : Digits) (at : ℕ) (r : DigitRun) (i : ℕ) 
   pub held : r ≡ carried so-far
   pub same : digitsFrom (length t - i) t so-far i ≡ digitsFrom (length t - at) t d at
 
--- r is carried at place i, after the digits `before` were at place `at`
-pub record Scanned (t : List ℕ) (before : DigitRun) (at : ℕ) (r : DigitRun) (i : ℕ) : Type 0 where
-  pub few : r .count ≤ i
-  pub left : (d : Digits) → before ≡ carried d → Left t d at r i
+-- r is carried at place i, after the digits `before` were at place `at`; where the table lent is right its digits are the definition's
+pub record Scanned (lent : Type 0) (t : List ℕ) (before : DigitRun) (at : ℕ) (r : DigitRun) (i : ℕ) : Type 0 where
+  pub bounded : Bounded r i
+  pub more : before .count ≤ r .count
+  pub left : lent → (d : Digits) → before ≡ carried d → Left t d at r i
 
-module _ (t : List ℕ) (before : DigitRun) (at : ℕ) where
-  pub scanned-none : before .count ≤ at → Scanned t before at before at
-  scanned-none h = record { few = h; left = λ d e. record { so-far = d; held = e; same = refl } }
+module _ (lent : Type 0) (t : List ℕ) (before : DigitRun) (at : ℕ) where
+  pub scanned-none : Bounded before at → Scanned lent t before at before at
+  scanned-none h = record { bounded = h; more = omega arith; left = λ _ d e. record { so-far = d; held = e; same = refl } }
 
-  module _ (r : DigitRun) (i : ℕ) (v : Scanned t before at r i) where
+  module _ (r : DigitRun) (i : ℕ) (v : Scanned lent t before at r i) where
     -- what is answered there
-    answered : (d : Digits) → before ≡ carried d → ((e : Digits) → digitsFrom (length t - i) t e i ≡ got e i) → Run r i ≡ carriedAt (digitsFrom (length t - at) t d at)
-    answered d b ends =
-        let l = v .left d b in
+    answered : lent → (d : Digits) → before ≡ carried d → ((e : Digits) → digitsFrom (length t - i) t e i ≡ got e i) → Run r i ≡ carriedAt (digitsFrom (length t - at) t d at)
+    answered x d b ends =
+        let l = v .left x d b in
         ap (λ (s : DigitRun). Run s i) (l .held) ∙ ap carriedAt (sym (ends (l .so-far)) ∙ l .same)
 
-    pub scanned-end : length t ≤ i → (d : Digits) → before ≡ carried d → Run r i ≡ carriedAt (digitsFrom (length t - at) t d at)
+    pub scanned-end : length t ≤ i → lent → (d : Digits) → before ≡ carried d → Run r i ≡ carriedAt (digitsFrom (length t - at) t d at)
     unfolding digitsFrom
-    scanned-end h d b = let z : length t - i ≡ 0 = omega arith in answered d b (λ e. rw z)
+    scanned-end h x d b = let z : length t - i ≡ 0 = omega arith in answered x d b (λ e. rw z)
 
     module _ (inside : i < length t) where
       one-left : length t - i ≡ suc (length t - (i + 1))
       one-left = omega arith
 
-      pub scanned-stop : digit? (byteAt t i) ≡ false → (d : Digits) → before ≡ carried d → Run r i ≡ carriedAt (digitsFrom (length t - at) t d at)
-      scanned-stop e d b = answered d b (λ s. ap (λ (n : ℕ). digitsFrom n t s i) one-left ∙ no-digit t s i _ e)
+      pub scanned-stop : digit? (byteAt t i) ≡ false → lent → (d : Digits) → before ≡ carried d → Run r i ≡ carriedAt (digitsFrom (length t - at) t d at)
+      scanned-stop e x d b = answered x d b (λ s. ap (λ (n : ℕ). digitsFrom n t s i) one-left ∙ no-digit t s i _ e)
 
-      pub scanned-more : digit? (byteAt t i) ≡ true → (s : DigitRun) → s .count ≡ r .count + 1 → ((d : Digits) → r ≡ carried d → s ≡ carried (withDigit d (byteAt t i))) → Scanned t before at s (i + 1)
-      scanned-more e s n more =
+      pub scanned-more : (lent → digit? (byteAt t i) ≡ true) → (s : DigitRun) → s .count ≡ r .count + 1 → s .value < 10 ^ (s .count)
+          → (digit? (byteAt t i) ≡ true → (d : Digits) → r ≡ carried d → s ≡ carried (withDigit d (byteAt t i))) → Scanned lent t before at s (i + 1)
+      scanned-more e s n small more =
           record {
-            few = omega (arith, v .few);
-            left = λ d b.
-                let l = v .left d b in
+            bounded = record { small = small; few = omega (arith, v .bounded .few) };
+            more = omega (arith, v .more);
+            left = λ x d b.
+                let l = v .left x d b in
                 record {
                   so-far = withDigit (l .so-far) (byteAt t i);
-                  held = more (l .so-far) (l .held);
-                  same = sym (next-digit t (l .so-far) i _ e) ∙ ap (λ (n : ℕ). digitsFrom n t (l .so-far) i) (sym one-left) ∙ l .same;
+                  held = more (e x) (l .so-far) (l .held);
+                  same = sym (next-digit t (l .so-far) i _ (e x)) ∙ ap (λ (n : ℕ). digitsFrom n t (l .so-far) i) (sym one-left) ∙ l .same;
                 };
           }

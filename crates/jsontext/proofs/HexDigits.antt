@@ -1,56 +1,39 @@
 -- The value of a hex digit of either case, and four of them one after the other: what the loop knows at its head. Assumes nothing.
-use mathlib.Core.Path.{_≡_, refl, sym, _∙_}
-use mathlib.Core.Bool.{Bool, true, false, _||_}
+use mathlib.Core.Path.{_≡_, refl, sym, ap, _∙_}
+use mathlib.Core.Bool.{true, false, cond}
 use mathlib.Core.List.{List}
-use Prim.Native.Nat.{ℕ, suc, _+_, _-_, _*_, _^_, _<_, _≤_}
+use Prim.Native.Nat.{ℕ, suc, _+_, _-_, _*_, _/_, _%_, _^_, _<_, _≤_}
 use native.Mathlib.Nat.{pow-le-pow-right, pow-suc}
 use native.Mathlib.Numerals.{add-one}
 use native.Mathlib.Omega.{arith}
-use lib.Dec.{leb}
-use lib.ListN.{length}
-use borrow.Author.Tests.{leb-true, le-leb, lt-leb}
+use lib.ListN.{length, getD}
+use Rattle.model.specs.Lists.{tab}
+use Rattle.model.proofs.Tab.{tab-at}
 use Rattle.classes.specs.Classes.{digit?, eitherHexDigit?}
-use Rattle.document.proofs.Refusals.{true-and}
 use Rattle.base.specs.Text.{byteAt, got, fault}
-use Rattle.base.proofs.Bytes.{class-inside}
-use Rattle.jsontext.specs.Utf8.{between}
+use Rattle.base.proofs.Bytes.{past, class-inside}
 use Rattle.jsontext.specs.Strings.{hexValue, hexFrom}
+use Rattle.jsontext.specs.StringAnswers.{Ahead}
 
-in-range : (a b x : ℕ) → between a b x ≡ true → (a ≤ x) × (x ≤ b)
-in-range a b x e = let (p, q) = true-and (leb a x) (leb x b) e in (leb-true a x p, leb-true x b q)
+-- a sum that is a hex digit's value: one computed test over every byte
+abbrev digitSum : ℕ → ℕ
+digitSum b = (b % 16 + b / 64 * 9) % 16
 
-either : {C : Type 0} (a b : Bool) → (a ≡ true → C) → (b ≡ true → C) → (a || b) ≡ true → C
-either true b f g h = f refl
-either false b f g h = g h
+tried : tab 256 (λ b. cond (eitherHexDigit? b) (digitSum b) 0) ≡ tab 256 (λ b. cond (eitherHexDigit? b) (hexValue b) 0)
+unfolding digit? eitherHexDigit? hexValue
+tried = refl
 
-module _ (b : ℕ) where
-  pub digit-hex : digit? b ≡ true → (48 ≤ b) × (b - 48 ≡ hexValue b) × (b - 48 < 16)
-  unfolding digit? hexValue
-  digit-hex e = let r = in-range 48 57 b e in (omega arith, rw e, omega arith)
-
-  -- no digit: one of the six letters, small or large
-  module _ (h : eitherHexDigit? b ≡ true) (e : digit? b ≡ false) where
-    letters : (between 97 102 b || between 65 70 b) ≡ true
-    unfolding eitherHexDigit?
-    letters = rw e at h
-
-    pub small-hex : 97 ≤ b → (b - 97 + 10 ≡ hexValue b) × (b - 97 + 10 < 16)
-    unfolding hexValue
-    small-hex l =
-        let k : b ≤ 102 = either (between 97 102 b) (between 65 70 b) (λ q. in-range 97 102 b q .1) (λ q. let r = in-range 65 70 b q in omega arith) letters in
-        let q : b - 97 + 10 ≡ b - 87 = omega arith in
-        (rw (e, le-leb 97 b l, q), omega arith)
-
-    pub large-hex : b < 97 → (65 ≤ b) × (b - 65 + 10 ≡ hexValue b) × (b - 65 + 10 < 16)
-    unfolding hexValue
-    large-hex l =
-        let k : (65 ≤ b) × (b ≤ 70) = either (between 97 102 b) (between 65 70 b) (λ q. let r = in-range 97 102 b q in absurd (omega arith)) (λ q. in-range 65 70 b q) letters in
-        let q : b - 65 + 10 ≡ b - 55 = omega arith in
-        (omega arith, rw (e, lt-leb 97 b l, q), omega arith)
+pub sum-value : (b : ℕ) → b < 256 → eitherHexDigit? b ≡ true → digitSum b ≡ hexValue b
+sum-value b h e =
+    rw e at (sym (tab-at 0 256 (λ b. cond (eitherHexDigit? b) (digitSum b) 0) b h) ∙ ap (λ (l : List ℕ). getD l b 0) tried ∙ tab-at 0 256 (λ b. cond (eitherHexDigit? b) (hexValue b) 0) b h)
 
 pub hex-inside : (t : List ℕ) (i : ℕ) → eitherHexDigit? (byteAt t i) ≡ true → i < length t
 unfolding digit? eitherHexDigit?
 hex-inside t i e = class-inside eitherHexDigit? refl t i e
+
+zero-no-hex : eitherHexDigit? 0 ≡ false
+unfolding digit? eitherHexDigit?
+zero-no-hex = refl
 
 -- one hex digit
 module _ (t : List ℕ) (v i n : ℕ) where
@@ -62,33 +45,47 @@ module _ (t : List ℕ) (v i n : ℕ) where
   unfolding hexFrom
   next-hex e = rw (hexFrom, e)
 
--- n hex digits were read from place `at` on, and v came of them
-pub record Hex (t : List ℕ) (at v n i : ℕ) : Type 0 where
+-- n digits were read from place `at` on and v came of them; where the table lent is right they are the definition's
+pub record Hex (lent : Type 0) (t : List ℕ) (at v n i : ℕ) : Type 0 where
   pub few : n ≤ 4
   pub small : v < 16 ^ n
-  pub same : hexFrom (4 - n) t v i ≡ hexFrom 4 t 0 at
+  pub place : i ≡ at + n
+  pub inside : i ≤ length t
+  pub same : lent → hexFrom (4 - n) t v i ≡ hexFrom 4 t 0 at
 
-module _ (t : List ℕ) (at : ℕ) where
-  pub hex-none : Hex t at 0 0 at
-  hex-none = record { few = omega arith; small = omega arith; same = refl }
+module _ (lent : Type 0) (t : List ℕ) (at : ℕ) where
+  pub hex-none : at ≤ length t → Hex lent t at 0 0 at
+  hex-none h = record { few = omega arith; small = omega arith; place = omega arith; inside = h; same = λ _. refl }
 
-  module _ (v n i : ℕ) (h : Hex t at v n i) where
-    pub hex-end : 4 ≤ n → got v i ≡ hexFrom 4 t 0 at
+  module _ (v n i : ℕ) (h : Hex lent t at v n i) where
+    pub hex-end : 4 ≤ n → lent → got v i ≡ hexFrom 4 t 0 at
     unfolding hexFrom
-    hex-end l = let z : 4 - n ≡ 0 = omega (arith, h .few) in rw z at (h .same)
+    hex-end l x = let z : 4 - n ≡ 0 = omega (arith, h .few) in rw z at (h .same x)
+
+    pub hex-ahead : 4 ≤ n → Ahead t (at + 4) i
+    hex-ahead l = record { forward = omega (arith, h .place); inside = h .inside }
 
     module _ (some : n < 4) where
-      at-hex : hexFrom (suc (4 - (n + 1))) t v i ≡ hexFrom 4 t 0 at
-      at-hex = let e : 4 - n ≡ suc (4 - (n + 1)) = omega arith in rw e at (h .same)
+      at-hex : lent → hexFrom (suc (4 - (n + 1))) t v i ≡ hexFrom 4 t 0 at
+      at-hex x = let e : 4 - n ≡ suc (4 - (n + 1)) = omega arith in rw e at (h .same x)
 
       -- room for one more
       pub hex-room : v < 4096
       hex-room = let k : 16 ^ n ≤ 16 ^ 3 = pow-le-pow-right {n = 16} (omega arith) {i = n} {j = 3} (omega arith) in omega (arith, h .small)
 
-      pub hex-stop : eitherHexDigit? (byteAt t i) ≡ false → fault i ≡ hexFrom 4 t 0 at
-      hex-stop e = sym (no-hex t v i _ e) ∙ at-hex
+      pub hex-stop : eitherHexDigit? (byteAt t i) ≡ false → lent → fault i ≡ hexFrom 4 t 0 at
+      hex-stop e x = sym (no-hex t v i _ e) ∙ at-hex x
 
-      pub hex-more : (d : ℕ) → eitherHexDigit? (byteAt t i) ≡ true → d ≡ hexValue (byteAt t i) → d < 16 → Hex t at (v * 16 + d) (n + 1) (i + 1)
-      hex-more d e q l =
+      pub hex-past : length t ≤ i → lent → fault i ≡ hexFrom 4 t 0 at
+      hex-past l = hex-stop (ap eitherHexDigit? (sym (past t i l)) ∙ zero-no-hex)
+
+      pub hex-more : (d : ℕ) → i < length t → d < 16 → (lent → eitherHexDigit? (byteAt t i) ≡ true) → (lent → d ≡ hexValue (byteAt t i)) → Hex lent t at (v * 16 + d) (n + 1) (i + 1)
+      hex-more d l s e q =
           let p : 16 ^ (n + 1) ≡ 16 ^ n * 16 = rw add-one (pow-suc 16 n) in
-          record { few = omega arith; small = omega (arith, h .small); same = rw q (sym (next-hex t v i _ e) ∙ at-hex) }
+          record {
+            few = omega arith;
+            small = omega (arith, h .small);
+            place = omega (arith, h .place);
+            inside = omega arith;
+            same = λ x. rw (q x) (sym (next-hex t v i _ (e x)) ∙ at-hex x);
+          }

@@ -16,7 +16,7 @@ use Rattle.jsontext.specs.NumberAnswer.{Sized}
 use Rattle.jsontext.proofs.Rates.{power-more, power-below}
 
 -- digits that follow n others
-abbrev pub SizedFrom : ℕ → Digits → ℕ → Type 0
+abbrev SizedFrom : ℕ → Digits → ℕ → Type 0
 SizedFrom n d i = Sized d i × (n ≤ d .count)
 
 digit-sized : (d : Digits) (i b : ℕ) → digit? b ≡ true → Sized d i → Sized (withDigit d b) (i + 1)
@@ -35,7 +35,7 @@ digits-sized (suc f) t d i s = go (digit? (byteAt t i)) refl (λ e. digits-sized
     go true e k = read-as _ _ (λ x n p. (p .0, omega (arith, p .1))) (k e)
     go false e k = reads {v = d} {e = i} (s, le-refl (d .count))
 
-pub some-sized : (t : List ℕ) (d : Digits) (i : ℕ) → Sized d i → Reads (SizedFrom (d .count)) (someDigits t d i)
+some-sized : (t : List ℕ) (d : Digits) (i : ℕ) → Sized d i → Reads (SizedFrom (d .count)) (someDigits t d i)
 unfolding someDigits
 some-sized t d i s = go (digit? (byteAt t i))
   where
@@ -43,7 +43,7 @@ some-sized t d i s = go (digit? (byteAt t i))
     go true = digits-sized (length t - i) t d i s
     go false = none-read
 
-pub whole-sized : (t : List ℕ) (i : ℕ) → Reads Sized (wholeAt t i)
+whole-sized : (t : List ℕ) (i : ℕ) → Reads Sized (wholeAt t i)
 unfolding wholeAt
 whole-sized t i = go (eqb (byteAt t i) 48) (digit? (byteAt t (i + 1)))
   where

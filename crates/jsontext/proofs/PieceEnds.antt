@@ -13,13 +13,12 @@ use Rattle.base.specs.Text.{byteAt, Got, got, fault}
 use Rattle.base.proofs.Bytes.{inside, class-inside}
 use Rattle.jsontext.specs.Utf8.{Stretch, upTo, brokenAt, Sequence, sequences, passAt, sequenceIn, sequenceAt}
 use Rattle.jsontext.specs.Strings.{Piece, closed, raw, code, bad, simple, hexValue, hexFrom, dee?, low?, high?, asPair, asRaw, firstUnit, secondUnit, pairAt, unicodeAt, escapeAt, pieceAt}
+use Rattle.jsontext.specs.StringAnswers.{Ahead, EscapeInside, PieceInside}
+use Rattle.jsontext.specs.declared.pieces.StringPiece.{StringPiece}
+use Rattle.jsontext.specs.declared.pieces.StringPiece.the-variants.{Closed, Raw, Code, Bad}
+use Rattle.jsontext.proofs.LeadRows.{size-few, sequence-size}
 use Rattle.jsontext.proofs.HexDigits.{hex-inside}
 use Rattle.jsontext.proofs.Ways.{dee-inside, simple-inside, plain-inside, piece-control}
-
--- from i on inside the text
-pub record Ahead (t : List ℕ) (i n : ℕ) : Type 0 where
-  pub forward : i ≤ n
-  pub inside : n ≤ length t
 
 -- a fault at p, found from i on
 pub record Stops (t : List ℕ) (i p : ℕ) : Type 0 where
@@ -203,3 +202,19 @@ module _ (t : List ℕ) (i : ℕ) where
       go : (b : ℕ) → byteAt t i ≡ b → 0 < byteAt t i
       go zero z = let y : closed ≡ bad i = sym e ∙ piece-past z in let w : _≡_ {A = ℕ} 0 1 = cc in absurd (omega arith)
       go (suc b) z = omega arith
+
+-- ---- what the answers say of their places, whatever table is lent
+pub escape-later : (t : List ℕ) (i j : ℕ) (r : StringPiece) → i ≤ j → EscapeInside t j r → EscapeInside t i r
+escape-later t i j Closed h e = e
+escape-later t i j (Raw n) h e = e
+escape-later t i j (Code c n) h e = record { forward = omega (arith, e .forward); inside = e .inside }
+escape-later t i j (Bad p) h e = e
+
+pub escape-piece : (t : List ℕ) (i : ℕ) (r : StringPiece) → EscapeInside t (i + 1) r → PieceInside t i r
+escape-piece t i Closed e = e
+escape-piece t i (Raw n) e = absurd e
+escape-piece t i (Code c n) e = e
+escape-piece t i (Bad p) e = e
+
+pub sequence-inside : (t : List ℕ) (i n : ℕ) → byteAt t i < 256 → upTo n ≡ sequenceAt t i → Ahead t (i + 1) n × (n ≤ i + 4)
+sequence-inside t i n h e = (subst (StretchEnds t i (i + 1)) (sym e) (sequence-end t i), omega (arith, sequence-size t i n h (sym e), size-few (byteAt t i)))

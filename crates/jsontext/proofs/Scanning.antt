@@ -14,9 +14,9 @@ use Rattle.base.proofs.Bytes.{past, byte-inside}
 use Rattle.jsontext.specs.Utf8.{utf8}
 use Rattle.jsontext.specs.Strings.{closed, raw, code, bad, pieceAt, plain?, withFront, stringFrom, stringAt}
 use Rattle.jsontext.specs.Scanned.{part, Scanned}
-use Rattle.jsontext.specs.StringAnswers.{Plains}
+use Rattle.jsontext.specs.StringAnswers.{Ahead, Plains}
 use Rattle.jsontext.proofs.Ways.{plain-piece}
-use Rattle.jsontext.proofs.PieceEnds.{Ahead, raw-ahead, code-ahead, piece-past, quote-inside}
+use Rattle.jsontext.proofs.PieceEnds.{raw-ahead, code-ahead, piece-past, quote-inside}
 
 -- ---- bytes from one place to another
 pub part-none : (t : List ℕ) (i : ℕ) → part t i i ≡ []

@@ -10,7 +10,8 @@ use borrow.Author.Tests.{eqb-true}
 use Rattle.base.specs.Text.{byteAt, Got, got, fault}
 use Rattle.base.proofs.Bytes.{inside}
 use Rattle.jsontext.specs.Strings.{Piece, closed, raw, code, bad, pieceAt, withFront, stringFrom, stringAt}
-use Rattle.jsontext.proofs.PieceEnds.{Ahead, Stops, raw-ahead, code-ahead, bad-stops, quote-inside}
+use Rattle.jsontext.specs.StringAnswers.{Ahead}
+use Rattle.jsontext.proofs.PieceEnds.{Stops, raw-ahead, code-ahead, bad-stops, quote-inside}
 use Rattle.jsontext.proofs.Scanning.{step-closed, step-raw, step-code, step-bad}
 
 -- what a string's end says, for one read from i on

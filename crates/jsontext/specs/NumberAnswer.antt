@@ -2,7 +2,8 @@
 use mathlib.Core.Path.{_≡_}
 use mathlib.Core.Option.{Option, none, some}
 use Prim.Native.Nat.{ℕ, _-_, _^_, _<_, _≤_, min}
-use lib.Dec.{ltb}
+use mathlib.Core.Bool.{true}
+use lib.Dec.{T, ltb}
 use Rattle.base.specs.Text.{Got, got, fault}
 use Rattle.document.specs.declared.scalar.Scalar.{Scalar}
 use Rattle.jsontext.specs.Number.{Digits}
@@ -21,11 +22,15 @@ pub record Sized (d : Digits) (i : ℕ) : Type 0 where
   pub small : d .value < 10 ^ (d .count)
   pub few : d .count ≤ i
 
--- such digits as they are carried
-pub record Carried (r : DigitRun) (i : ℕ) : Type 0 where
-  pub digits : Digits
-  pub held : r ≡ carried digits
-  pub sized : Sized digits i
+-- the same of digits as they are carried, whatever they were taken for
+pub record Bounded (r : DigitRun) (i : ℕ) : Type 0 where
+  pub small : r .value < 10 ^ (r .count)
+  pub few : r .count ≤ i
+
+-- what the answers say of the digits, whatever table of byte classes is lent: they are at least so many, and bounded
+abbrev pub BoundedFrom : ℕ → DigitsRead → Type 0
+BoundedFrom n (Run r i) = Bounded r i × (n ≤ r .count)
+BoundedFrom n (NoDigits p) = T true
 
 -- digits at a place as they are answered
 abbrev pub carriedAt : Got Digits → DigitsRead

@@ -6,7 +6,7 @@ ghost use mathlib.Core.Path.{_≡_};
 ghost use Rattle.classes.specs.Classes.{classTable};
 ghost use Rattle.base.specs.Text.{byteAt};
 ghost use Rattle.jsontext.specs.Utf8.{utf8};
-ghost use Rattle.jsontext.specs.Chars.{Joined, CharSays};
+ghost use Rattle.jsontext.specs.Chars.{Joined, CharSays, CharInside};
 
 // Bytes joined into a number, the first lowest, and how many they are.
 pub(crate) struct Packed {
@@ -51,8 +51,8 @@ fn pack(c: u32) -> Packed
 // The character at a place where no closing quote stands.
 pub(crate) fn char_at(text: &[u8], classes: &[u8; 256], at: usize) -> CharRead
     requires open { ⌜ (byteAt (now text) at ≡ 34 → ⊥) ⌝ }
-    requires lent { ⌜ now classes ≡ classTable ⌝ }
-    ensures { λ r. ⌜ CharSays (now (text .entry)) at r ⌝ }
+    ensures { λ r. ⌜ (now (classes .entry) ≡ classTable → CharSays (now (text .entry)) at r) ⌝ }
+    ensures inside { λ r. ⌜ CharInside (now (text .entry)) at r ⌝ }
 {
     match piece_at(text, classes, at) {
         StringPiece::Closed => CharRead::Broken(at),

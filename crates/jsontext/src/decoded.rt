@@ -68,8 +68,7 @@ fn alike(s: &[u8], i: usize, t: &[u8], j: usize) -> usize
 // Whether the strings at two places, which have their quotes, are the same.
 fn same_quoted(text: &[u8], classes: &[u8; 256], a: usize, b: usize) -> bool
     requires { ⌜ Scanned (now text) a (a + 1) [] × Scanned (now text) b (b + 1) [] ⌝ }
-    requires lent { ⌜ now classes ≡ classTable ⌝ }
-    ensures { λ r. ⌜ r ≡ sameText (stringAt (now (text .entry)) a) (stringAt (now (text .entry)) b) ⌝ }
+    ensures { λ r. ⌜ (now (classes .entry) ≡ classTable → r ≡ sameText (stringAt (now (text .entry)) a) (stringAt (now (text .entry)) b)) ⌝ }
 {
     let mut i = a + 1;
     let mut j = b + 1;
@@ -105,8 +104,7 @@ fn same_quoted(text: &[u8], classes: &[u8; 256], a: usize, b: usize) -> bool
 
 // Whether the strings at two places are the same after decoding; a string that is not whole is the same as none.
 pub fn same(text: &[u8], classes: &[u8; 256], a: usize, b: usize) -> bool
-    requires lent { ⌜ now classes ≡ classTable ⌝ }
-    ensures { λ r. ⌜ r ≡ sameText (stringAt (now (text .entry)) a) (stringAt (now (text .entry)) b) ⌝ }
+    ensures { λ r. ⌜ (now (classes .entry) ≡ classTable → r ≡ sameText (stringAt (now (text .entry)) a) (stringAt (now (text .entry)) b)) ⌝ }
 {
     if byte_at(text, a) != b'"' {
         return false;
@@ -119,8 +117,7 @@ pub fn same(text: &[u8], classes: &[u8; 256], a: usize, b: usize) -> bool
 
 // Whether the string at a place is these bytes after decoding; a string that is not whole is none.
 pub fn is_text(text: &[u8], classes: &[u8; 256], at: usize, bytes: &[u8]) -> bool
-    requires lent { ⌜ now classes ≡ classTable ⌝ }
-    ensures { λ r. ⌜ r ≡ isText (stringAt (now (text .entry)) at) (now (bytes .entry)) ⌝ }
+    ensures { λ r. ⌜ (now (classes .entry) ≡ classTable → r ≡ isText (stringAt (now (text .entry)) at) (now (bytes .entry))) ⌝ }
 {
     if byte_at(text, at) != b'"' {
         return false;

@@ -12,7 +12,7 @@ ghost use lib.ListN.{length};
 ghost use Rattle.base.specs.Text.{got};
 ghost use Rattle.classes.specs.Classes.{digit?, classTable};
 ghost use Rattle.jsontext.specs.Number.{Digits, Number, noDigits, withDigit, digitsFrom, someDigits, wholeAt, signEnd, withExponent, plainNumber, exponentAt, fractionAt, afterWhole, numberAt, numberScalar, asScalar};
-ghost use Rattle.jsontext.specs.NumberAnswer.{carried, carriedAt, Carried, numberOf};
+ghost use Rattle.jsontext.specs.NumberAnswer.{carried, carriedAt, Bounded, BoundedFrom, numberOf};
 
 const MAX_COUNT: u64 = 18446744073709551615;
 
@@ -39,13 +39,23 @@ pub enum NumberRead {
     Fault(usize),
 }
 
+// The value of a digit; at most 9 for every byte.
+fn digit_value(b: u8) -> u64
+    ensures few { λ r. ⌜ r ≤ 9 ⌝ }
+    ensures { λ r. ⌜ (digit? b ≡ true → r ≡ b - 48) ⌝ }
+{
+    let x = (b % 16) as u64;
+    if x > 9 { 9 } else { x }
+}
+
 // A digit more.
 fn with_digit(digits: DigitRun, b: u8) -> DigitRun
-    requires { ⌜ (digit? b ≡ true) × (digits .count < 2 ^ 64 - 1) ⌝ }
+    requires { ⌜ (digits .value < 10 ^ (digits .count)) × (digits .count < 2 ^ 64 - 1) ⌝ }
     ensures counted { λ r. ⌜ r .count ≡ digits .count + 1 ⌝ }
-    ensures held { λ r. ⌜ ((d : Digits) → digits ≡ carried d → r ≡ carried (withDigit d b)) ⌝ }
+    ensures small { λ r. ⌜ r .value < 10 ^ (r .count) ⌝ }
+    ensures held { λ r. ⌜ (digit? b ≡ true → (d : Digits) → digits ≡ carried d → r ≡ carried (withDigit d b)) ⌝ }
 {
-    let x = (b - b'0') as u64;
+    let x = digit_value(b);
     let count = digits.count + 1;
     if digits.value > (MAX_COUNT - x) / 10 {
         return DigitRun {
@@ -63,9 +73,9 @@ fn with_digit(digits: DigitRun, b: u8) -> DigitRun
 
 // The digits at a place, after others.
 fn digits(text: &[u8], classes: &[u8; 256], before: DigitRun, at: usize) -> DigitsRead
-    requires { ⌜ before .count ≤ at ⌝ }
-    requires lent { ⌜ now classes ≡ classTable ⌝ }
-    ensures { λ r. ⌜ ((d : Digits) → before ≡ carried d → r ≡ carriedAt (digitsFrom (length (now (text .entry)) - at) (now (text .entry)) d at)) ⌝ }
+    requires { ⌜ Bounded before at ⌝ }
+    ensures { λ r. ⌜ (now (classes .entry) ≡ classTable → ((d : Digits) → before ≡ carried d → r ≡ carriedAt (digitsFrom (length (now (text .entry)) - at) (now (text .entry)) d at))) ⌝ }
+    ensures bounds { λ r. ⌜ BoundedFrom (before .count) r ⌝ }
 {
     let mut run = before;
     let mut i = at;
@@ -82,9 +92,9 @@ fn digits(text: &[u8], classes: &[u8; 256], before: DigitRun, at: usize) -> Digi
 
 // The same, where there is one digit or more.
 fn some_digits(text: &[u8], classes: &[u8; 256], before: DigitRun, at: usize) -> DigitsRead
-    requires { ⌜ before .count ≤ at ⌝ }
-    requires lent { ⌜ now classes ≡ classTable ⌝ }
-    ensures { λ r. ⌜ ((d : Digits) → before ≡ carried d → r ≡ carriedAt (someDigits (now (text .entry)) d at)) ⌝ }
+    requires { ⌜ Bounded before at ⌝ }
+    ensures { λ r. ⌜ (now (classes .entry) ≡ classTable → ((d : Digits) → before ≡ carried d → r ≡ carriedAt (someDigits (now (text .entry)) d at))) ⌝ }
+    ensures bounds { λ r. ⌜ BoundedFrom (before .count) r ⌝ }
 {
     if is_digit(classes, byte_at(text, at)) {
         return digits(text, classes, before, at);
@@ -94,8 +104,8 @@ fn some_digits(text: &[u8], classes: &[u8; 256], before: DigitRun, at: usize) ->
 
 // The whole part: 0 with no digit after it, or digits that begin with another.
 fn whole_part(text: &[u8], classes: &[u8; 256], at: usize) -> DigitsRead
-    requires lent { ⌜ now classes ≡ classTable ⌝ }
-    ensures { λ r. ⌜ r ≡ carriedAt (wholeAt (now (text .entry)) at) ⌝ }
+    ensures { λ r. ⌜ (now (classes .entry) ≡ classTable → r ≡ carriedAt (wholeAt (now (text .entry)) at)) ⌝ }
+    ensures bounds { λ r. ⌜ BoundedFrom 0 r ⌝ }
 {
     if byte_at(text, at) != b'0' {
         return some_digits(
@@ -159,8 +169,7 @@ fn as_scalar(
 
 // The exponent's sign and digits. A number that has one becomes no scalar.
 fn exponent(text: &[u8], classes: &[u8; 256], at: usize) -> NumberRead
-    requires lent { ⌜ now classes ≡ classTable ⌝ }
-    ensures { λ r. ⌜ ((m : Number) → numberOf r ≡ asScalar (withExponent m (someDigits (now (text .entry)) noDigits (signEnd (now (text .entry)) at)))) ⌝ }
+    ensures { λ r. ⌜ (now (classes .entry) ≡ classTable → ((m : Number) → numberOf r ≡ asScalar (withExponent m (someDigits (now (text .entry)) noDigits (signEnd (now (text .entry)) at))))) ⌝ }
 {
     let first = sign_end(text, at);
     match some_digits(
@@ -189,8 +198,7 @@ fn behind_digits(
     at: usize,
 ) -> NumberRead
     requires { ⌜ (digits .value < 10 ^ (digits .count)) × (places ≤ digits .count) ⌝ }
-    requires lent { ⌜ now classes ≡ classTable ⌝ }
-    ensures { λ r. ⌜ ((d : Digits) → digits ≡ carried d → numberOf r ≡ asScalar (exponentAt (now (text .entry)) (plainNumber negative d places fraction) at)) ⌝ }
+    ensures { λ r. ⌜ (now (classes .entry) ≡ classTable → ((d : Digits) → digits ≡ carried d → numberOf r ≡ asScalar (exponentAt (now (text .entry)) (plainNumber negative d places fraction) at))) ⌝ }
 {
     let b = byte_at(text, at);
     if (b == b'e') | (b == b'E') {
@@ -207,9 +215,8 @@ fn behind_whole(
     whole: DigitRun,
     at: usize,
 ) -> NumberRead
-    requires { ⌜ Carried whole at ⌝ }
-    requires lent { ⌜ now classes ≡ classTable ⌝ }
-    ensures { λ r. ⌜ ((d : Digits) → whole ≡ carried d → numberOf r ≡ asScalar (fractionAt (now (text .entry)) negative d at)) ⌝ }
+    requires { ⌜ Bounded whole at ⌝ }
+    ensures { λ r. ⌜ (now (classes .entry) ≡ classTable → ((d : Digits) → whole ≡ carried d → numberOf r ≡ asScalar (fractionAt (now (text .entry)) negative d at))) ⌝ }
 {
     if byte_at(text, at) != b'.' {
         return behind_digits(text, classes, negative, whole, 0, false, at);
@@ -225,8 +232,7 @@ fn behind_whole(
 
 // Behind the sign.
 fn behind_sign(text: &[u8], classes: &[u8; 256], negative: bool, at: usize) -> NumberRead
-    requires lent { ⌜ now classes ≡ classTable ⌝ }
-    ensures { λ r. ⌜ numberOf r ≡ asScalar (afterWhole (now (text .entry)) negative (wholeAt (now (text .entry)) at)) ⌝ }
+    ensures { λ r. ⌜ (now (classes .entry) ≡ classTable → numberOf r ≡ asScalar (afterWhole (now (text .entry)) negative (wholeAt (now (text .entry)) at))) ⌝ }
 {
     match whole_part(text, classes, at) {
         DigitsRead::Digits(whole, next) => behind_whole(text, classes, negative, whole, next),
@@ -236,8 +242,7 @@ fn behind_sign(text: &[u8], classes: &[u8; 256], negative: bool, at: usize) -> N
 
 // The number at a place, the longest one, as a scalar.
 pub fn number(text: &[u8], classes: &[u8; 256], at: usize) -> NumberRead
-    requires lent { ⌜ now classes ≡ classTable ⌝ }
-    ensures { λ r. ⌜ numberOf r ≡ asScalar (numberAt (now (text .entry)) at) ⌝ }
+    ensures { λ r. ⌜ (now (classes .entry) ≡ classTable → numberOf r ≡ asScalar (numberAt (now (text .entry)) at)) ⌝ }
 {
     if byte_at(text, at) == b'-' {
         return behind_sign(text, classes, true, at + 1);

@@ -4,14 +4,14 @@ use crate::utf8::sequence;
 use crate::utf8::within;
 use base::text::byte_at;
 use classes::is_control;
-use classes::is_digit;
 use classes::is_hex_digit;
 ghost use mathlib.Core.Path.{_≡_};
 ghost use mathlib.Core.Bool.{true};
-ghost use Prim.Native.Nat.{_<_};
+ghost use Prim.Native.Nat.{_<_, _≤_};
+ghost use lib.ListN.{length};
 ghost use Rattle.classes.specs.Classes.{eitherHexDigit?, classTable};
 ghost use Rattle.jsontext.specs.Strings.{simple, hexValue, hexFrom, dee?, low?, firstUnit, secondUnit, pairAt, unicodeAt, escapeAt, pieceAt};
-ghost use Rattle.jsontext.specs.StringAnswers.{hexOf, pieceOf};
+ghost use Rattle.jsontext.specs.StringAnswers.{hexOf, pieceOf, HexInside, EscapeInside, PieceInside};
 
 // The digits of a `\u`.
 const UNIT_DIGITS: usize = 4;
@@ -30,34 +30,32 @@ pub(crate) enum StringPiece {
     Bad(usize),
 }
 
-fn hex_value(classes: &[u8; 256], b: u8) -> u32
-    requires { ⌜ eitherHexDigit? b ≡ true ⌝ }
-    requires lent { ⌜ now classes ≡ classTable ⌝ }
-    ensures { λ r. ⌜ (r ≡ hexValue b) × (r < 16) ⌝ }
+// The value of a hex digit of either case; below 16 for every byte.
+fn hex_value(b: u8) -> u32
+    ensures few { λ r. ⌜ r < 16 ⌝ }
+    ensures { λ r. ⌜ (eitherHexDigit? b ≡ true → r ≡ hexValue b) ⌝ }
 {
-    if is_digit(classes, b) {
-        return (b - b'0') as u32;
-    }
-    if b >= b'a' {
-        return (b - b'a') as u32 + 10;
-    }
-    (b - b'A') as u32 + 10
+    ((b % 16 + b / 64 * 9) % 16) as u32
 }
 
 // Four hex digits.
 fn hex(text: &[u8], classes: &[u8; 256], at: usize) -> HexRead
-    requires lent { ⌜ now classes ≡ classTable ⌝ }
-    ensures { λ r. ⌜ hexOf r ≡ hexFrom 4 (now (text .entry)) 0 at ⌝ }
+    requires { ⌜ at ≤ length (now text) ⌝ }
+    ensures { λ r. ⌜ (now (classes .entry) ≡ classTable → hexOf r ≡ hexFrom 4 (now (text .entry)) 0 at) ⌝ }
+    ensures inside { λ r. ⌜ HexInside (now (text .entry)) at r ⌝ }
 {
     let mut v: u32 = 0;
     let mut n: usize = 0;
     let mut i = at;
     while n < UNIT_DIGITS {
-        let b = byte_at(text, i);
+        if i >= text.len() {
+            return HexRead::Fault(i);
+        }
+        let b = text[i];
         if !is_hex_digit(classes, b) {
             return HexRead::Fault(i);
         }
-        v = v * 16 + hex_value(classes, b);
+        v = v * 16 + hex_value(b);
         n += 1;
         i += 1;
     }
@@ -79,8 +77,9 @@ fn is_low(b: u8) -> bool
 
 // The digits of a first `\u`, which are no low surrogate's.
 fn first_unit(text: &[u8], classes: &[u8; 256], at: usize) -> HexRead
-    requires lent { ⌜ now classes ≡ classTable ⌝ }
-    ensures { λ r. ⌜ hexOf r ≡ firstUnit (now (text .entry)) at ⌝ }
+    requires { ⌜ at ≤ length (now text) ⌝ }
+    ensures { λ r. ⌜ (now (classes .entry) ≡ classTable → hexOf r ≡ firstUnit (now (text .entry)) at) ⌝ }
+    ensures inside { λ r. ⌜ HexInside (now (text .entry)) at r ⌝ }
 {
     if !is_dee(byte_at(text, at)) {
         return hex(text, classes, at);
@@ -93,8 +92,9 @@ fn first_unit(text: &[u8], classes: &[u8; 256], at: usize) -> HexRead
 
 // The digits of a second `\u`, which are a low surrogate's.
 fn second_unit(text: &[u8], classes: &[u8; 256], at: usize) -> HexRead
-    requires lent { ⌜ now classes ≡ classTable ⌝ }
-    ensures { λ r. ⌜ hexOf r ≡ secondUnit (now (text .entry)) at ⌝ }
+    requires { ⌜ at ≤ length (now text) ⌝ }
+    ensures { λ r. ⌜ (now (classes .entry) ≡ classTable → hexOf r ≡ secondUnit (now (text .entry)) at) ⌝ }
+    ensures inside { λ r. ⌜ HexInside (now (text .entry)) at r ⌝ }
 {
     if !is_dee(byte_at(text, at)) {
         return HexRead::Fault(at);
@@ -107,8 +107,9 @@ fn second_unit(text: &[u8], classes: &[u8; 256], at: usize) -> HexRead
 
 // What follows a high surrogate.
 fn pair(text: &[u8], classes: &[u8; 256], v: u32, at: usize) -> StringPiece
-    requires lent { ⌜ now classes ≡ classTable ⌝ }
-    ensures { λ r. ⌜ pieceOf r ≡ pairAt (now (text .entry)) v at ⌝ }
+    requires { ⌜ at ≤ length (now text) ⌝ }
+    ensures { λ r. ⌜ (now (classes .entry) ≡ classTable → pieceOf r ≡ pairAt (now (text .entry)) v at) ⌝ }
+    ensures inside { λ r. ⌜ EscapeInside (now (text .entry)) at r ⌝ }
 {
     if byte_at(text, at) != b'\\' {
         return StringPiece::Bad(at);
@@ -124,8 +125,9 @@ fn pair(text: &[u8], classes: &[u8; 256], v: u32, at: usize) -> StringPiece
 
 // What follows `\u`.
 fn unicode(text: &[u8], classes: &[u8; 256], at: usize) -> StringPiece
-    requires lent { ⌜ now classes ≡ classTable ⌝ }
-    ensures { λ r. ⌜ pieceOf r ≡ unicodeAt (now (text .entry)) at ⌝ }
+    requires { ⌜ at ≤ length (now text) ⌝ }
+    ensures { λ r. ⌜ (now (classes .entry) ≡ classTable → pieceOf r ≡ unicodeAt (now (text .entry)) at) ⌝ }
+    ensures inside { λ r. ⌜ EscapeInside (now (text .entry)) at r ⌝ }
 {
     match first_unit(text, classes, at) {
         HexRead::Fault(p) => StringPiece::Bad(p),
@@ -157,8 +159,9 @@ fn simple(b: u8) -> u32
 
 // What follows a backslash.
 fn escape(text: &[u8], classes: &[u8; 256], at: usize) -> StringPiece
-    requires lent { ⌜ now classes ≡ classTable ⌝ }
-    ensures { λ r. ⌜ pieceOf r ≡ escapeAt (now (text .entry)) at ⌝ }
+    requires { ⌜ at ≤ length (now text) ⌝ }
+    ensures { λ r. ⌜ (now (classes .entry) ≡ classTable → pieceOf r ≡ escapeAt (now (text .entry)) at) ⌝ }
+    ensures inside { λ r. ⌜ EscapeInside (now (text .entry)) at r ⌝ }
 {
     let b = byte_at(text, at);
     if b == b'u' {
@@ -173,10 +176,13 @@ fn escape(text: &[u8], classes: &[u8; 256], at: usize) -> StringPiece
 
 // What stands at a place.
 pub(crate) fn piece_at(text: &[u8], classes: &[u8; 256], at: usize) -> StringPiece
-    requires lent { ⌜ now classes ≡ classTable ⌝ }
-    ensures { λ r. ⌜ pieceOf r ≡ pieceAt (now (text .entry)) at ⌝ }
+    ensures { λ r. ⌜ (now (classes .entry) ≡ classTable → pieceOf r ≡ pieceAt (now (text .entry)) at) ⌝ }
+    ensures inside { λ r. ⌜ PieceInside (now (text .entry)) at r ⌝ }
 {
-    let b = byte_at(text, at);
+    if at >= text.len() {
+        return StringPiece::Bad(at);
+    }
+    let b = text[at];
     if b == b'"' {
         return StringPiece::Closed;
     }

@@ -45,6 +45,7 @@ fn low(x: u64) -> u32
 fn keep(k: Kept, n: usize, front: u64, last: u64) -> Kept
     requires { ⌜ k .few ≤ 8 ⌝ }
     ensures { λ r. ⌜ ((bs xs : List ℕ) → Keeps bs k → Bytes xs → n ≡ length xs → front ≡ joinBytes (take 8 xs) → last ≡ lastEight (bs ++ xs) → Keeps (bs ++ xs) r) ⌝ }
+    ensures few { λ r. ⌜ r .few ≤ 8 ⌝ }
 {
     let few = k.few;
     let first = k.first;
@@ -69,6 +70,7 @@ fn keep(k: Kept, n: usize, front: u64, last: u64) -> Kept
 pub(crate) fn keep_few(k: Kept, w: u64, n: usize) -> Kept
     requires { ⌜ (k .few ≤ 8) × (0 < n) × (n < 8) ⌝ }
     ensures { λ r. ⌜ ((bs xs : List ℕ) → Keeps bs k → Bytes xs → n ≡ length xs → w ≡ joinBytes xs → Keeps (bs ++ xs) r) ⌝ }
+    ensures few { λ r. ⌜ r .few ≤ 8 ⌝ }
 {
     let last = k.last;
     keep(k, n, w, last >> (8 * n) | w << (64 - 8 * n))
@@ -78,6 +80,7 @@ pub(crate) fn keep_few(k: Kept, w: u64, n: usize) -> Kept
 pub(crate) fn keep_part(k: Kept, text: &[u8], at: usize, end: usize) -> Kept
     requires { ⌜ (k .few ≤ 8) × (at ≤ end) × (end ≤ length (now text)) ⌝ }
     ensures { λ r. ⌜ ((bs : List ℕ) → Keeps bs k → Keeps (bs ++ part (now (text .entry)) at end) r) ⌝ }
+    ensures few { λ r. ⌜ r .few ≤ 8 ⌝ }
 {
     let n = end - at;
     if n == 0 {

@@ -9,8 +9,7 @@ const BLANK: u8 = 32;
 
 // The first place from one on where no space stands.
 pub fn space_end(text: &[u8], classes: &[u8; 256], at: usize) -> usize
-    requires lent { ⌜ now classes ≡ classTable ⌝ }
-    ensures { λ r. ⌜ r ≡ spaceEnd (now (text .entry)) at ⌝ }
+    ensures { λ r. ⌜ (now (classes .entry) ≡ classTable → r ≡ spaceEnd (now (text .entry)) at) ⌝ }
 {
     let mut i = at;
     while i < text.len() {

@@ -28,8 +28,7 @@ pub enum StringRead {
 fn read_on(text: &[u8], classes: &[u8; 256], at: usize, from: usize) -> StringRead
     requires open { ⌜ (byteAt (now text) from ≡ 34 → ⊥) ⌝ }
     requires behind { ⌜ Scanned (now text) at (at + 1) [] × Plains (now text) (at + 1) from ⌝ }
-    requires lent { ⌜ now classes ≡ classTable ⌝ }
-    ensures { λ r. ⌜ slotOf r ≡ asSlot (stringAt (now (text .entry)) at) ⌝ }
+    ensures { λ r. ⌜ (now (classes .entry) ≡ classTable → slotOf r ≡ asSlot (stringAt (now (text .entry)) at)) ⌝ }
 {
     let mut k = keep_part(keep_none(), text, at + 1, from);
     let mut i = from;
@@ -51,8 +50,7 @@ fn read_on(text: &[u8], classes: &[u8; 256], at: usize, from: usize) -> StringRe
 
 // The string at a place.
 pub fn read(text: &[u8], classes: &[u8; 256], at: usize) -> StringRead
-    requires lent { ⌜ now classes ≡ classTable ⌝ }
-    ensures { λ r. ⌜ slotOf r ≡ asSlot (stringAt (now (text .entry)) at) ⌝ }
+    ensures { λ r. ⌜ (now (classes .entry) ≡ classTable → slotOf r ≡ asSlot (stringAt (now (text .entry)) at)) ⌝ }
 {
     if byte_at(text, at) != b'"' {
         return StringRead::Fault(at);

@@ -48,7 +48,7 @@ returns-2 c =
     let x = c .before .before .before .before .before .before .before .before .before .before .pre .0 in
     let z = c .before .before .before .before .before .size in
     let left = c .before .before .before .if1 .left in
-    let tested = c .before .is-text .ensures ∙ ap (isText (stringAt (a .text .now) (a .at))) (c .before .before .key-line .ensures) in
+    let tested = c .before .is-text .ensures (c .before .before .before .before .before .before .before .before .before .before .pre .1) ∙ ap (isText (stringAt (a .text .now) (a .at))) (c .before .before .key-line .ensures) in
     let known = searched-known (a .key-slots .now) (is? (a .text .now) (a .at) (a .list .now)) (a .slot) (l .d) (z .result) _ (l .inv) (search needs) (z .ensures .0) refl (c .before .is-text .result) left tested (c .if2 .taken) in
     (find-line x (stringAt (a .text .now) (a .at)) (a .slot) _ known, listed-below (held-line x _ refl left) (x .few))
 
@@ -58,7 +58,7 @@ loop-again c =
     let a = c .before .before .before .before .before .before .before .before .before .before .args in
     let z = c .before .before .before .before .before .size in
     let left = c .before .before .before .if1 .left in
-    let tested = c .before .is-text .ensures ∙ ap (isText (stringAt (a .text .now) (a .at))) (c .before .before .key-line .ensures) in
+    let tested = c .before .is-text .ensures (c .before .before .before .before .before .before .before .before .before .before .pre .1) ∙ ap (isText (stringAt (a .text .now) (a .at))) (c .before .before .key-line .ensures) in
     searched-more (a .key-slots .now) (is? (a .text .now) (a .at) (a .list .now)) (a .slot) (l .d) (z .result) _ (l .inv) (search needs) (z .ensures .0) refl (c .before .is-text .result) left tested (c .if2 .left)
 
 returns-3 : tie.Need-returns-3 Inv-loop μ-loop

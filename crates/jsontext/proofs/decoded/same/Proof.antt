@@ -11,8 +11,8 @@ same-spec =
     tie.close
     (tie.spec
     (λ c κs. search needs)
-    (λ c. first-none (now (c .before .before .before .args .text)) (c .before .before .before .args .a) _ _ (c .before .byte-at .ensures) (c .if1 .taken))
+    (λ c l. first-none (now (c .before .before .before .args .text)) (c .before .before .before .args .a) _ _ (c .before .byte-at .ensures) (c .if1 .taken))
     (λ c κs. search needs)
-    (λ c. second-none (now (c .before .before .before .before .before .args .text)) _ (c .before .before .before .before .before .args .b) _ (c .before .byte-at2 .ensures) (c .if2 .taken))
-    (λ c κs. ((scan-start _ _ _ (c .before .before .before .byte-at .ensures) (c .before .before .if1 .left), scan-start _ _ _ (c .before .byte-at2 .ensures) (c .if2 .left)), c .before .before .before .before .before .pre))
+    (λ c l. second-none (now (c .before .before .before .before .before .args .text)) _ (c .before .before .before .before .before .args .b) _ (c .before .byte-at2 .ensures) (c .if2 .taken))
+    (λ c κs. (scan-start _ _ _ (c .before .before .before .byte-at .ensures) (c .before .before .if1 .left), scan-start _ _ _ (c .before .byte-at2 .ensures) (c .if2 .left)))
     (λ c. c .same-quoted .ensures))

@@ -3,6 +3,8 @@ use mathlib.Core.Path.{_≡_, refl, ap, _∙_}
 use Prim.Native.Nat.{ℕ}
 use denote.Ref.{now}
 use borrow.Author.Needs.{needs}
+use native.Mathlib.Omega.{arith}
+use Rattle.classes.specs.Classes.{classTable}
 use Rattle.base.specs.Text.{Got}
 use Rattle.jsontext.specs.Number.{Digits, noDigits, someDigits, signEnd}
 use Rattle.jsontext.specs.NumberAnswer.{carriedAt}
@@ -15,14 +17,14 @@ use Rattle.jsontext.proofs.number.exponent.Tie as tie
 abbrev asked : tie.After-some-digits → Got Digits
 asked c = someDigits (now (c .before .before .before .args .text)) noDigits (signEnd (now (c .before .before .before .args .text)) (c .before .before .before .args .at))
 
-answer : (c : tie.After-some-digits) → c .some-digits .result ≡ carriedAt (asked c)
-answer c = c .some-digits .ensures noDigits refl ∙ ap (λ (n : ℕ). carriedAt (someDigits (now (c .before .before .before .args .text)) noDigits n)) (c .before .sign-end .ensures)
+answer : (c : tie.After-some-digits) → now (c .before .before .before .args .classes) ≡ classTable → c .some-digits .result ≡ carriedAt (asked c)
+answer c l = c .some-digits .ensures .0 l noDigits refl ∙ ap (λ (n : ℕ). carriedAt (someDigits (now (c .before .before .before .args .text)) noDigits n)) (c .before .sign-end .ensures)
 
 returns : tie.Need-returns
-returns c = λ m. let f = found (asked (c .before .before .before)) _ _ _ (c .before .next .given .1) (answer (c .before .before .before)) in exponent-ends m (asked (c .before .before .before)) _ (f .digits) (f .is)
+returns c = λ l m. let f = found (asked (c .before .before .before)) _ _ _ (c .before .next .given .1) (answer (c .before .before .before) l) in exponent-ends m (asked (c .before .before .before)) _ (f .digits) (f .is)
 
 returns-2 : tie.Need-returns-2
-returns-2 c = λ m. exponent-faults m (asked (c .before .before .before)) _ (not-found (asked (c .before .before .before)) _ _ (c .before .p .given .1) (answer (c .before .before .before)))
+returns-2 c = λ l m. exponent-faults m (asked (c .before .before .before)) _ (not-found (asked (c .before .before .before)) _ _ (c .before .p .given .1) (answer (c .before .before .before) l))
 
 pub exponent-spec : {M : Type 1} → statement M
-exponent-spec = tie.close (tie.spec (λ c κs. search needs) (λ c κs. search needs) (λ c. search needs) (λ c. search needs) returns returns-2)
+exponent-spec = tie.close (tie.spec (λ c κs. search needs) (λ c κs. record { small = omega arith; few = omega arith }) (λ c. search needs) (λ c. search needs) returns returns-2)

@@ -13,10 +13,10 @@ add-behind-sign : tie.Need-add-behind-sign
 add-behind-sign c = omega (arith, byte-inside (now (c .before .before .before .args .text)) (c .before .before .before .args .at) (c .before .byte-at .result) (c .before .byte-at .ensures) (omega (arith, c .if1 .taken)))
 
 returns : tie.Need-returns
-returns c = c .behind-sign .ensures ∙ ap asScalar (sym (number-negative _ _ _ (c .before .before .byte-at .ensures) (c .before .if1 .taken)))
+returns c = λ l. c .behind-sign .ensures l ∙ ap asScalar (sym (number-negative _ _ _ (c .before .before .byte-at .ensures) (c .before .if1 .taken)))
 
 returns-2 : tie.Need-returns-2
-returns-2 c = c .behind-sign2 .ensures ∙ ap asScalar (sym (number-plain _ _ _ (c .before .before .byte-at .ensures) (c .before .if1 .left)))
+returns-2 c = λ l. c .behind-sign2 .ensures l ∙ ap asScalar (sym (number-plain _ _ _ (c .before .before .byte-at .ensures) (c .before .if1 .left)))
 
 pub number-spec : {M : Type 1} → statement M
 number-spec = tie.close (tie.spec (λ c κs. search needs) add-behind-sign (λ c κs. search needs) returns (λ c κs. search needs) returns-2)

@@ -14,29 +14,33 @@ use Rattle.jsontext.proofs.number.whole_part.Statement.{statement}
 use Rattle.jsontext.proofs.number.whole_part.Tie as tie
 
 returns : tie.Need-returns
-returns c = c .some-digits .ensures noDigits refl ∙ ap carriedAt (whole-digits _ _ _ (c .before .before .byte-at .ensures) (c .before .if1 .taken))
+returns c = (λ l. c .some-digits .ensures .0 l noDigits refl ∙ ap carriedAt (whole-digits _ _ _ (c .before .before .byte-at .ensures) (c .before .if1 .taken)), c .some-digits .ensures .1)
 
 inside : (c : tie.Else1) → c .before .before .before .args .at < length (now (c .before .before .before .args .text))
 inside c = byte-inside (now (c .before .before .before .args .text)) (c .before .before .before .args .at) (c .before .byte-at .result) (c .before .byte-at .ensures) (omega (arith, c .if1 .left))
 
 returns-2 : tie.Need-returns-2
-returns-2 c =
-    ap carriedAt
-    (whole-more _ _ _ (c .before .before .before .before .byte-at .ensures) (c .before .before .before .if1 .left)
-    (ap digit? (sym (c .before .before .byte-at2 .ensures)) ∙ sym (c .before .is-digit .ensures .1 (c .before .before .before .before .before .before .pre)) ∙ c .if2 .taken))
+returns-2 c = (
+  λ l. ap carriedAt
+      (whole-more _ _ _ (c .before .before .before .before .byte-at .ensures) (c .before .before .before .if1 .left)
+      (ap digit? (sym (c .before .before .byte-at2 .ensures)) ∙ sym (c .before .is-digit .ensures .1 l) ∙ c .if2 .taken)),
+  tt,
+)
 
 returns-3 : tie.Need-returns-3
-returns-3 c =
-    ap carriedAt
-    (whole-zero _ _ _ (c .before .before .before .before .byte-at .ensures) (c .before .before .before .if1 .left)
-    (ap digit? (sym (c .before .before .byte-at2 .ensures)) ∙ sym (c .before .is-digit .ensures .1 (c .before .before .before .before .before .before .pre)) ∙ c .if2 .left))
+returns-3 c = (
+  λ l. ap carriedAt
+      (whole-zero _ _ _ (c .before .before .before .before .byte-at .ensures) (c .before .before .before .if1 .left)
+      (ap digit? (sym (c .before .before .byte-at2 .ensures)) ∙ sym (c .before .is-digit .ensures .1 l) ∙ c .if2 .left)),
+  (record { small = omega arith; few = omega arith }, omega arith),
+)
 
 pub whole-part-spec : {M : Type 1} → statement M
 whole-part-spec =
     tie.close
     (tie.spec
     (λ c κs. search needs)
-    (λ c κs. search needs)
+    (λ c κs. record { small = omega arith; few = omega arith })
     returns
     (λ c. omega (arith, inside c))
     (λ c κs. search needs)

@@ -18,13 +18,13 @@ module _ (c : tie.Else1) where
   dee = tested dee? (c .before .before .byte-at .ensures) (c .before .is-dee .ensures) (not-false (c .before .is-dee .result) (c .if1 .left))
 
 returns : tie.Need-returns
-returns c = c .hex .ensures ∙ first-other _ _ (tested dee? (c .before .before .before .byte-at .ensures) (c .before .before .is-dee .ensures) (not-true (c .before .before .is-dee .result) (c .before .if1 .taken)))
+returns c = (λ l. c .hex .ensures .0 l ∙ first-other _ _ (tested dee? (c .before .before .before .byte-at .ensures) (c .before .before .is-dee .ensures) (not-true (c .before .before .is-dee .result) (c .before .if1 .taken))), c .hex .ensures .1)
 
 returns-2 : tie.Need-returns-2
-returns-2 c = first-low _ _ (dee (c .before .before .before)) (tested low? (c .before .before .byte-at2 .ensures) (c .before .is-low .ensures) (c .if2 .taken))
+returns-2 c = (λ l. first-low _ _ (dee (c .before .before .before)) (tested low? (c .before .before .byte-at2 .ensures) (c .before .is-low .ensures) (c .if2 .taken)), tt)
 
 returns-3 : tie.Need-returns-3
-returns-3 c = c .hex2 .ensures ∙ first-high _ _ (dee (c .before .before .before .before)) (tested low? (c .before .before .before .byte-at2 .ensures) (c .before .before .is-low .ensures) (c .before .if2 .left))
+returns-3 c = (λ l. c .hex2 .ensures .0 l ∙ first-high _ _ (dee (c .before .before .before .before)) (tested low? (c .before .before .before .byte-at2 .ensures) (c .before .before .is-low .ensures) (c .before .if2 .left)), c .hex2 .ensures .1)
 
 pub first-unit-spec : {M : Type 1} → statement M
 first-unit-spec =

@@ -18,13 +18,13 @@ module _ (c : tie.Else1) where
   dee = tested dee? (c .before .before .byte-at .ensures) (c .before .is-dee .ensures) (not-false (c .before .is-dee .result) (c .if1 .left))
 
 returns : tie.Need-returns
-returns c = second-other _ _ (tested dee? (c .before .before .byte-at .ensures) (c .before .is-dee .ensures) (not-true (c .before .is-dee .result) (c .if1 .taken)))
+returns c = (λ l. second-other _ _ (tested dee? (c .before .before .byte-at .ensures) (c .before .is-dee .ensures) (not-true (c .before .is-dee .result) (c .if1 .taken))), tt)
 
 returns-2 : tie.Need-returns-2
-returns-2 c = second-high _ _ (dee (c .before .before .before)) (tested low? (c .before .before .byte-at2 .ensures) (c .before .is-low .ensures) (not-true (c .before .is-low .result) (c .if2 .taken)))
+returns-2 c = (λ l. second-high _ _ (dee (c .before .before .before)) (tested low? (c .before .before .byte-at2 .ensures) (c .before .is-low .ensures) (not-true (c .before .is-low .result) (c .if2 .taken))), tt)
 
 returns-3 : tie.Need-returns-3
-returns-3 c = c .hex .ensures ∙ second-low _ _ (dee (c .before .before .before .before)) (tested low? (c .before .before .before .byte-at2 .ensures) (c .before .before .is-low .ensures) (not-false (c .before .before .is-low .result) (c .before .if2 .left)))
+returns-3 c = (λ l. c .hex .ensures .0 l ∙ second-low _ _ (dee (c .before .before .before .before)) (tested low? (c .before .before .before .byte-at2 .ensures) (c .before .before .is-low .ensures) (not-false (c .before .before .is-low .result) (c .before .if2 .left))), c .hex .ensures .1)
 
 pub second-unit-spec : {M : Type 1} → statement M
 second-unit-spec =

@@ -9,9 +9,12 @@ use Rattle.jsontext.proofs.slots.keep_few.Statement.{statement}
 use Rattle.jsontext.proofs.slots.keep_few.Tie as tie
 
 returns : tie.Need-returns
-returns c = λ bs xs v u e f.
-    c .keep .ensures bs xs v u e (f ∙ ap joinBytes (sym (take-all 8 xs (omega (arith, c .before .pre)))))
-    (last-shifted bs xs _ _ _ (v .bytes) u e (omega (arith, c .before .pre)) f (v .last))
+returns c = (
+  λ bs xs v u e f.
+      c .keep .ensures .0 bs xs v u e (f ∙ ap joinBytes (sym (take-all 8 xs (omega (arith, c .before .pre)))))
+      (last-shifted bs xs _ _ _ (v .bytes) u e (omega (arith, c .before .pre)) f (v .last)),
+  c .keep .ensures .1,
+)
 
 pub keep-few-spec : {M : Type 1} → statement M
 keep-few-spec =

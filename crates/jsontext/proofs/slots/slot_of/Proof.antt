@@ -15,4 +15,4 @@ slot-of-spec =
     (λ c κs. search needs)
     (λ c κs. (omega (arith, c .keep-none .ensures .few), omega arith, omega arith))
     (λ c κs. search needs)
-    (λ c. c .kept-slot .ensures _ (c .before .keep-part .ensures _ (c .before .before .keep-none .ensures)) ∙ ap textSlot (part-all (now (c .before .before .before .before .args .bytes)))))
+    (λ c. c .kept-slot .ensures _ (c .before .keep-part .ensures .0 _ (c .before .before .keep-none .ensures)) ∙ ap textSlot (part-all (now (c .before .before .before .before .args .bytes)))))

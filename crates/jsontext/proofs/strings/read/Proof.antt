@@ -17,9 +17,9 @@ module _ (c : tie.Else1) where
   inside = byte-inside (now (c .before .before .before .args .text)) (c .before .before .before .args .at) _ (c .before .byte-at .ensures) (omega arith)
 
 returns-2 : tie.Need-returns-2
-returns-2 c =
+returns-2 c = λ l.
     keeping-end _ _ _ _
-    (keeping-begin _ _ _ _ (c .before .before .before .before .before .plain-end .ensures) _ _ (scan-start _ _ _ (c .before .before .before .before .before .before .before .byte-at .ensures) (c .before .before .before .before .before .before .if1 .left)) (c .before .before .keep-none .ensures) (c .before .keep-part .ensures)) _
+    (keeping-begin _ _ _ _ (c .before .before .before .before .before .plain-end .ensures) _ _ (scan-start _ _ _ (c .before .before .before .before .before .before .before .byte-at .ensures) (c .before .before .before .before .before .before .if1 .left)) (c .before .before .keep-none .ensures) (c .before .keep-part .ensures .0)) _
     (c .before .before .before .before .byte-at2 .ensures) (c .before .before .before .if2 .taken) _ (c .kept-slot .ensures)
 
 pub read-spec : {M : Type 1} → statement M
@@ -27,7 +27,7 @@ read-spec =
     tie.close
     (tie.spec
     (λ c κs. search needs)
-    (λ c. slot-none _ _ _ (c .before .byte-at .ensures) (c .if1 .taken))
+    (λ c l. slot-none _ _ _ (c .before .byte-at .ensures) (c .if1 .taken))
     (λ c. omega (arith, inside c))
     (λ c κs. omega (arith, inside c))
     (λ c κs. search needs)
@@ -37,5 +37,5 @@ read-spec =
     (λ c κs. search needs)
     (λ c. omega (arith, byte-inside (now (c .before .before .before .before .before .before .before .before .before .args .text)) (c .before .before .before .before .before .plain-end .result) _ (c .before .before .before .before .byte-at2 .ensures) (omega arith)))
     returns-2
-    (λ c κs. (λ q. c .if2 .left (c .before .byte-at2 .ensures ∙ q), ((scan-start _ _ _ (c .before .before .before .before .byte-at .ensures) (c .before .before .before .if1 .left), c .before .before .plain-end .ensures), c .before .before .before .before .before .before .pre)))
+    (λ c κs. (λ q. c .if2 .left (c .before .byte-at2 .ensures ∙ q), (scan-start _ _ _ (c .before .before .before .before .byte-at .ensures) (c .before .before .before .if1 .left), c .before .before .plain-end .ensures)))
     (λ c. c .read-on .ensures))
