@@ -18,24 +18,24 @@ items-requires c κs = (holds-none (now (c .before .before .before .before .befo
 
 returns : tie.Need-returns
 returns c =
-    text-more _ _ _ _ _ (c .before .before .before .before .before .before .before .before .before .before .before .before .before .before .before .before .before .row-limit .ensures) (c .before .before .before .before .before .before .before .before .before .before .before .before .before .before .before .before .space-end .ensures) (c .before .before .before .before .before .before .before .items .ensures .0) (c .before .before .before .next .given .1) (c .before .space-end2 .ensures) (c .if1 .taken)
+    text-more _ _ _ _ _ (c .before .before .before .before .before .before .before .before .before .before .before .before .before .before .before .before .before .row-limit .ensures) (c .before .before .before .before .before .before .before .before .before .before .before .before .before .before .before .before .space-end .ensures (c .before .before .before .before .before .before .before .before .before .before .before .before .before .before .before .before .before .before .before .before .before .before .pre .0)) (c .before .before .before .before .before .before .before .items .ensures .0) (c .before .before .before .next .given .1) (c .before .space-end2 .ensures (c .before .before .before .before .before .before .before .before .before .before .before .before .before .before .before .before .before .before .before .before .before .before .pre .0)) (c .if1 .taken)
 
 array-share-prefix-cells : tie.Need-array-share-prefix-cells
 array-share-prefix-cells c =
-    text-inside _ _ (now (c .before .before .before .before .before .before .before .before .before .before .before .before .before .before .before .before .before .before .before .before .before .before .before .before .args .rows)) _ _ (c .before .before .before .before .before .before .before .before .before .before .before .before .before .before .before .before .before .before .before .row-limit .ensures) (c .before .before .before .before .before .before .before .before .before .before .before .before .before .before .before .before .before .before .space-end .ensures) (c .before .before .before .before .before .before .before .before .before .items .ensures .0) (c .before .before .before .before .before .next .given .1) _ (ap (λ n. n * rowCells) (c .size .ensures .0))
+    text-inside _ _ (now (c .before .before .before .before .before .before .before .before .before .before .before .before .before .before .before .before .before .before .before .before .before .before .before .before .args .rows)) _ _ (c .before .before .before .before .before .before .before .before .before .before .before .before .before .before .before .before .before .before .before .row-limit .ensures) (c .before .before .before .before .before .before .before .before .before .before .before .before .before .before .before .before .before .before .space-end .ensures (c .before .before .before .before .before .before .before .before .before .before .before .before .before .before .before .before .before .before .before .before .before .before .before .before .pre .0)) (c .before .before .before .before .before .before .before .before .before .items .ensures .0) (c .before .before .before .before .before .next .given .1) _ (ap (λ n. n * rowCells) (c .size .ensures .0))
 
 slice-aggregate-put-cells : tie.Need-slice-aggregate-put-cells
 slice-aggregate-put-cells c =
     sym (length-take-le _ _
-    (text-inside _ _ (now (c .before .before .before .before .before .before .before .before .before .before .before .before .before .before .before .before .before .before .before .before .before .before .before .before .before .args .rows)) _ _ (c .before .before .before .before .before .before .before .before .before .before .before .before .before .before .before .before .before .before .before .before .row-limit .ensures) (c .before .before .before .before .before .before .before .before .before .before .before .before .before .before .before .before .before .before .before .space-end .ensures) (c .before .before .before .before .before .before .before .before .before .before .items .ensures .0) (c .before .before .before .before .before .before .next .given .1) _ (ap (λ n. n * rowCells) (c .before .size .ensures .0))))
+    (text-inside _ _ (now (c .before .before .before .before .before .before .before .before .before .before .before .before .before .before .before .before .before .before .before .before .before .before .before .before .before .args .rows)) _ _ (c .before .before .before .before .before .before .before .before .before .before .before .before .before .before .before .before .before .before .before .before .row-limit .ensures) (c .before .before .before .before .before .before .before .before .before .before .before .before .before .before .before .before .before .before .before .space-end .ensures (c .before .before .before .before .before .before .before .before .before .before .before .before .before .before .before .before .before .before .before .before .before .before .before .before .before .pre .0)) (c .before .before .before .before .before .before .before .before .before .before .items .ensures .0) (c .before .before .before .before .before .before .next .given .1) _ (ap (λ n. n * rowCells) (c .before .size .ensures .0))))
 
 returns-2 : tie.Need-returns-2
 returns-2 c =
-    text-refused _ _ _ _ _ (c .before .before .before .before .before .before .before .before .before .before .before .before .before .before .before .row-limit .ensures) (c .before .before .before .before .before .before .before .before .before .before .before .before .before .before .space-end .ensures) (c .before .before .before .before .before .items .ensures .0) (c .before .w .given .1)
+    text-refused _ _ _ _ _ (c .before .before .before .before .before .before .before .before .before .before .before .before .before .before .before .row-limit .ensures) (c .before .before .before .before .before .before .before .before .before .before .before .before .before .before .space-end .ensures (c .before .before .before .before .before .before .before .before .before .before .before .before .before .before .before .before .before .before .before .before .pre .0)) (c .before .before .before .before .before .items .ensures .0) (c .before .w .given .1)
 
 returns-3 : tie.Need-returns-3
 returns-3 c =
-    text-rows _ _ _ _ _ (c .before .before .before .before .before .before .before .before .before .before .before .before .before .before .before .before .before .before .before .before .before .before .before .row-limit .ensures) (c .before .before .before .before .before .before .before .before .before .before .before .before .before .before .before .before .before .before .before .before .before .before .space-end .ensures) (c .before .before .before .before .before .before .before .before .before .before .before .before .before .items .ensures .0) (c .before .before .before .before .before .before .before .before .before .next .given .1) (c .before .before .before .before .before .before .before .space-end2 .ensures) (c .before .before .before .before .before .before .if1 .left) _ _ (ap (λ n. n * rowCells) (c .before .before .before .before .size .ensures .0)) (c .before .before .put-cells .ensures)
+    text-rows _ _ _ _ _ (c .before .before .before .before .before .before .before .before .before .before .before .before .before .before .before .before .before .before .before .before .before .before .before .row-limit .ensures) (c .before .before .before .before .before .before .before .before .before .before .before .before .before .before .before .before .before .before .before .before .before .before .space-end .ensures (c .before .before .before .before .before .before .before .before .before .before .before .before .before .before .before .before .before .before .before .before .before .before .before .before .before .before .before .before .pre .0)) (c .before .before .before .before .before .before .before .before .before .before .before .before .before .items .ensures .0) (c .before .before .before .before .before .before .before .before .before .next .given .1) (c .before .before .before .before .before .before .before .space-end2 .ensures (c .before .before .before .before .before .before .before .before .before .before .before .before .before .before .before .before .before .before .before .before .before .before .before .before .before .before .before .before .pre .0)) (c .before .before .before .before .before .before .if1 .left) _ _ (ap (λ n. n * rowCells) (c .before .before .before .before .size .ensures .0)) (c .before .before .put-cells .ensures)
 
 pub read-text-spec : {M : Type 1} → statement M
 read-text-spec =

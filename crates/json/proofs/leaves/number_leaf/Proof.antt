@@ -12,17 +12,17 @@ use Rattle.json.proofs.leaves.number_leaf.Tie as tie
 
 finish-requires : tie.Need-finish-requires
 finish-requires c κs =
-    (c .before .before .before .before .before .before .before .before .before .pre .0, scalar-behind (now (c .before .before .before .before .before .before .before .before .before .args .text)) (c .before .before .before .before .before .before .before .before .before .args .at) (ap numberOf (sym (c .before .before .before .before .before .scalar .given .1)) ∙ c .before .before .before .before .before .before .before .number .ensures))
+    (c .before .before .before .before .before .before .before .before .before .pre .0, scalar-behind (now (c .before .before .before .before .before .before .before .before .before .args .text)) (c .before .before .before .before .before .before .before .before .before .args .at) (ap numberOf (sym (c .before .before .before .before .before .scalar .given .1)) ∙ c .before .before .before .before .before .before .before .number .ensures (c .before .before .before .before .before .before .before .before .before .pre .1)))
 
 returns : tie.Need-returns
-returns c = number-fault _ _ (ap numberOf (sym (c .before .p .given .1)) ∙ c .before .before .before .number .ensures)
+returns c = number-fault _ _ (ap numberOf (sym (c .before .p .given .1)) ∙ c .before .before .before .number .ensures (c .before .before .before .before .before .pre .1))
 
 returns-2 : tie.Need-returns-2
-returns-2 c = number-outside _ _ (ap numberOf (sym (c .enum-told .given .1)) ∙ c .before .before .number .ensures)
+returns-2 c = number-outside _ _ (ap numberOf (sym (c .enum-told .given .1)) ∙ c .before .before .number .ensures (c .before .before .before .before .pre .1))
 
 returns-3 : tie.Need-returns-3
 returns-3 c =
-    number-is (builtIn (now (c .before .before .before .before .before .before .before .before .before .before .args .text)) (now (c .before .before .before .before .before .before .before .before .before .before .args .rows)) (now (c .before .before .before .before .before .before .before .before .before .before .args .starts)) (c .before .before .before .before .before .before .before .before .before .before .args .used) (c .before .before .before .before .before .before .before .before .before .before .args .texts)) _ (ap numberOf (sym (c .before .before .before .before .before .before .scalar .given .1)) ∙ c .before .before .before .before .before .before .before .before .number .ensures) refl (c .finish .ensures _ (c .before .before .before .before .leaf .ensures) (no-text _ refl (λ e. omega (arith, e))))
+    number-is (builtIn (now (c .before .before .before .before .before .before .before .before .before .before .args .text)) (now (c .before .before .before .before .before .before .before .before .before .before .args .rows)) (now (c .before .before .before .before .before .before .before .before .before .before .args .starts)) (c .before .before .before .before .before .before .before .before .before .before .args .used) (c .before .before .before .before .before .before .before .before .before .before .args .texts)) _ (ap numberOf (sym (c .before .before .before .before .before .before .scalar .given .1)) ∙ c .before .before .before .before .before .before .before .before .number .ensures (c .before .before .before .before .before .before .before .before .before .before .pre .1)) refl (c .finish .ensures _ (c .before .before .before .before .leaf .ensures) (no-text _ refl (λ e. omega (arith, e))))
 
 pub number-leaf-spec : {M : Type 1} → statement M
 number-leaf-spec =

@@ -36,7 +36,7 @@ returns-2 c =
     let a = c .before .before .before .before .before .before .before .before .before .args in
     let z = c .before .before .before .before .before .size in
     searched-known (a .found .now) (same? (a .text .now) (a .starts .now) (a .at)) (a .slot) (l .d) (z .result) _ (l .inv) (search needs) (z .ensures .0) refl (c .before .same .result) (c .before .before .before .if1 .left)
-    (c .before .same .ensures (c .before .before .before .before .before .before .before .before .before .before .pre) ∙ ap (λ i. sameText (stringAt (a .text .now) (a .at)) (stringAt (a .text .now) i)) (c .before .before .start-of .ensures)) (c .if2 .taken)
+    (c .before .same .ensures (c .before .before .before .before .before .before .before .before .before .pre .1) ∙ ap (λ i. sameText (stringAt (a .text .now) (a .at)) (stringAt (a .text .now) i)) (c .before .before .start-of .ensures)) (c .if2 .taken)
 
 loop-again : tie.Need-loop-again Inv-loop μ-loop
 loop-again c =
@@ -44,7 +44,7 @@ loop-again c =
     let a = c .before .before .before .before .before .before .before .before .before .args in
     let z = c .before .before .before .before .before .size in
     searched-more (a .found .now) (same? (a .text .now) (a .starts .now) (a .at)) (a .slot) (l .d) (z .result) _ (l .inv) (search needs) (z .ensures .0) refl (c .before .same .result) (c .before .before .before .if1 .left)
-    (c .before .same .ensures (c .before .before .before .before .before .before .before .before .before .before .pre) ∙ ap (λ i. sameText (stringAt (a .text .now) (a .at)) (stringAt (a .text .now) i)) (c .before .before .start-of .ensures)) (c .if2 .left)
+    (c .before .same .ensures (c .before .before .before .before .before .before .before .before .before .pre .1) ∙ ap (λ i. sameText (stringAt (a .text .now) (a .at)) (stringAt (a .text .now) i)) (c .before .before .start-of .ensures)) (c .if2 .left)
 
 returns-3 : tie.Need-returns-3 Inv-loop μ-loop
 returns-3 c =
