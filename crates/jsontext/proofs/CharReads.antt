@@ -16,7 +16,7 @@ use Rattle.jsontext.specs.Scanned.{Scanned}
 use Rattle.jsontext.specs.Productions.{CharAt, unescaped, above-7F, letter, unicode, pair}
 use Rattle.jsontext.specs.Chars.{Joined, Character}
 use Rattle.jsontext.proofs.Joining.{bytes-take, bytes-drop, join-same}
-use Rattle.jsontext.proofs.LeadRows.{sizeBy, size-some, size-few, sequence-size}
+use Rattle.jsontext.proofs.LeadRows.{sizeBy, size-bounds, sequence-size}
 use Rattle.jsontext.proofs.Packing.{size-one, utf8-sized}
 use Rattle.jsontext.proofs.SequenceProductions.{read-sequence, sequence-ahead}
 use Rattle.jsontext.proofs.CharProductions.{plain-range, letter-one, PieceIs, piece-is, PieceFor, as-raw, as-code, char-piece, char-ahead}
@@ -70,11 +70,11 @@ module _ (t : List ℕ) (i w m n : ℕ) (c : Character t i w m n) where
   char-size = c .is .count ∙ char-sized t (c .char) (c .is .bytes)
 
   pub char-few : (0 < m) × (m ≤ 4)
-  char-few = let e = char-size in (omega (arith, size-some (byteAt (c .bs) 0)), omega (arith, size-few (byteAt (c .bs) 0)))
+  char-few = let e = char-size in (omega (arith, size-bounds (byteAt (c .bs) 0)), omega (arith, size-bounds (byteAt (c .bs) 0)))
 
 -- one to four bytes of a code point
 pub joined-few : (c w m : ℕ) → Joined (utf8 c) w m → (0 < m) × (m ≤ 4)
-joined-few c w m j = (omega (arith, j .count, utf8-sized c, size-some (byteAt (utf8 c) 0)), omega (arith, j .count, utf8-sized c, size-few (byteAt (utf8 c) 0)))
+joined-few c w m j = (omega (arith, j .count, utf8-sized c, size-bounds (byteAt (utf8 c) 0)), omega (arith, j .count, utf8-sized c, size-bounds (byteAt (utf8 c) 0)))
 
 -- ---- two chars
 lead-joined : (bs : List ℕ) (w m : ℕ) → Joined bs w m → w % 256 ≡ byteAt bs 0

@@ -21,7 +21,7 @@ use Rattle.jsontext.specs.Compared.{Alike}
 use Rattle.jsontext.proofs.Joining.{join-same, bytes-take, bytes-drop}
 use Rattle.jsontext.proofs.Ways.{piece-closed}
 use Rattle.jsontext.proofs.PieceEnds.{raw-ahead}
-use Rattle.jsontext.proofs.LeadRows.{size-some}
+use Rattle.jsontext.proofs.LeadRows.{size-bounds}
 use Rattle.jsontext.proofs.Packing.{utf8-sized}
 use Rattle.jsontext.proofs.Scanning.{scan-plains, scan-raw, scan-code, scan-closed, scan-bad, no-quote}
 use Rattle.jsontext.proofs.CharReads.{quoted, char-scan, chars-same, chars-front}
@@ -52,6 +52,17 @@ same-is (fault p) h e = absurd (true≢false (sym e))
 
 is-same : (g h : Got (List ℕ)) → Same g h → sameText g h ≡ true
 is-same g h v = ap (λ (x : Got (List ℕ)). sameText x h) (v .first) ∙ is-text h (v .bytes) (v .n) (v .second)
+
+-- a broken string is no text and the same as none
+first-broken : (g h : Got (List ℕ)) (p : ℕ) → g ≡ fault p → false ≡ sameText g h
+first-broken g h p e = sym (ap (λ (x : Got (List ℕ)). sameText x h) e)
+
+text-broken : (g : Got (List ℕ)) (p : ℕ) (line : List ℕ) → g ≡ fault p → false ≡ isText g line
+text-broken g p line e = sym (ap (λ (x : Got (List ℕ)). isText x line) e)
+
+second-broken : (g h : Got (List ℕ)) (p : ℕ) → h ≡ fault p → false ≡ sameText g h
+second-broken (got x m) h p e = text-broken h p x e
+second-broken (fault q) h p e = refl
 
 -- a whole string that begins with some bytes
 front-is : (bs line : List ℕ) (n : ℕ) (g : Got (List ℕ)) → got line n ≡ withFront bs g → (more : List ℕ) × (line ≡ bs ++ more)
@@ -88,7 +99,7 @@ module _ (t : List ℕ) (at i : ℕ) (out : List ℕ) (s : Scanned t at i out) w
       go : (p : Piece) → pieceAt t i ≡ p → ⊥
       go closed f = q (quoted t i f)
       go (raw k) f = let a = raw-ahead t i k f in longer (part t i k) k (scan-raw t at i out s k f) (omega (arith, a .forward, a .inside, length-take (k - i) (drop i t), length-drop i t))
-      go (code d k) f = longer (utf8 d) k (scan-code t at i out s d k f) (omega (arith, utf8-sized d, size-some (byteAt (utf8 d) 0)))
+      go (code d k) f = longer (utf8 d) k (scan-code t at i out s d k f) (omega (arith, utf8-sized d, size-bounds (byteAt (utf8 d) 0)))
       go (bad p) f = let u = scan-bad t at i out s p f in let z : _≡_ {A = ℕ} 0 1 = cc in omega arith
 
 -- ---- two strings: the same bytes were read of both
@@ -134,20 +145,10 @@ module _ (t : List ℕ) (a b i j : ℕ) (v : Both t a b i j) where
       open-other t a i (v .out) (v .first) (λ o. f (e ∙ o)) (k .m) (k .first ∙ ap (λ (l : List ℕ). got l (k .m)) z))
 
   pub both-broken : (p : ℕ) → pieceAt t i ≡ bad p → false ≡ sameText (stringAt t a) (stringAt t b)
-  both-broken p e =
-      not-so _ (λ r.
-      let k = same-is (stringAt t a) (stringAt t b) r in
-      let u = scan-bad t a i (v .out) (v .first) p e in
-      let z : _≡_ {A = ℕ} 0 1 = cc (k .first, u) in
-      absurd (omega arith))
+  both-broken p e = first-broken _ _ p (scan-bad t a i (v .out) (v .first) p e)
 
   pub both-second-broken : (p : ℕ) → pieceAt t j ≡ bad p → false ≡ sameText (stringAt t a) (stringAt t b)
-  both-second-broken p e =
-      not-so _ (λ r.
-      let k = same-is (stringAt t a) (stringAt t b) r in
-      let u = scan-bad t b j (v .out) (v .second) p e in
-      let z : _≡_ {A = ℕ} 0 1 = cc (k .second, u) in
-      absurd (omega arith))
+  both-second-broken p e = second-broken (stringAt t a) _ p (scan-bad t b j (v .out) (v .second) p e)
 
   -- a char in both
   module _ (p k x q l y : ℕ) (c : Character t i p k x) (d : Character t j q l y) where
@@ -197,12 +198,7 @@ module _ (t : List ℕ) (at : ℕ) (bytes : List ℕ) (i k : ℕ) (v : Running t
           eqb-false k (length bytes) q (omega (arith, ap length y, length-take k bytes, v .few)))
 
   pub running-broken : (p : ℕ) → pieceAt t i ≡ bad p → false ≡ isText (stringAt t at) bytes
-  running-broken p e =
-      not-so _ (λ r.
-      let (n, u) = text-is (stringAt t at) bytes r in
-      let w = scan-bad t at i (take k bytes) (v .scanned) p e in
-      let z : _≡_ {A = ℕ} 0 1 = cc (u, w) in
-      absurd (omega arith))
+  running-broken p e = text-broken _ p bytes (scan-bad t at i (take k bytes) (v .scanned) p e)
 
   -- a char
   module _ (w m n : ℕ) (c : Character t i w m n) where
@@ -235,13 +231,10 @@ module _ (t : List ℕ) (at : ℕ) (bytes : List ℕ) (i k : ℕ) (v : Running t
 
 -- a string that has no quote is broken
 pub first-none : (t : List ℕ) (a b x : ℕ) → x ≡ byteAt t a → (x ≡ 34 → ⊥) → false ≡ sameText (stringAt t a) (stringAt t b)
-first-none t a b x e f =
-    not-so _ (λ r. let k = same-is (stringAt t a) (stringAt t b) r in let u = no-quote t a x e f in let z : _≡_ {A = ℕ} 0 1 = cc (k .first, u) in absurd (omega arith))
+first-none t a b x e f = first-broken _ _ a (no-quote t a x e f)
 
 pub second-none : (t : List ℕ) (a b y : ℕ) → y ≡ byteAt t b → (y ≡ 34 → ⊥) → false ≡ sameText (stringAt t a) (stringAt t b)
-second-none t a b y e f =
-    not-so _ (λ r. let k = same-is (stringAt t a) (stringAt t b) r in let u = no-quote t b y e f in let z : _≡_ {A = ℕ} 0 1 = cc (k .second, u) in absurd (omega arith))
+second-none t a b y e f = second-broken (stringAt t a) _ b (no-quote t b y e f)
 
 pub text-none : (t : List ℕ) (a x : ℕ) (line : List ℕ) → x ≡ byteAt t a → (x ≡ 34 → ⊥) → false ≡ isText (stringAt t a) line
-text-none t a x line e f =
-    not-so _ (λ r. let (n, q) = text-is (stringAt t a) line r in let u = no-quote t a x e f in let z : _≡_ {A = ℕ} 0 1 = cc (q, u) in absurd (omega arith))
+text-none t a x line e f = text-broken _ a line (no-quote t a x e f)

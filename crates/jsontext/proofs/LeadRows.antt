@@ -55,26 +55,15 @@ by-row (s ∷ ss) t i = go (s .lead (byteAt t i)) (by-row ss t i)
 unfoldable pub sizeBy : ℕ → ℕ
 sizeBy b = cond (ltb b 128) 1 (cond (ltb b 224) 2 (cond (ltb b 240) 3 4))
 
-module _ (b : ℕ) where
-  pub size-some : 0 < sizeBy b
-  unfolding sizeBy
-  size-some = go (ltb b 128) (ltb b 224) (ltb b 240)
-    where
-      go : (x y z : Bool) → 0 < cond x 1 (cond y 2 (cond z 3 4))
-      go true y z = omega arith
-      go false true z = omega arith
-      go false false true = omega arith
-      go false false false = omega arith
-
-  pub size-few : sizeBy b ≤ 4
-  unfolding sizeBy
-  size-few = go (ltb b 128) (ltb b 224) (ltb b 240)
-    where
-      go : (x y z : Bool) → cond x 1 (cond y 2 (cond z 3 4)) ≤ 4
-      go true y z = omega arith
-      go false true z = omega arith
-      go false false true = omega arith
-      go false false false = omega arith
+pub size-bounds : (b : ℕ) → (0 < sizeBy b) × (sizeBy b ≤ 4)
+unfolding sizeBy
+size-bounds b = go (ltb b 128) (ltb b 224) (ltb b 240)
+  where
+    go : (x y z : Bool) → (0 < cond x 1 (cond y 2 (cond z 3 4))) × (cond x 1 (cond y 2 (cond z 3 4)) ≤ 4)
+    go true y z = (omega arith, omega arith)
+    go false true z = (omega arith, omega arith)
+    go false false true = (omega arith, omega arith)
+    go false false false = (omega arith, omega arith)
 
 -- a row has as many
 abbrev rowSize : Row → ℕ → ℕ

@@ -21,6 +21,7 @@ pub mod NumberSizes
 pub mod NumberParts
 pub mod NumberScalars
 pub mod Packing
+pub mod WellFormed
 pub mod Agreeing
 pub mod Comparing
 pub mod NumberNearest

@@ -12,8 +12,12 @@ use Rattle.base.proofs.Got.{Reads, reads, none-read, read-as}
 use Rattle.classes.specs.Classes.{digit?}
 use Rattle.classes.proofs.Ranges.{digit-range}
 use Rattle.jsontext.specs.Number.{Digits, Number, digitsOf, noDigits, withDigit, digitsFrom, someDigits, wholeAt, signEnd, withExponent, exponentAt, plainNumber, afterFraction, fractionAt, afterWhole, numberAt}
-use Rattle.jsontext.specs.NumberAnswer.{Sized}
 use Rattle.jsontext.proofs.Rates.{power-more, power-below}
+
+-- digits, no more of them than places before i, whose value is no longer than they are
+pub record Sized (d : Digits) (i : ℕ) : Type 0 where
+  pub small : d .value < 10 ^ (d .count)
+  pub few : d .count ≤ i
 
 -- digits that follow n others
 abbrev SizedFrom : ℕ → Digits → ℕ → Type 0

@@ -16,7 +16,7 @@ use Rattle.jsontext.specs.Strings.{Piece, closed, raw, code, bad, simple
 use Rattle.jsontext.specs.StringAnswers.{Ahead, EscapeInside, PieceInside}
 use Rattle.jsontext.specs.declared.pieces.StringPiece.{StringPiece}
 use Rattle.jsontext.specs.declared.pieces.StringPiece.the-variants.{Closed, Raw, Code, Bad}
-use Rattle.jsontext.proofs.LeadRows.{size-few, sequence-size}
+use Rattle.jsontext.proofs.LeadRows.{size-bounds, sequence-size}
 use Rattle.jsontext.proofs.HexDigits.{hex-inside}
 use Rattle.jsontext.proofs.Ways.{dee-inside, simple-inside, plain-inside, piece-control}
 
@@ -217,4 +217,4 @@ escape-piece t i (Code c n) e = e
 escape-piece t i (Bad p) e = e
 
 pub sequence-inside : (t : List ℕ) (i n : ℕ) → byteAt t i < 256 → upTo n ≡ sequenceAt t i → Ahead t (i + 1) n × (n ≤ i + 4)
-sequence-inside t i n h e = (subst (StretchEnds t i (i + 1)) (sym e) (sequence-end t i), omega (arith, sequence-size t i n h (sym e), size-few (byteAt t i)))
+sequence-inside t i n h e = (subst (StretchEnds t i (i + 1)) (sym e) (sequence-end t i), omega (arith, sequence-size t i n h (sym e), size-bounds (byteAt t i)))

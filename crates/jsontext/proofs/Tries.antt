@@ -36,3 +36,9 @@ numbers : map (λ t. asScalar (numberAt t 0))
     ∷ got (some (Rate (ofBits binary64 0xC029000000000000))) 5 ∷ []
 unfolding bytes digit? digitsFrom someDigits wholeAt signEnd exponentAt fractionAt numberAt rate count? decimal? numberScalar rateOf oneZero nanBits trailingZeros round neg div ofInt ofBits toBits size units odd span climb ofFields
 numbers = refl
+
+-- the bytes of a code point at both ends of each length: U+007F; U+0080, U+07FF; U+0800, U+FFFF; U+10000, U+10FFFF
+code-points : map utf8 (0x7F ∷ 0x80 ∷ 0x7FF ∷ 0x800 ∷ 0xFFFF ∷ 0x10000 ∷ 0x10FFFF ∷ [])
+    ≡ (0x7F ∷ []) ∷ (0xC2 ∷ 0x80 ∷ []) ∷ (0xDF ∷ 0xBF ∷ []) ∷ (0xE0 ∷ 0xA0 ∷ 0x80 ∷ []) ∷ (0xEF ∷ 0xBF ∷ 0xBF ∷ []) ∷ (0xF0 ∷ 0x90 ∷ 0x80 ∷ 0x80 ∷ []) ∷ (0xF4 ∷ 0x8F ∷ 0xBF ∷ 0xBF ∷ []) ∷ []
+unfolding utf8
+code-points = refl

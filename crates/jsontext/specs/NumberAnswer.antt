@@ -17,12 +17,7 @@ use Rattle.jsontext.specs.declared.number.NumberRead.the-variants.{Is, O
 abbrev pub carried : Digits → DigitRun
 carried d = record { value = min (d .value) (2 ^ 64 - 1); fits = ltb (d .value) (2 ^ 64); count = d .count }
 
--- digits, no more of them than places before i, whose value is no longer than they are
-pub record Sized (d : Digits) (i : ℕ) : Type 0 where
-  pub small : d .value < 10 ^ (d .count)
-  pub few : d .count ≤ i
-
--- the same of digits as they are carried, whatever they were taken for
+-- digits as they are carried, whatever they were taken for: no more of them than places before i, and their value no longer than they are
 pub record Bounded (r : DigitRun) (i : ℕ) : Type 0 where
   pub small : r .value < 10 ^ (r .count)
   pub few : r .count ≤ i

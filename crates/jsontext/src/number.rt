@@ -7,7 +7,8 @@ use document::scalar::bits_of;
 use document::scalar::row_rate;
 ghost use mathlib.Core.Path.{_≡_};
 ghost use mathlib.Core.Bool.{true};
-ghost use Prim.Native.Nat.{_+_, _-_, _<_, _≤_, _^_};
+ghost use Prim.Native.Nat.{_+_, _-_, _/_, _<_, _≤_, _^_};
+ghost use lib.Dec.{ltb};
 ghost use lib.ListN.{length};
 ghost use Rattle.base.specs.Text.{got};
 ghost use Rattle.classes.specs.Classes.{digit?, classTable};
@@ -15,6 +16,9 @@ ghost use Rattle.jsontext.specs.Number.{Digits, Number, noDigits, withDi
 ghost use Rattle.jsontext.specs.NumberAnswer.{carried, carriedAt, Bounded, BoundedFrom, numberOf};
 
 const MAX_COUNT: u64 = 18446744073709551615;
+
+// A tenth of what the greatest digit leaves of it.
+const TENTH: u64 = 1844674407370955160;
 
 // The most digits of a rate.
 const MAX_DIGITS: usize = 15;
@@ -48,6 +52,17 @@ fn digit_value(b: u8) -> u64
     if x > 9 { 9 } else { x }
 }
 
+// Whether a digit of value x takes a number past 2^64 - 1: up to a tenth of that none does, which most numbers show without a division.
+fn is_past(value: u64, x: u64) -> bool
+    requires { ⌜ x ≤ 9 ⌝ }
+    ensures { λ r. ⌜ r ≡ ltb ((2 ^ 64 - 1 - x) / 10) value ⌝ }
+{
+    if value <= TENTH {
+        return false;
+    }
+    value > (MAX_COUNT - x) / 10
+}
+
 // A digit more.
 fn with_digit(digits: DigitRun, b: u8) -> DigitRun
     requires { ⌜ (digits .value < 10 ^ (digits .count)) × (digits .count < 2 ^ 64 - 1) ⌝ }
@@ -57,7 +72,7 @@ fn with_digit(digits: DigitRun, b: u8) -> DigitRun
 {
     let x = digit_value(b);
     let count = digits.count + 1;
-    if digits.value > (MAX_COUNT - x) / 10 {
+    if is_past(digits.value, x) {
         return DigitRun {
             value: MAX_COUNT,
             fits: false,
