@@ -12,13 +12,13 @@ use Rattle.document.specs.declared.rows.Row as number
 use Rattle.json.specs.Signature.{textLeaf}
 use Rattle.json.specs.Grammar.{members, elements}
 use Rattle.json.specs.State.{keyRows, builtIn, Holds}
-use Rattle.json.specs.Seen.{entryKey, entries, Seen, KeyOutcome, key-good, key-refused, KeySays, key-says, key-says-no}
+use Rattle.json.specs.Seen.{entryKey, entries, Seen, Flagged, KeyOutcome, key-good, key-refused, KeySays, key-says, key-says-no}
 use Rattle.json.specs.Items.{}
 use Rattle.json.specs.declared.members.KeyPart.{KeyPart}
 use Rattle.json.specs.declared.members.KeyPart.the-variants.{Key, NoKey}
 
 -- an answer that says what key was read
-pub record KeySaid (keys : List (List ℕ)) (t cells slots starts found pending old : List ℕ) (before limit lo hi : ℕ) (seen : List (List ℕ)) (o : KeyOutcome) (symbol : ℕ) (row : number.Row) (next used texts : ℕ) : Type 0 where
+pub record KeySaid (keys : List (List ℕ)) (t cells slots starts found pending flags old : List ℕ) (before limit lo hi : ℕ) (seen : List (List ℕ)) (o : KeyOutcome) (symbol : ℕ) (row : number.Row) (next used texts : ℕ) : Type 0 where
   pub key : List ℕ
   pub js : List ℕ
   pub outcome : o ≡ key-good key symbol js next (builtIn t cells starts used texts)
@@ -29,9 +29,10 @@ pub record KeySaid (keys : List (List ℕ)) (t cells slots starts found pending 
   pub more : before ≤ texts
   pub same : (k : ℕ) → k < before → getD starts k 0 ≡ getD old k 0
   pub seen-now : Seen keys t starts pending texts lo hi (seen ++ key ∷ [])
+  pub flagged : Flagged keys flags (seen ++ key ∷ [])
 
-module _ {keys : List (List ℕ)} {t cells slots starts found pending old : List ℕ} {before limit lo hi : ℕ} {seen : List (List ℕ)} {r : KeyPart} where
-  pub key-said : {o : KeyOutcome} → KeySays keys t cells slots starts found pending old before limit lo hi seen r o → {symbol : ℕ} {row : number.Row} {next used texts : ℕ} → r ≡ Key symbol row next used texts → KeySaid keys t cells slots starts found pending old before limit lo hi seen o symbol row next used texts
+module _ {keys : List (List ℕ)} {t cells slots starts found pending flags old : List ℕ} {before limit lo hi : ℕ} {seen : List (List ℕ)} {r : KeyPart} where
+  pub key-said : {o : KeyOutcome} → KeySays keys t cells slots starts found pending flags old before limit lo hi seen r o → {symbol : ℕ} {row : number.Row} {next used texts : ℕ} → r ≡ Key symbol row next used texts → KeySaid keys t cells slots starts found pending flags old before limit lo hi seen o symbol row next used texts
   key-said (key-says {key = key} {symbol = s} {js = js} {next = p} {b = b} h) {symbol} {row} {next} {used} {texts} q =
       let e : Key symbol row next used texts ≡ Key s (asRow (h .row)) p (h .used) (h .texts) = sym q ∙ h .answer in
       let a : symbol ≡ s = cc in
@@ -50,10 +51,11 @@ module _ {keys : List (List ℕ)} {t cells slots starts found pending old : List
         more = omega (arith, g, h .more);
         same = h .same;
         seen-now = subst (λ m. Seen keys t starts pending m lo hi (seen ++ key ∷ [])) (sym g) (h .seen-now);
+        flagged = h .flagged;
       }
   key-said (key-says-no {w = w} {p = p} h) {symbol} {row} {next} {used} {texts} q = let e : Key symbol row next used texts ≡ NoKey w p = sym q ∙ h in let z : _≡_ {A = ℕ} 0 1 = cc in absurd (omega arith)
 
-  pub key-said-no : {o : KeyOutcome} → KeySays keys t cells slots starts found pending old before limit lo hi seen r o → {w p : ℕ} → r ≡ NoKey w p → o ≡ key-refused w p
+  pub key-said-no : {o : KeyOutcome} → KeySays keys t cells slots starts found pending flags old before limit lo hi seen r o → {w p : ℕ} → r ≡ NoKey w p → o ≡ key-refused w p
   key-said-no (key-says {symbol = s} {next = n} h) {w} {p} q = let e : NoKey w p ≡ Key s (asRow (h .row)) n (h .used) (h .texts) = sym q ∙ h .answer in let z : _≡_ {A = ℕ} 0 1 = cc in absurd (omega arith)
   key-said-no (key-says-no {w = x} {p = y} h) {w} {p} q = let e : NoKey w p ≡ NoKey x y = sym q ∙ h in cc
 

@@ -19,16 +19,17 @@ use Rattle.json.proofs.Walking.{elements-item, member-refused, no-colon
 use Rattle.json.proofs.CycleWays.{key-said, key-said-no, no-object}
 
 -- nothing stands before an element
-pub head-none : (object : Bool) → object ≡ false → (S : Setting) (t cells slots starts found pending : List ℕ) (used texts lo hi : ℕ) (seen : List (List ℕ)) (at : ℕ) → Holds t cells slots starts found used texts (S .limit)
-    → HeadSays object S t cells slots starts found pending starts texts lo hi seen at (builtIn t cells starts used texts) (Key item (asRow 0) at used texts)
-head-none true e S t cells slots starts found pending used texts lo hi seen at h = no-object (sym e)
-head-none false e S t cells slots starts found pending used texts lo hi seen at h =
+pub head-none : (object : Bool) → object ≡ false → (S : Setting) (t cells slots starts found pending flags : List ℕ) (used texts lo hi : ℕ) (seen : List (List ℕ)) (at : ℕ) → Holds t cells slots starts found used texts (S .limit)
+    → HeadSays object S t cells slots starts found pending flags starts texts lo hi seen at (builtIn t cells starts used texts) (Key item (asRow 0) at used texts)
+head-none true e S t cells slots starts found pending flags used texts lo hi seen at h = no-object (sym e)
+head-none false e S t cells slots starts found pending flags used texts lo hi seen at h =
     head-says refl
     (record {
       seen-now = [];
       is = elements-item S t lo at (builtIn t cells starts used texts);
       nothing = λ q. (refl, refl);
       known = λ q. no-object q;
+      flagged = λ q. no-object q;
       holds = h;
       inside = omega arith;
       plain = λ q. omega (arith, q);
@@ -37,17 +38,17 @@ head-none false e S t cells slots starts found pending used texts lo hi seen at 
     })
 
 -- a member's key was read, or not
-module _ (S : Setting) {t cells slots starts found pending old : List ℕ} {before lo hi : ℕ} {seen : List (List ℕ)} {at : ℕ} {b : Built} {r : KeyPart} (says : KeySays (S .keys) t cells slots starts found pending old before (S .limit) lo hi seen r (keyAt S t lo seen at b)) where
-  pub head-refused : (object : Bool) → object ≡ true → {w p : ℕ} → r ≡ NoKey w p → HeadSays object S t cells slots starts found pending old before lo hi seen at b (NoKey w p)
+module _ (S : Setting) {t cells slots starts found pending flags old : List ℕ} {before lo hi : ℕ} {seen : List (List ℕ)} {at : ℕ} {b : Built} {r : KeyPart} (says : KeySays (S .keys) t cells slots starts found pending flags old before (S .limit) lo hi seen r (keyAt S t lo seen at b)) where
+  pub head-refused : (object : Bool) → object ≡ true → {w p : ℕ} → r ≡ NoKey w p → HeadSays object S t cells slots starts found pending flags old before lo hi seen at b (NoKey w p)
   head-refused true e q = head-says-no refl refl (member-refused S t lo seen at b (key-said-no says q))
   head-refused false e q = no-object e
 
   module _ {symbol : ℕ} {row : number.Row} {next used texts : ℕ} (q : r ≡ Key symbol row next used texts) (i : ℕ) (ends : i ≡ spaceEnd t next) where
-    pub head-no-colon : (object : Bool) → object ≡ true → (byteAt t i ≡ 58 → ⊥) → HeadSays object S t cells slots starts found pending old before lo hi seen at b (NoKey 71 i)
+    pub head-no-colon : (object : Bool) → object ≡ true → (byteAt t i ≡ 58 → ⊥) → HeadSays object S t cells slots starts found pending flags old before lo hi seen at b (NoKey 71 i)
     head-no-colon true e n = head-says-no refl refl (no-colon S t lo seen at b (key-said says q .outcome) i ends n)
     head-no-colon false e n = no-object e
 
-    pub head-colon : (object : Bool) → object ≡ true → byteAt t i ≡ 58 → (first : ℕ) → first ≡ spaceEnd t (i + 1) → HeadSays object S t cells slots starts found pending old before lo hi seen at b (Key symbol row first used texts)
+    pub head-colon : (object : Bool) → object ≡ true → byteAt t i ≡ 58 → (first : ℕ) → first ≡ spaceEnd t (i + 1) → HeadSays object S t cells slots starts found pending flags old before lo hi seen at b (Key symbol row first used texts)
     head-colon true e k first f =
         let s = key-said says q in
         head-says refl
@@ -56,6 +57,7 @@ module _ (S : Setting) {t cells slots starts found pending old : List ℕ} {befo
           is = colon S t lo seen at b (s .outcome) (row .0) (s .before-value) i first ends k f;
           nothing = λ z. no-object (sym z);
           known = λ z. s .seen-now;
+          flagged = λ z. s .flagged;
           holds = s .holds;
           inside = s .inside;
           plain = s .plain;

@@ -6,14 +6,14 @@ use Prim.Native.Nat.{ℕ, zero, suc, _+_, _-_, _*_, _<_, _≤_}
 use native.Mathlib.Omega.{arith}
 use borrow.Author.Tests.{eqb-true, eqb-false}
 use lib.Dec.{eqb}
-use lib.ListN.{length, getD, drop}
+use lib.ListN.{length, getD, drop, replicate}
 use lib.Seq.{drop-drop}
 use Rattle.base.specs.Text.{byteAt}
 use Rattle.document.specs.declared.rows.Row as number
 use Rattle.jsontext.specs.Spaces.{spaceEnd}
 use Rattle.json.specs.Grammar.{Setting, Built, Outcome, refused, joined, closeAt, value}
 use Rattle.json.specs.State.{keyRows, builtIn, Holds, Says, says-refused}
-use Rattle.json.specs.Seen.{Seen}
+use Rattle.json.specs.Seen.{Seen, Flagged}
 use Rattle.json.specs.Items.{markOf, leafOf, restOf, listAt, itemsAt, itemAt, plainAt}
 use Rattle.json.specs.Frames.{joins, Framed, Same, FrameSet}
 use Rattle.json.specs.Heads.{Headed, HeadSays, head-says, head-says-no}
@@ -24,6 +24,7 @@ use Rattle.json.specs.declared.rows.Part.the-variants.{Refused}
 use Rattle.json.proofs.Holding.{says-by, says-since, Said, small}
 use Rattle.json.proofs.ItemWays.{seen-kept, item-refused, item-last, item-rest}
 use Rattle.json.proofs.Walking.{empty-object, some-members, empty-array, some-elements, plain-one}
+use Rattle.json.proofs.Flags.{flagged-none}
 use Rattle.json.proofs.CycleWays.{seen-none, no-object}
 use Rattle.json.proofs.Framing.{same-from, same-then, joins-refused, joins-none, frame-made, framed-more}
 
@@ -34,8 +35,8 @@ drop-further k n a b le e =
     ap (λ m. drop m a) z ∙ sym (drop-drop (n - k) k a) ∙ ap (drop (n - k)) e ∙ drop-drop (n - k) k b ∙ sym (ap (λ m. drop m b) z)
 
 -- an answer with the facts that it hands over
-module _ {object : Bool} {S : Setting} {t cells slots starts found pending old : List ℕ} {before lo hi : ℕ} {seen : List (List ℕ)} {at : ℕ} {b : Built} {r : KeyPart} where
-  pub headed : HeadSays object S t cells slots starts found pending old before lo hi seen at b r → {symbol : ℕ} {key : number.Row} {first used texts : ℕ} → r ≡ Key symbol key first used texts → Headed object S t cells slots starts found pending old before lo hi seen at b symbol key first used texts
+module _ {object : Bool} {S : Setting} {t cells slots starts found pending flags old : List ℕ} {before lo hi : ℕ} {seen : List (List ℕ)} {at : ℕ} {b : Built} {r : KeyPart} where
+  pub headed : HeadSays object S t cells slots starts found pending flags old before lo hi seen at b r → {symbol : ℕ} {key : number.Row} {first used texts : ℕ} → r ≡ Key symbol key first used texts → Headed object S t cells slots starts found pending flags old before lo hi seen at b symbol key first used texts
   headed (head-says {symbol = s} {key = k} {first = f} {used = u} {texts = m} e h) {symbol} {key} {first} {used} {texts} q =
       let z : Key s k f u m ≡ Key symbol key first used texts = sym e ∙ q in
       let a : s ≡ symbol = cc in
@@ -43,20 +44,21 @@ module _ {object : Bool} {S : Setting} {t cells slots starts found pending old :
       let d : f ≡ first = cc in
       let g : u ≡ used = cc in
       let n : m ≡ texts = cc in
-      subst (λ x. Headed object S t cells slots starts found pending old before lo hi seen at b symbol key first used x) n
-      (subst (λ x. Headed object S t cells slots starts found pending old before lo hi seen at b symbol key first x m) g
-      (subst (λ x. Headed object S t cells slots starts found pending old before lo hi seen at b symbol key x u m) d
-      (subst (λ x. Headed object S t cells slots starts found pending old before lo hi seen at b symbol x f u m) c (subst (λ x. Headed object S t cells slots starts found pending old before lo hi seen at b x k f u m) a h))))
+      subst (λ x. Headed object S t cells slots starts found pending flags old before lo hi seen at b symbol key first used x) n
+      (subst (λ x. Headed object S t cells slots starts found pending flags old before lo hi seen at b symbol key first x m) g
+      (subst (λ x. Headed object S t cells slots starts found pending flags old before lo hi seen at b symbol key x u m) d
+      (subst (λ x. Headed object S t cells slots starts found pending flags old before lo hi seen at b symbol x f u m) c (subst (λ x. Headed object S t cells slots starts found pending flags old before lo hi seen at b x k f u m) a h))))
   headed (head-says-no {w = w} {p = p} e o h) {symbol} {key} {first} {used} {texts} q = let z : NoKey w p ≡ Key symbol key first used texts = sym e ∙ q in let y : _≡_ {A = ℕ} 0 1 = cc in absurd (omega arith)
 
-  pub headed-no : HeadSays object S t cells slots starts found pending old before lo hi seen at b r → {w p : ℕ} → r ≡ NoKey w p → (object ≡ true) × (listAt object lo S t seen at b ≡ refused w p)
+  pub headed-no : HeadSays object S t cells slots starts found pending flags old before lo hi seen at b r → {w p : ℕ} → r ≡ NoKey w p → (object ≡ true) × (listAt object lo S t seen at b ≡ refused w p)
   headed-no (head-says {symbol = s} {key = k} {first = f} {used = u} {texts = m} e h) {w} {p} q = let z : Key s k f u m ≡ NoKey w p = sym e ∙ q in let y : _≡_ {A = ℕ} 0 1 = cc in absurd (omega arith)
   headed-no (head-says-no {w = x} {p = y} e o h) {w} {p} q = let z : NoKey x y ≡ NoKey w p = sym e ∙ q in let a : x ≡ w = cc in let c : y ≡ p = cc in (o, h ∙ (λ i. refused (a i) (c i)))
 
 -- Items up to level l + 1 are in their frames, and what was to be read is made of them and of what stands at place i; or a value stands there alone.
-pub record Walk (alone object : Bool) (S : Setting) (t : List ℕ) (top : ℕ) (o : Outcome) (old pending-was frames-was : List ℕ) (before : ℕ) (cells slots starts found pending frames : List ℕ) (used texts l i : ℕ) : Type 0 where
+pub record Walk (alone object : Bool) (S : Setting) (t : List ℕ) (top : ℕ) (o : Outcome) (old pending-was frames-was : List ℕ) (before : ℕ) (cells slots starts found pending frames flags : List ℕ) (used texts l i : ℕ) : Type 0 where
   pub seen : List (List ℕ)
   pub known : object ≡ true → Seen (S .keys) t starts pending texts (l + 1) top seen
+  pub flagged : object ≡ true → Flagged (S .keys) flags seen
   pub order : l < top
   pub is : o ≡ joins (S .limit) frames (l + 1) (top - (l + 1)) (itemsAt alone object l S t seen i (builtIn t cells starts used texts))
   pub framed : alone ≡ false → Framed frames (l + 1) top
@@ -71,11 +73,12 @@ pub record Walk (alone object : Bool) (S : Setting) (t : List ℕ) (top : ℕ) (
 
 -- before the first
 pub walk-start : (alone object : Bool) (S : Setting) (t : List ℕ) (level at : ℕ) (pending frames : List ℕ) {cells slots starts found : List ℕ} {used texts : ℕ} → Holds t cells slots starts found used texts (S .limit) → (alone ≡ false → 3 * level + 3 ≤ length frames)
-    → Walk alone object S t (level + 1) (itemsAt alone object level S t [] at (builtIn t cells starts used texts)) starts pending frames texts cells slots starts found pending frames used texts level at
-walk-start alone object S t level at pending frames {cells} {slots} {starts} {found} {used} {texts} h room =
+    → length (S .keys) ≤ 56 → Walk alone object S t (level + 1) (itemsAt alone object level S t [] at (builtIn t cells starts used texts)) starts pending frames texts cells slots starts found pending frames (replicate 64 0) used texts level at
+walk-start alone object S t level at pending frames {cells} {slots} {starts} {found} {used} {texts} h room few =
     record {
       seen = [];
       known = λ q. seen-none (S .keys) t starts pending texts (level + 1) (level + 1) (omega arith);
+      flagged = λ q. flagged-none (S .keys) few;
       order = omega arith;
       is = sym (joins-none (S .limit) frames (level + 1) (level + 1) (omega arith) (itemsAt alone object level S t [] at (builtIn t cells starts used texts)));
       framed = λ a. record { order = omega arith; room = let r = room a in omega (arith, r); each = λ l lo hi. absurd (omega (arith, lo, hi)) };
@@ -89,7 +92,7 @@ walk-start alone object S t level at pending frames {cells} {slots} {starts} {fo
       room = refl;
     }
 
-module _ {alone object : Bool} {S : Setting} {t : List ℕ} {top : ℕ} {o : Outcome} {old pending-was frames-was : List ℕ} {before : ℕ} {cells slots starts found pending frames : List ℕ} {used texts l i : ℕ} (w : Walk alone object S t top o old pending-was frames-was before cells slots starts found pending frames used texts l i) where
+module _ {alone object : Bool} {S : Setting} {t : List ℕ} {top : ℕ} {o : Outcome} {old pending-was frames-was : List ℕ} {before : ℕ} {cells slots starts found pending frames flags : List ℕ} {used texts l i : ℕ} (w : Walk alone object S t top o old pending-was frames-was before cells slots starts found pending frames flags used texts l i) where
   items-are : alone ≡ false → itemsAt alone object l S t (w .seen) i (builtIn t cells starts used texts) ≡ listAt object l S t (w .seen) i (builtIn t cells starts used texts)
   items-are a = ap (λ x. itemsAt x object l S t (w .seen) i (builtIn t cells starts used texts)) a
 
@@ -129,7 +132,7 @@ module _ {alone object : Bool} {S : Setting} {t : List ℕ} {top : ℕ} {o : Out
       says-by (w .is ∙ ap (joins (S .limit) frames (l + 1) (top - (l + 1))) (items-are a ∙ e) ∙ joins-refused (S .limit) frames (l + 1) (top - (l + 1)) k x) (says-refused refl)
 
   -- the key was read: what was to be read, by the value behind it
-  module _ (single : alone ≡ true → object ≡ false) {cs ss st fd ps : List ℕ} {symbol : ℕ} {key : number.Row} {first n m : ℕ} (h : Headed object S t cs ss st fd ps starts texts l top (w .seen) i (builtIn t cells starts used texts) symbol key first n m) where
+  module _ (single : alone ≡ true → object ≡ false) {cs ss st fd ps fl : List ℕ} {symbol : ℕ} {key : number.Row} {first n m : ℕ} (h : Headed object S t cs ss st fd ps fl starts texts l top (w .seen) i (builtIn t cells starts used texts) symbol key first n m) where
     alone-value : alone ≡ true → o ≡ value l S t first (builtIn t cs st n m)
     alone-value a =
         let (e, f) = h .nothing (single a) in
@@ -191,13 +194,14 @@ module _ {alone object : Bool} {S : Setting} {t : List ℕ} {top : ℕ} {o : Out
               go false = refl
 
           pub walk-more : (l ≡ 0 → ⊥) → {ps′ : List ℕ} → drop l ps′ ≡ drop l ps → drop (l + 1) ps ≡ drop (l + 1) pending → length ps′ ≡ length pending → length gs ≡ length frames
-              → Walk alone object S t top o old pending-was frames-was before cells′ slots′ starts′ found′ ps′ gs n′ m′ (l - 1) j
+              → Walk alone object S t top o old pending-was frames-was before cells′ slots′ starts′ found′ ps′ gs fl n′ m′ (l - 1) j
           walk-more z {ps′} kept since size room =
               let back : l - 1 + 1 ≡ l = omega (arith, nonzero) in
               let down : l ≡ suc (l - 1) = omega (arith, nonzero) in
               record {
                 seen = h .seen-now;
                 known = λ q. subst (λ k. Seen (S .keys) t starts′ ps′ m′ k top (h .seen-now)) (sym back) (seen-kept l (omega (arith, few)) (s .more) (s .same) kept (h .known q));
+                flagged = h .flagged;
                 order = omega (arith, w .order);
                 is = rest-is (listAt object (l - 1) S t (h .seen-now) j (builtIn t cells′ starts′ n′ m′)) (rest-below (l - 1) down) ∙ (λ k. joins (S .limit) gs (sym back k) (top - sym back k) (listAt object (l - 1) S t (h .seen-now) j (builtIn t cells′ starts′ n′ m′))) ∙ ap (joins (S .limit) gs (l - 1 + 1) (top - (l - 1 + 1))) (sym (ap (λ x. itemsAt x object (l - 1) S t (h .seen-now) j (builtIn t cells′ starts′ n′ m′)) (not-true many)));
                 framed = λ a. subst (λ k. Framed gs k top) (sym back) (walk-framed room);

@@ -34,6 +34,7 @@ pub mod LeafWays
 pub mod Entries
 pub mod KeyWays
 pub mod SeenKeys
+pub mod Flags
 pub mod OtherKeys
 pub mod ListedKeys
 pub mod Walking

@@ -28,7 +28,7 @@ use Rattle.json.specs.Value.{numbered, numberText}
 use Rattle.json.specs.Grammar.{Setting, Built, built, Outcome, good, refused, leafRow, placeRow, finish, finishText, afterText}
 use Rattle.json.specs.State.{textAt, textsIn, builtIn, keyRows, Holds, Says}
 use Rattle.json.specs.Texts.{probedOf, ProbedAt}
-use Rattle.json.specs.Seen.{firstListed, entryKey, EntryOf, of-text, entries, Seen, KeyOutcome, key-good, key-refused, otherKey, keyOf, AfterKey, KeySays, key-says, key-says-no, numberOf}
+use Rattle.json.specs.Seen.{firstListed, entryKey, EntryOf, of-text, entries, Seen, Flagged, KeyOutcome, key-good, key-refused, otherKey, keyOf, AfterKey, KeySays, key-says, key-says-no, numberOf}
 use Rattle.json.specs.declared.rows.Part.{Part}
 use Rattle.json.specs.declared.rows.Part.the-variants.{Read, Refused}
 use Rattle.json.specs.declared.texts.TextProbed.{TextProbed}
@@ -38,6 +38,7 @@ use Rattle.json.specs.declared.members.KeyPart.the-variants.{Key, NoKey}
 use Rattle.json.proofs.Finding.{eq-eqList, eqList-eq}
 use Rattle.json.proofs.Holding.{Said, small}
 use Rattle.json.proofs.Texting.{ProbedText, probe-text, probed-known, probed-free, probed-some}
+use Rattle.json.proofs.Flags.{flagged-other}
 use Rattle.json.proofs.SeenKeys.{both-false, on-no-line, text-entry, EntryFor, seen-by-entry, seen-more}
 
 -- the number of a key's text, by what the probe for it found
@@ -141,16 +142,16 @@ module _ {t cells slots starts found : List ℕ} {used texts limit : ℕ} (h : H
     key-is : {o : Outcome} → afterText limit b (stringAt t at) ≡ o → keyOf S level seen at key next b ≡ otherKey key o
     key-is e = key-text S seen at key next b unlisted level deep first ∙ ap (otherKey key) (sym (ap (afterText limit b) string) ∙ e)
 
-    pub key-leaf-refused : {cs ss more found′ pending old : List ℕ} {before top : ℕ} {w p : ℕ} → afterText limit b (stringAt t at) ≡ refused w p → KeySays keys t cs ss more found′ pending old before limit level top seen (NoKey w p) (keyOf S level seen at key next b)
-    key-leaf-refused {cs} {ss} {more} {found′} {pending} {old} {before} {top} {w} {p} e = subst (KeySays keys t cs ss more found′ pending old before limit level top seen (NoKey w p)) (sym (key-is e)) (key-says-no refl)
+    pub key-leaf-refused : {cs ss more found′ pending flags old : List ℕ} {before top : ℕ} {w p : ℕ} → afterText limit b (stringAt t at) ≡ refused w p → KeySays keys t cs ss more found′ pending flags old before limit level top seen (NoKey w p) (keyOf S level seen at key next b)
+    key-leaf-refused {cs} {ss} {more} {found′} {pending} {flags} {old} {before} {top} {w} {p} e = subst (KeySays keys t cs ss more found′ pending flags old before limit level top seen (NoKey w p)) (sym (key-is e)) (key-says-no refl)
 
-    pub key-leaf : {pending : List ℕ} {top : ℕ} → Seen keys t starts pending texts (level + 1) top seen → level < top → top ≤ length pending
+    pub key-leaf : {pending flags : List ℕ} {top : ℕ} → Flagged keys flags seen → Seen keys t starts pending texts (level + 1) top seen → level < top → top ≤ length pending
         → {cs ss more found′ : List ℕ} {row : number.Row} {after n m : ℕ} → Said t cs ss more found′ starts texts limit (afterText limit b (stringAt t at)) row after n m → {number : ℕ} → NumberFor h at key next string number
-        → KeySays keys t cs ss more found′ (set pending level number) starts texts limit level top seen (Key other row after n m) (keyOf S level seen at key next b)
-    key-leaf {pending} {top} v l inside {cs} {ss} {more} {found′} {row} {after} {n} {m} s {number} f =
+        → KeySays keys t cs ss more found′ (set pending level number) flags starts texts limit level top seen (Key other row after n m) (keyOf S level seen at key next b)
+    key-leaf {pending} {flags} {top} marks v l inside {cs} {ss} {more} {found′} {row} {after} {n} {m} s {number} f =
         let (few, is) = number-held s f in
         let own : number < firstListed = omega (arith, few, s .holds .few, s .holds .ready .built .few) in
-        subst (KeySays keys t cs ss more found′ (set pending level number) starts texts limit level top seen (Key other row after n m)) (sym (key-is (s .outcome)))
+        subst (KeySays keys t cs ss more found′ (set pending level number) flags starts texts limit level top seen (Key other row after n m)) (sym (key-is (s .outcome)))
         (key-says
         (record {
           row = row .0;
@@ -168,12 +169,13 @@ module _ {t cells slots starts found : List ℕ} {used texts limit : ℕ} (h : H
               seen-more level (omega (arith, h .few, h .ready .built .few)) v more m (s .more) (s .same) (set pending level number) number key l inside refl
               (of-text few (ap (λ x. findText x keys) is ∙ unlisted))
               (text-entry keys t more number own ∙ is);
+          flagged = flagged-other key unlisted marks;
         }))
 
 -- a refused key
-pub key-refused-says : {keys : List (List ℕ)} {t cells slots starts found pending old : List ℕ} {before limit lo hi : ℕ} {seen : List (List ℕ)} {o : KeyOutcome} {w p : ℕ} → o ≡ key-refused w p → KeySays keys t cells slots starts found pending old before limit lo hi seen (NoKey w p) o
-key-refused-says {keys} {t} {cells} {slots} {starts} {found} {pending} {old} {before} {limit} {lo} {hi} {seen} {o} {w} {p} e =
-    subst (KeySays keys t cells slots starts found pending old before limit lo hi seen (NoKey w p)) (sym e) (key-says-no refl)
+pub key-refused-says : {keys : List (List ℕ)} {t cells slots starts found pending flags old : List ℕ} {before limit lo hi : ℕ} {seen : List (List ℕ)} {o : KeyOutcome} {w p : ℕ} → o ≡ key-refused w p → KeySays keys t cells slots starts found pending flags old before limit lo hi seen (NoKey w p) o
+key-refused-says {keys} {t} {cells} {slots} {starts} {found} {pending} {flags} {old} {before} {limit} {lo} {hi} {seen} {o} {w} {p} e =
+    subst (KeySays keys t cells slots starts found pending flags old before limit lo hi seen (NoKey w p)) (sym e) (key-says-no refl)
 
 -- the number that was worked out
 pub number-by : {t cells slots starts found : List ℕ} {used texts limit : ℕ} (h : Holds t cells slots starts found used texts limit) (at : ℕ) (key : List ℕ) (next : ℕ) (string : stringAt t at ≡ got key next) (p : TextProbed) → ProbedAt t starts found at next p → (number : ℕ) → number ≡ numberOf p texts → NumberFor h at key next string number

@@ -43,6 +43,12 @@ pub record Seen (keys : List (List ℕ)) (t starts pending : List ℕ) (texts lo
   pub are : (key : List ℕ) → any (eqList key) seen ≡ any (λ e. eqList key (entryKey keys t starts e)) (entries pending lo hi)
   pub each : (e : ℕ) → In e (entries pending lo hi) → EntryOf keys t starts texts e
 
+-- Of each line of the list the flag says whether it is among the keys before.
+pub record Flagged (keys : List (List ℕ)) (flags : List ℕ) (seen : List (List ℕ)) : Type 0 where
+  pub size : length flags ≡ 64
+  pub few : length keys ≤ 56
+  pub each : (k : ℕ) → k < length keys → eqb (getD flags k 0) 1 ≡ any (eqList (getD keys k [])) seen
+
 -- a key with its symbol, what stands before its value, the place after it and what is built; or a refusal's number and place
 pub data KeyOutcome : Type 0 where
   key-good : List ℕ → ℕ → List ℕ → ℕ → Built → KeyOutcome
@@ -74,7 +80,7 @@ behindKey S t value rest seen (key-good key symbol js next b) = memberBy (S .lim
 behindKey S t value rest seen (key-refused w p) = refused w p
 
 -- A key was read, and is among those that were seen.
-pub record AfterKey (keys : List (List ℕ)) (t cells slots starts found pending old : List ℕ) (before limit lo hi : ℕ) (seen : List (List ℕ)) (r : KeyPart) (key : List ℕ) (symbol : ℕ) (js : List ℕ) (next : ℕ) (b : Built) : Type 0 where
+pub record AfterKey (keys : List (List ℕ)) (t cells slots starts found pending flags old : List ℕ) (before limit lo hi : ℕ) (seen : List (List ℕ)) (r : KeyPart) (key : List ℕ) (symbol : ℕ) (js : List ℕ) (next : ℕ) (b : Built) : Type 0 where
   pub row : ℕ
   pub used : ℕ
   pub texts : ℕ
@@ -87,11 +93,12 @@ pub record AfterKey (keys : List (List ℕ)) (t cells slots starts found pending
   pub more : before ≤ texts
   pub same : (k : ℕ) → k < before → getD starts k 0 ≡ getD old k 0
   pub seen-now : Seen keys t starts pending texts lo hi (seen ++ key ∷ [])
+  pub flagged : Flagged keys flags (seen ++ key ∷ [])
 
 -- What an answer says of the key that was to be read.
-pub data KeySays (keys : List (List ℕ)) (t cells slots starts found pending old : List ℕ) (before limit lo hi : ℕ) (seen : List (List ℕ)) (r : KeyPart) : KeyOutcome → Type 0 where
-  key-says : {key : List ℕ} {symbol : ℕ} {js : List ℕ} {next : ℕ} {b : Built} → AfterKey keys t cells slots starts found pending old before limit lo hi seen r key symbol js next b → KeySays keys t cells slots starts found pending old before limit lo hi seen r (key-good key symbol js next b)
-  key-says-no : {w p : ℕ} → r ≡ NoKey w p → KeySays keys t cells slots starts found pending old before limit lo hi seen r (key-refused w p)
+pub data KeySays (keys : List (List ℕ)) (t cells slots starts found pending flags old : List ℕ) (before limit lo hi : ℕ) (seen : List (List ℕ)) (r : KeyPart) : KeyOutcome → Type 0 where
+  key-says : {key : List ℕ} {symbol : ℕ} {js : List ℕ} {next : ℕ} {b : Built} → AfterKey keys t cells slots starts found pending flags old before limit lo hi seen r key symbol js next b → KeySays keys t cells slots starts found pending flags old before limit lo hi seen r (key-good key symbol js next b)
+  key-says-no : {w p : ℕ} → r ≡ NoKey w p → KeySays keys t cells slots starts found pending flags old before limit lo hi seen r (key-refused w p)
 
 -- the answer for listed key k, and its entry, by whether it stood before
 abbrev pub listedPart : Bool → ℕ → ℕ → ℕ → ℕ → ℕ → KeyPart
@@ -101,6 +108,10 @@ listedPart false k at next used texts = Key (keySymbol k) (asRow 0) next used te
 abbrev pub listedEntry : Bool → List ℕ → ℕ → ℕ → List ℕ
 listedEntry true pending level k = pending
 listedEntry false pending level k = set pending level (firstListed + k)
+
+abbrev pub listedFlags : Bool → List ℕ → ℕ → List ℕ
+listedFlags true flags k = flags
+listedFlags false flags k = set flags k 1
 
 -- the number of a text that the probe found, or the next one
 abbrev pub numberOf : TextProbed → ℕ → ℕ

@@ -9,6 +9,7 @@ use crate::rows::TEXTS;
 use crate::texts::TextProbed;
 use crate::texts::look_up;
 use crate::texts::text_leaf;
+use base::numbers::size;
 use document::index::SLOTS;
 use document::near::NEAR;
 use document::rows::Row;
@@ -19,7 +20,7 @@ ghost use mathlib.Core.Path.{_≡_};
 ghost use mathlib.Core.List.{List};
 ghost use Prim.Native.Nat.{ℕ, _+_, _-_, _<_, _≤_, _^_};
 ghost use lib.Dec.{eqb};
-ghost use lib.ListN.{length, drop};
+ghost use lib.ListN.{length, getD, drop};
 ghost use Rattle.classes.specs.Classes.{classTable};
 ghost use Rattle.model.specs.Lists.{any};
 ghost use Rattle.names.specs.Lines.{lines};
@@ -31,13 +32,16 @@ ghost use Rattle.json.specs.Texts.{WholeString};
 ghost use Rattle.json.specs.KeyTable.{KeyTable};
 ghost use Rattle.json.specs.Grammar.{Setting};
 ghost use Rattle.json.specs.State.{builtIn, Holds};
-ghost use Rattle.json.specs.Seen.{firstListed, entries, listedPart, listedEntry, numberOf, Seen, keyOf, keyAt, KeySays};
+ghost use Rattle.json.specs.Seen.{entries, listedPart, listedEntry, listedFlags, numberOf, Seen, Flagged, keyOf, keyAt, KeySays};
 
 // The symbol of the first key on the list.
 const FIRST_KEY: u16 = 8;
 
 // The entry of the first key on the list; a text's entry is its number.
 const FIRST_LISTED: u16 = 2048;
+
+// A flag for each line, with room for 64.
+pub(crate) const FLAGS: usize = 64;
 
 // A key's symbol, the row of its text where it is not listed, the place after it, and how many rows and texts there are then; or a refusal's number and place.
 pub(crate) enum KeyPart {
@@ -60,27 +64,29 @@ fn has_entry(pending: &[u16], lo: usize, hi: usize, entry: u16) -> bool
     false
 }
 
-// A listed key, line k, that ends before `next`: 72 where it stood before.
+// A listed key, line k, that ends before `next`: 72 where its flag says that it stood before.
 fn listed_key(
     pending: &mut [u16],
+    listed: &mut [u16; FLAGS],
     used: u16,
     texts: u16,
     level: usize,
-    top: usize,
     k: u16,
     at: usize,
     next: usize,
 ) -> KeyPart
     requires few { ⌜ k < 56 ⌝ }
-    requires bounds { ⌜ (level < top) × (top ≤ length (now pending)) ⌝ }
-    ensures told { λ r. ⌜ r ≡ listedPart (any (eqb (firstListed + k)) (entries (now (pending .entry)) (level + 1) top)) k at next used texts ⌝ }
-    ensures entered { λ r. ⌜ now (pending .exit) ≡ listedEntry (any (eqb (firstListed + k)) (entries (now (pending .entry)) (level + 1) top)) (now (pending .entry)) level k ⌝ }
+    requires bounds { ⌜ level < length (now pending) ⌝ }
+    ensures told { λ r. ⌜ r ≡ listedPart (eqb (getD (now (listed .entry)) k 0) 1) k at next used texts ⌝ }
+    ensures entered { λ r. ⌜ now (pending .exit) ≡ listedEntry (eqb (getD (now (listed .entry)) k 0) 1) (now (pending .entry)) level k ⌝ }
+    ensures flagged { λ r. ⌜ now (listed .exit) ≡ listedFlags (eqb (getD (now (listed .entry)) k 0) 1) (now (listed .entry)) k ⌝ }
 {
-    let entry = FIRST_LISTED + k;
-    if has_entry(&*pending, level + 1, top, entry) {
+    let i = size(k);
+    if listed[i] == 1 {
         return KeyPart::NoKey(72, at);
     }
-    pending[level] = entry;
+    listed[i] = 1;
+    pending[level] = FIRST_LISTED + k;
     KeyPart::Key(FIRST_KEY + k, Row(0), next, used, texts)
 }
 
@@ -105,6 +111,7 @@ fn other_key(
     starts: &mut [usize; TEXTS],
     found: &mut [u16; SLOTS],
     pending: &mut [u16],
+    listed: &[u16; FLAGS],
     used: u16,
     texts: u16,
     limit: u16,
@@ -118,7 +125,7 @@ fn other_key(
     requires lent { ⌜ now classes ≡ classTable ⌝ }
     requires bounds { ⌜ (level < top) × (top ≤ length (now pending)) ⌝ }
     requires whole { ⌜ WholeString (now text) at slot next ⌝ }
-    ensures { λ r. ⌜ ((keys seen : List (List ℕ)) (key : List ℕ) → stringAt (now (text .entry)) at ≡ got key next → findText key keys ≡ none → Seen keys (now (text .entry)) (now (starts .entry)) (now (pending .entry)) texts (level + 1) top seen → KeySays keys (now (text .entry)) (now (rows .exit)) (now (slots .exit)) (now (starts .exit)) (now (found .exit)) (now (pending .exit)) (now (starts .entry)) texts limit level top seen r (keyOf (record { keys = keys; limit = limit }) level seen at key next (builtIn (now (text .entry)) (now (rows .entry)) (now (starts .entry)) used texts))) ⌝ }
+    ensures { λ r. ⌜ ((keys seen : List (List ℕ)) (key : List ℕ) → stringAt (now (text .entry)) at ≡ got key next → findText key keys ≡ none → Flagged keys (now (listed .entry)) seen → Seen keys (now (text .entry)) (now (starts .entry)) (now (pending .entry)) texts (level + 1) top seen → KeySays keys (now (text .entry)) (now (rows .exit)) (now (slots .exit)) (now (starts .exit)) (now (found .exit)) (now (pending .exit)) (now (listed .entry)) (now (starts .entry)) texts limit level top seen r (keyOf (record { keys = keys; limit = limit }) level seen at key next (builtIn (now (text .entry)) (now (rows .entry)) (now (starts .entry)) used texts))) ⌝ }
     ensures kept { λ r. ⌜ drop (level + 1) (now (pending .exit)) ≡ drop (level + 1) (now (pending .entry)) ⌝ }
 {
     if level == 0 {
@@ -164,6 +171,7 @@ fn looked_up(
     starts: &mut [usize; TEXTS],
     found: &mut [u16; SLOTS],
     pending: &mut [u16],
+    listed: &mut [u16; FLAGS],
     used: u16,
     texts: u16,
     limit: u16,
@@ -175,7 +183,7 @@ fn looked_up(
     requires lent { ⌜ now classes ≡ classTable ⌝ }
     requires bounds { ⌜ (level < top) × (top ≤ length (now pending)) ⌝ }
     requires table { ⌜ KeyTable (now list) (now places) (now «key_slots») ⌝ }
-    ensures { λ r. ⌜ ((seen : List (List ℕ)) → Seen (lines (now (list .entry))) (now (text .entry)) (now (starts .entry)) (now (pending .entry)) texts (level + 1) top seen → KeySays (lines (now (list .entry))) (now (text .entry)) (now (rows .exit)) (now (slots .exit)) (now (starts .exit)) (now (found .exit)) (now (pending .exit)) (now (starts .entry)) texts limit level top seen r (keyAt (record { keys = lines (now (list .entry)); limit = limit }) (now (text .entry)) level seen at (builtIn (now (text .entry)) (now (rows .entry)) (now (starts .entry)) used texts))) ⌝ }
+    ensures { λ r. ⌜ ((seen : List (List ℕ)) → Flagged (lines (now (list .entry))) (now (listed .entry)) seen → Seen (lines (now (list .entry))) (now (text .entry)) (now (starts .entry)) (now (pending .entry)) texts (level + 1) top seen → KeySays (lines (now (list .entry))) (now (text .entry)) (now (rows .exit)) (now (slots .exit)) (now (starts .exit)) (now (found .exit)) (now (pending .exit)) (now (listed .exit)) (now (starts .entry)) texts limit level top seen r (keyAt (record { keys = lines (now (list .entry)); limit = limit }) (now (text .entry)) level seen at (builtIn (now (text .entry)) (now (rows .entry)) (now (starts .entry)) used texts))) ⌝ }
     ensures kept { λ r. ⌜ drop (level + 1) (now (pending .exit)) ≡ drop (level + 1) (now (pending .entry)) ⌝ }
 {
     match read(text, classes, at) {
@@ -189,7 +197,7 @@ fn looked_up(
             slot,
             at,
         ) {
-            KeyFound::Listed(k) => listed_key(pending, used, texts, level, top, k, at, next),
+            KeyFound::Listed(k) => listed_key(pending, listed, used, texts, level, k, at, next),
             KeyFound::Unlisted => other_key(
                 text,
                 classes,
@@ -199,6 +207,7 @@ fn looked_up(
                 starts,
                 found,
                 pending,
+                &*listed,
                 used,
                 texts,
                 limit,
@@ -235,6 +244,7 @@ pub(crate) fn key_at(
     starts: &mut [usize; TEXTS],
     found: &mut [u16; SLOTS],
     pending: &mut [u16],
+    listed: &mut [u16; FLAGS],
     used: u16,
     texts: u16,
     limit: u16,
@@ -247,13 +257,13 @@ pub(crate) fn key_at(
     requires lent { ⌜ now classes ≡ classTable ⌝ }
     requires bounds { ⌜ (level < top) × (top ≤ length (now pending)) ⌝ }
     requires table { ⌜ KeyTable (now list) (now places) (now «key_slots») ⌝ }
-    ensures { λ r. ⌜ ((seen : List (List ℕ)) → Seen (lines (now (list .entry))) (now (text .entry)) (now (starts .entry)) (now (pending .entry)) texts (level + 1) top seen → KeySays (lines (now (list .entry))) (now (text .entry)) (now (rows .exit)) (now (slots .exit)) (now (starts .exit)) (now (found .exit)) (now (pending .exit)) (now (starts .entry)) texts limit level top seen r (keyAt (record { keys = lines (now (list .entry)); limit = limit }) (now (text .entry)) level seen at (builtIn (now (text .entry)) (now (rows .entry)) (now (starts .entry)) used texts))) ⌝ }
+    ensures { λ r. ⌜ ((seen : List (List ℕ)) → Flagged (lines (now (list .entry))) (now (listed .entry)) seen → Seen (lines (now (list .entry))) (now (text .entry)) (now (starts .entry)) (now (pending .entry)) texts (level + 1) top seen → KeySays (lines (now (list .entry))) (now (text .entry)) (now (rows .exit)) (now (slots .exit)) (now (starts .exit)) (now (found .exit)) (now (pending .exit)) (now (listed .exit)) (now (starts .entry)) texts limit level top seen r (keyAt (record { keys = lines (now (list .entry)); limit = limit }) (now (text .entry)) level seen at (builtIn (now (text .entry)) (now (rows .entry)) (now (starts .entry)) used texts))) ⌝ }
     ensures kept { λ r. ⌜ drop (level + 1) (now (pending .exit)) ≡ drop (level + 1) (now (pending .entry)) ⌝ }
 {
     let k = line_of(guess);
     let next = key_here(text, list, places, k, at);
     if next != 0 {
-        return listed_key(pending, used, texts, level, top, k, at, next);
+        return listed_key(pending, listed, used, texts, level, k, at, next);
     }
     looked_up(
         text,
@@ -267,6 +277,7 @@ pub(crate) fn key_at(
         starts,
         found,
         pending,
+        listed,
         used,
         texts,
         limit,

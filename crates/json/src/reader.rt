@@ -5,6 +5,7 @@ use crate::keys::KEY_PLACES;
 use crate::leaves::number_leaf;
 use crate::leaves::string_leaf;
 use crate::leaves::word;
+use crate::members::FLAGS;
 use crate::members::KeyPart;
 use crate::members::key_at;
 use crate::rows::Part;
@@ -31,7 +32,7 @@ ghost use Rattle.json.specs.KeyTable.{KeyTable};
 ghost use Rattle.json.specs.Grammar.{opens?, value};
 ghost use Rattle.json.specs.State.{builtIn, Holds, Says};
 ghost use Rattle.json.specs.declared.rows.Part.the-variants.{Refused};
-ghost use Rattle.json.specs.Seen.{Seen};
+ghost use Rattle.json.specs.Seen.{Seen, Flagged};
 ghost use Rattle.json.specs.Items.{markOf, leafOf, plainAt, itemsAt};
 ghost use Rattle.json.specs.Frames.{Same};
 ghost use Rattle.json.specs.Heads.{HeadSays};
@@ -292,6 +293,7 @@ fn head(
     starts: &mut [usize; TEXTS],
     found: &mut [u16; SLOTS],
     pending: &mut [u16],
+    listed: &mut [u16; FLAGS],
     used: u16,
     texts: u16,
     level: usize,
@@ -304,7 +306,7 @@ fn head(
     requires lent { ⌜ now classes ≡ classTable ⌝ }
     requires table { ⌜ KeyTable (now list) (now places) (now «key_slots») ⌝ }
     requires below { ⌜ (object ≡ true → (level < top) × (top ≤ length (now pending))) ⌝ }
-    ensures { λ r. ⌜ ((seen : List (List ℕ)) → (object ≡ true → Seen (lines (now (list .entry))) (now (text .entry)) (now (starts .entry)) (now (pending .entry)) texts (level + 1) top seen) → HeadSays object (record { keys = lines (now (list .entry)); limit = limit }) (now (text .entry)) (now (rows .exit)) (now (slots .exit)) (now (starts .exit)) (now (found .exit)) (now (pending .exit)) (now (starts .entry)) texts level top seen at (builtIn (now (text .entry)) (now (rows .entry)) (now (starts .entry)) used texts) r) ⌝ }
+    ensures { λ r. ⌜ ((seen : List (List ℕ)) → (object ≡ true → Flagged (lines (now (list .entry))) (now (listed .entry)) seen) → (object ≡ true → Seen (lines (now (list .entry))) (now (text .entry)) (now (starts .entry)) (now (pending .entry)) texts (level + 1) top seen) → HeadSays object (record { keys = lines (now (list .entry)); limit = limit }) (now (text .entry)) (now (rows .exit)) (now (slots .exit)) (now (starts .exit)) (now (found .exit)) (now (pending .exit)) (now (listed .exit)) (now (starts .entry)) texts level top seen at (builtIn (now (text .entry)) (now (rows .entry)) (now (starts .entry)) used texts) r) ⌝ }
     ensures kept { λ r. ⌜ drop (level + 1) (now (pending .exit)) ≡ drop (level + 1) (now (pending .entry)) ⌝ }
 {
     if !object {
@@ -322,6 +324,7 @@ fn head(
         starts,
         found,
         pending,
+        listed,
         used,
         texts,
         limit,
@@ -379,6 +382,7 @@ pub(crate) fn items(
     let mut l = level;
     let mut i = at;
     let mut last = END;
+    let mut listed = [0u16; FLAGS];
     loop {
         let guess = after[size(last) % SYMBOLS];
         match head(
@@ -394,6 +398,7 @@ pub(crate) fn items(
             &mut *starts,
             &mut *found,
             &mut *pending,
+            &mut listed,
             n,
             m,
             l,

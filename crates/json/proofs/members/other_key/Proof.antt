@@ -11,11 +11,11 @@ use Rattle.json.proofs.members.other_key.Statement.{statement}
 use Rattle.json.proofs.members.other_key.Tie as tie
 
 returns : tie.Need-returns
-returns c = (λ keys seen key string unlisted v. key-refused-says (key-too-deep _ seen _ key _ _ unlisted _ (c .if1 .taken)), refl)
+returns c = (λ keys seen key string unlisted marks v. key-refused-says (key-too-deep _ seen _ key _ _ unlisted _ (c .if1 .taken)), refl)
 
 returns-2 : tie.Need-returns-2
 returns-2 c = (
-  λ keys seen key string unlisted v.
+  λ keys seen key string unlisted marks v.
       let n = number-by (c .before .before .before .before .before .before .before .before .before .before .pre .0) _ key _ string (c .before .before .before .before .look-up .result) (probed-at _ _ (c .before .before .before .before .before .before .before .before .before .before .pre .1 .1 .1) (c .before .before .before .before .look-up .ensures)) _ (c .before .before .before .number-of .ensures) in
       key-refused-says (key-again _ seen _ key _ _ unlisted _ (c .before .before .before .before .before .before .before .if1 .left) (seen-by-number (c .before .before .before .before .before .before .before .before .before .before .pre .0) _ key _ string unlisted v n (c .before .has-entry .ensures) ∙ c .if2 .taken)),
   refl,
@@ -32,7 +32,7 @@ slice-write-pending c = omega (arith, c .before .before .before .before .before 
 
 returns-3 : tie.Need-returns-3
 returns-3 c = (
-  λ keys seen key string unlisted v.
+  λ keys seen key string unlisted marks v.
       let n = number-by (c .before .before .before .before .before .before .before .before .before .before .before .before .before .before .before .before .before .before .before .pre .0) _ key _ string (c .before .before .before .before .before .before .before .before .before .before .before .before .before .look-up .result) (probed-at _ _ (c .before .before .before .before .before .before .before .before .before .before .before .before .before .before .before .before .before .before .before .pre .1 .1 .1) (c .before .before .before .before .before .before .before .before .before .before .before .before .before .look-up .ensures)) _ (c .before .before .before .before .before .before .before .before .before .before .before .before .number-of .ensures) in
       let first = seen-by-number (c .before .before .before .before .before .before .before .before .before .before .before .before .before .before .before .before .before .before .before .pre .0) _ key _ string unlisted v n (c .before .before .before .before .before .before .before .before .before .before .has-entry .ensures) ∙ c .before .before .before .before .before .before .before .before .before .if2 .left in
       key-leaf-refused (c .before .before .before .before .before .before .before .before .before .before .before .before .before .before .before .before .before .before .before .pre .0) _ key _ string keys seen unlisted _ (c .before .before .before .before .before .before .before .before .before .before .before .before .before .before .before .before .if1 .left) first (said-no (c .before .before .before .text-leaf .ensures) (c .before .w .given .1)),
@@ -41,10 +41,10 @@ returns-3 c = (
 
 returns-4 : tie.Need-returns-4
 returns-4 c = (
-  λ keys seen key string unlisted v.
+  λ keys seen key string unlisted marks v.
       let n = number-by (c .before .before .before .before .before .before .before .before .before .before .before .before .before .before .before .before .before .before .before .pre .0) _ key _ string (c .before .before .before .before .before .before .before .before .before .before .before .before .before .look-up .result) (probed-at _ _ (c .before .before .before .before .before .before .before .before .before .before .before .before .before .before .before .before .before .before .before .pre .1 .1 .1) (c .before .before .before .before .before .before .before .before .before .before .before .before .before .look-up .ensures)) _ (c .before .before .before .before .before .before .before .before .before .before .before .before .number-of .ensures) in
       let first = seen-by-number (c .before .before .before .before .before .before .before .before .before .before .before .before .before .before .before .before .before .before .before .pre .0) _ key _ string unlisted v n (c .before .before .before .before .before .before .before .before .before .before .has-entry .ensures) ∙ c .before .before .before .before .before .before .before .before .before .if2 .left in
-      key-leaf (c .before .before .before .before .before .before .before .before .before .before .before .before .before .before .before .before .before .before .before .pre .0) _ key _ string keys seen unlisted _ (c .before .before .before .before .before .before .before .before .before .before .before .before .before .before .before .before .if1 .left) first v (c .before .before .before .before .before .before .before .before .before .before .before .before .before .before .before .before .before .before .before .pre .1 .1 .0 .0) (c .before .before .before .before .before .before .before .before .before .before .before .before .before .before .before .before .before .before .before .pre .1 .1 .0 .1) (said (c .before .before .before .text-leaf .ensures) (c .before .row .given .1)) n,
+      key-leaf (c .before .before .before .before .before .before .before .before .before .before .before .before .before .before .before .before .before .before .before .pre .0) _ key _ string keys seen unlisted _ (c .before .before .before .before .before .before .before .before .before .before .before .before .before .before .before .before .if1 .left) first marks v (c .before .before .before .before .before .before .before .before .before .before .before .before .before .before .before .before .before .before .before .pre .1 .1 .0 .0) (c .before .before .before .before .before .before .before .before .before .before .before .before .before .before .before .before .before .before .before .pre .1 .1 .0 .1) (said (c .before .before .before .text-leaf .ensures) (c .before .row .given .1)) n,
   drop-set-lt (c .before .before .before .before .before .before .before .before .before .before .before .before .before .before .before .before .before .before .before .args .level + 1) _ _ _ (omega arith),
 )
 
