@@ -18,7 +18,7 @@
  * macros after it take out, and cidhomba_refusal_text says it in words; else the word is the value that stands with
  * the function. A refusal writes to no result space. A result fills the front of its space, and the rest is as it was.
  *
- * Stack and threads. A call takes at most 128 KiB of stack, and reading JSON at most 448 KiB (measured on the deepest
+ * Stack and threads. A call takes at most 128 KiB of stack, and reading JSON at most 256 KiB (measured on the deepest
  * inputs; reading a text of 256 levels takes most), allocates nothing, keeps no pointer past its end and has no state. Calls may run at the same
  * time on several threads: they may share what they only read, and each needs spaces of its own.
  *

@@ -5,7 +5,7 @@
 //! takes any input and either answers or refuses; a refusal writes to no result space. Spaces are lent: what comes
 //! back is the part at their front that was written, the rest is unchanged; only the judge's work space becomes zeros.
 //!
-//! A call needs at most 128 KiB of stack, and reading JSON at most 448 KiB; it allocates nothing, and keeps no state,
+//! A call needs at most 128 KiB of stack, and reading JSON at most 256 KiB; it allocates nothing, and keeps no state,
 //! so that several threads may call at once.
 //!
 //! # Example

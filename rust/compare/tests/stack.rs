@@ -14,7 +14,7 @@ use reference::{Automaton, Rule};
 /// Bytes of stack that serve every call but one, the scratch of the functions included.
 const STACK: usize = 128 * 1024;
 /// Bytes of stack that serve reading JSON.
-const JSON_STACK: usize = 448 * 1024;
+const JSON_STACK: usize = 256 * 1024;
 /// Most levels of a document.
 const LEVELS: usize = 256;
 /// Rows of a text of so many levels with three leaves beside each nested term, no two alike.
