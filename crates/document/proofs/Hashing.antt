@@ -1,15 +1,15 @@
 -- The hash of a row, cell by cell, with the runs of zero bytes that only multiply, and the published values of the hash. Assumes nothing.
 use mathlib.Core.Path.{_≡_, refl, sym, ap, _∙_}
 use mathlib.Core.List.{List, [], _∷_, _++_}
-use Prim.Native.Nat.{ℕ, zero, suc, _+_, _*_, _/_, _%_, _^_, _<_}
+use Prim.Native.Nat.{ℕ, zero, suc, _+_, _*_, _/_, _%_, _^_, _<_, _≤_, zero-le}
 use native.Mathlib.Nat.{mul-comm, mul-assoc, add-mul, pow-succ', mod-lt, mod-add-div, add-mul-mod-self-left}
 use native.Mathlib.Omega.{arith}
 use lib.Bits.{xor-zero-r}
-use lib.ListN.{length, getD, replicate}
-use Rattle.model.specs.Lists.{tab}
-use Rattle.automaton.proofs.Parts.{tab-of}
-use Rattle.document.specs.Rows.{rowCells, splitCells, encodeRow}
-use Rattle.document.specs.Words.{wordsCells, cellsAt}
+use native.Mathlib.Numerals.{add-one, add-one-le}
+use lib.ListN.{length, getD, drop, replicate, drop-of-length-le}
+use lib.Seq.{drop-cons}
+use Rattle.document.specs.Rows.{splitCells, encodeRow}
+use Rattle.document.specs.Words.{wordsCells}
 use Rattle.document.specs.Hash.{fnvByte, fnvCell, fnvFrom, fnv1a, cellBytes, rowHash}
 
 -- some cells, then others
@@ -108,11 +108,27 @@ module _ (h b c x g : ℕ) (ex : x ≡ b % 65536) (eg : g ≡ fnvCell h x) where
 pub words-hashed : (a b c f r : ℕ) → f ≡ fnv1a (cellBytes (splitCells 4 a)) → r ≡ fnvFrom f (cellBytes (splitCells 4 b ++ splitCells 2 c)) → r ≡ rowHash (wordsCells a b c)
 words-hashed a b c f r e q = q ∙ ap (λ t. fnvFrom t (cellBytes (splitCells 4 b ++ splitCells 2 c))) e ∙ sym (cells-append 2166136261 (splitCells 4 a) (splitCells 4 b ++ splitCells 2 c))
 
--- ten cells are those of their words
-pub cells-hashed : (cells : List ℕ) (x y z r : ℕ) → length cells ≡ rowCells → splitCells 4 x ≡ cellsAt 4 cells 0 → splitCells 4 y ≡ cellsAt 4 cells 4 → splitCells 2 z ≡ cellsAt 2 cells 8 → r ≡ rowHash (wordsCells x y z) → r ≡ rowHash cells
-cells-hashed cells x y z r l ex ey ez e =
-    let all : wordsCells x y z ≡ tab 10 (λ k. getD cells k 0) = cc (ex, ey, ez) in
-    e ∙ ap rowHash (all ∙ ap (λ n. tab n (λ k. getD cells k 0)) (sym l) ∙ tab-of 0 cells)
+-- after i cells the hash is h
+pub record Hashed (cells : List ℕ) (h i : ℕ) : Type 0 where
+  pub inside : i ≤ length cells
+  pub rest : fnvFrom h (cellBytes (drop i cells)) ≡ rowHash cells
+
+module _ (cells : List ℕ) where
+  pub hashed-none : Hashed cells 2166136261 0
+  hashed-none = record { inside = zero-le; rest = refl }
+
+  pub hashed-next : (h i r : ℕ) → Hashed cells h i → i < length cells → r ≡ fnvCell h (getD cells i 0) → Hashed cells r (i + 1)
+  unfolding fnvFrom
+  hashed-next h i r k l e =
+      record {
+        inside = add-one-le l;
+        rest =
+            rw (add-one, e) (sym (ap (λ xs. fnvFrom h (cellBytes xs)) (drop-cons cells i 0 l)) ∙ k .rest);
+      }
+
+  pub hashed-all : (h i : ℕ) → Hashed cells h i → length cells ≤ i → h ≡ rowHash cells
+  unfolding fnvFrom
+  hashed-all h i k l = sym (ap (λ xs. fnvFrom h (cellBytes xs)) (drop-of-length-le cells l)) ∙ k .rest
 
 -- The values that FNV-1a's authors publish: of the empty text, of `a`, of `foobar`.
 pub empty-text : fnv1a [] ≡ 2166136261
