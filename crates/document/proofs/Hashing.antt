@@ -70,6 +70,15 @@ front-hashed a x y s t r ex es et ey er =
     ∙ sym (one-cell (fnv1a (cellBytes (a % 65536 ∷ splitCells 2 (a / 65536)))) (a / 65536 / 65536 / 65536 % 65536))
     ∙ sym (cells-append 2166136261 (a % 65536 ∷ splitCells 2 (a / 65536)) (a / 65536 / 65536 / 65536 % 65536 ∷ []))
 
+-- the fronts of the leaves of symbols 6 and 7, whose hash is kept
+pub number-front : 4032523765 ≡ fnv1a (cellBytes (splitCells 4 18446744073709486086))
+unfolding fnvFrom
+number-front = refl
+
+pub text-front : 4089710292 ≡ fnv1a (cellBytes (splitCells 4 18446744073709486087))
+unfolding fnvFrom
+text-front = refl
+
 -- after the front: the place x, and nothing but zeros
 module _ (h b c x g : ℕ) (ex : x ≡ b % 65536) (eg : g ≡ fnvCell h x) where
   pub bare-hashed : (r : ℕ) → g < 2 ^ 32 → b < 65536 → c ≡ 0 → r ≡ g * 1485291145 % 2 ^ 32 → r ≡ fnvFrom h (cellBytes (splitCells 4 b ++ splitCells 2 c))

@@ -1,7 +1,8 @@
--- Rows by their words: a row has the cells of its words alone, so it is found by them as by its fields, and one near at hand is the one that a probe finds. Assumes nothing.
+-- Rows by their words: a row has the cells of its words alone, so it is found by them as by its fields, and one near at hand is the one that a probe finds, which for a new row need compare none. Assumes nothing.
 use mathlib.Core.Path.{_≡_, refl, sym, ap, _∙_, subst}
 use mathlib.Core.Bool.{Bool, true, false, cond, _&&_}
 use mathlib.Core.List.{List}
+use mathlib.Core.Option.{none}
 use Prim.Native.Nat.{ℕ, zero, suc, _+_, _*_, _<_, _≤_}
 use native.Mathlib.Omega.{arith}
 use borrow.Author.Tests.{lt-ltb}
@@ -11,10 +12,10 @@ use lib.Seq.{getD-take}
 use Rattle.model.specs.Limits.{maxRows}
 use Rattle.model.specs.Lists.{eqList, tab}
 use Rattle.model.specs.Table.{Row, noRow, rowAt}
-use Rattle.model.specs.Build.{eqRow}
+use Rattle.model.specs.Build.{eqRow, findRow}
 use Rattle.model.proofs.Members.{T-and, T-true, eqList→eq, eqList-refl}
 use Rattle.model.proofs.Tab.{tab-at, length-tab}
-use Rattle.model.proofs.Build.{eqRow→eq, eqRow-refl}
+use Rattle.model.proofs.Build.{eqRow→eq, eqRow-refl, find-ok, Found as FindsRow}
 use Rattle.automaton.proofs.Parts.{tab-same, tab-of}
 use Rattle.document.specs.declared.index.Probed.{Probed}
 use Rattle.document.specs.declared.index.Probed.the-variants.{Found, Free}
@@ -98,3 +99,18 @@ module _ (cells slots : List ℕ) (n limit : ℕ) (ready : Ready cells slots n l
   did-near i l e =
       did-known cells slots n limit x (encodeRow x) (startSlot x) (probe slots (equal? cells x) (startSlot x)) refl refl refl (asRow i)
       (by-answer i l (row-is i e) (found cells slots n (ready .built) x))
+
+-- a row that no row below n equals
+module _ (cells slots : List ℕ) (n limit : ℕ) (ready : Ready cells slots n limit) (x : Row) (new : findRow x (rowsBelow cells n) ≡ none) where
+  differs : (i : ℕ) → i < n → equal? cells x i ≡ false
+  differs i l = go (equal? cells x i) refl
+    where
+      go : (b : Bool) → equal? cells x i ≡ b → b ≡ false
+      go true e =
+          let same : rowAt (rowsBelow cells n) i ≡ x = tab-at noRow n (rowIn cells) i l ∙ sym (eqRow→eq x (rowIn cells i) (T-true (equal? cells x i) .1 e)) in
+          absurd (subst (FindsRow x (rowsBelow cells n)) new (find-ok x (rowsBelow cells n)) i (rw length-tab l) same)
+      go false e = refl
+
+  -- a probe that no row passes is one by that row
+  pub new-probed : (s : ℕ) (q : Probed) → q ≡ probe slots (λ _. false) s → q ≡ probe slots (equal? cells x) s
+  new-probed s q e = e ∙ probe-same slots n (λ _. false) (equal? cells x) s (ready .built .indexed .held) (λ i l. sym (differs i l))

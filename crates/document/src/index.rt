@@ -8,6 +8,7 @@ use crate::words::CELLS;
 use crate::words::same_words;
 use base::numbers::size;
 ghost use mathlib.Core.Path.{_≡_};
+ghost use mathlib.Core.Bool.{false};
 ghost use Prim.Native.Nat.{_<_, _%_};
 ghost use Rattle.model.specs.Build.{eqRow};
 ghost use Rattle.document.specs.Rows.{rowIn};
@@ -76,6 +77,23 @@ pub(crate) fn look_up_words(
         let i = Row(held - 1);
         if same_words(rows, i, a, b, c) {
             return Probed::Found(i);
+        }
+    }
+    Probed::Crowded
+}
+
+// The first empty slot from slot start on: a probe that no row passes.
+pub(crate) fn free_slot(slots: &[u16; SLOTS], start: usize) -> Probed
+    requires { ⌜ start < slotCount ⌝ }
+    ensures { λ r. ⌜ r ≡ probe (now (slots .entry)) (λ _. false) start ⌝ }
+{
+    let mut d = 0;
+    while d < SLOTS {
+        let at = (start + d) % SLOTS;
+        let held = slots[at];
+        d += 1;
+        if held == 0 {
+            return Probed::Free(at);
         }
     }
     Probed::Crowded

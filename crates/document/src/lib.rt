@@ -7,6 +7,7 @@ pub mod fields; // fields.rt: a row by value
 pub mod index; // index.rt: the index of a table's rows
 pub mod builder; // builder.rt: the table builder
 pub mod near; // near.rt: the table builder over words
+pub mod fresh; // fresh.rt: rows that are new for sure
 pub mod marks; // marks.rt: marks of what is used
 mod tests; // tests.rt: the four tests of a table
 

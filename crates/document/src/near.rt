@@ -21,9 +21,8 @@ pub const NEAR: usize = 2048;
 fn near_place(a: u64, b: u64, c: u64) -> usize
     ensures { λ r. ⌜ r < 2048 ⌝ }
 {
-    let x = b >> 32 | c << 32;
-    let mixed = (a ^ a >> 27 ^ x << 5 ^ x >> 13 ^ x >> 47) % 4294967296;
-    (mixed * 2654435761 / 1048576 % 2048) as usize
+    let mixed = (a ^ a >> 16 ^ b >> 32 ^ c) % 4294967296;
+    (mixed * 2654435761 / 2097152 % 2048) as usize
 }
 
 // The row with the cells of the words among the first n, which the slots index; added as row n where there is none and there is room. What stands near at hand is a guess that is tried.

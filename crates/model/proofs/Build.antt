@@ -55,7 +55,7 @@ module _ (rows more : List Row) (lower : Lower rows) where
       (map-same (treeIn (rows ++ more) n) (treeIn rows n) ((rowAt rows i) .children) (λ j m. let b = lower i l j m in tree-kept n j (omega arith))))
 
 -- one row more
-module _ (rows : List Row) (lower : Lower rows) (distinct : Distinct rows) (r : Row) where
+module _ (rows : List Row) (lower : Lower rows) (r : Row) where
   pub len : length (rows ++ r ∷ []) ≡ suc (length rows)
   len = length-append rows (r ∷ []) ∙ omega arith
 
@@ -65,22 +65,23 @@ module _ (rows : List Row) (lower : Lower rows) (distinct : Distinct rows) (r : 
   old-row : (i : ℕ) → i < length rows → rowAt (rows ++ r ∷ []) i ≡ rowAt rows i
   old-row = row-kept rows (r ∷ []) lower
 
-  more-lower : ((j : ℕ) → In j (r .children) → j < length rows) → Lower (rows ++ r ∷ [])
+  pub more-lower : ((j : ℕ) → In j (r .children) → j < length rows) → Lower (rows ++ r ∷ [])
   more-lower h i l j m =
       ⊎-elim
       (λ e. subst (j <_) (sym e) (h j (subst (λ (z : Row). In j (z .children)) (ap (rowAt (rows ++ r ∷ [])) e ∙ new-row) m)))
       (λ g. lower i g j (subst (λ (z : Row). In j (z .children)) (old-row i g) m))
       (eq-or-lt-of-le (le-of-suc-le-suc (subst (i <_) len l)))
 
+module _ (rows : List Row) (lower : Lower rows) (distinct : Distinct rows) (r : Row) where
   more-distinct : ((i : ℕ) → i < length rows → rowAt rows i ≡ r → ⊥) → Distinct (rows ++ r ∷ [])
   more-distinct h i j li lj e =
       ⊎-elim
-      (λ ei. ⊎-elim (λ ej. ei ∙ sym ej) (λ gj. absurd (h j gj (sym (old-row j gj) ∙ sym e ∙ ap (rowAt (rows ++ r ∷ [])) ei ∙ new-row))) (place j lj))
-      (λ gi. ⊎-elim (λ ej. absurd (h i gi (sym (old-row i gi) ∙ e ∙ ap (rowAt (rows ++ r ∷ [])) ej ∙ new-row))) (λ gj. distinct i j gi gj (sym (old-row i gi) ∙ e ∙ old-row j gj)) (place j lj))
+      (λ ei. ⊎-elim (λ ej. ei ∙ sym ej) (λ gj. absurd (h j gj (sym (old-row rows lower r j gj) ∙ sym e ∙ ap (rowAt (rows ++ r ∷ [])) ei ∙ new-row rows lower r))) (place j lj))
+      (λ gi. ⊎-elim (λ ej. absurd (h i gi (sym (old-row rows lower r i gi) ∙ e ∙ ap (rowAt (rows ++ r ∷ [])) ej ∙ new-row rows lower r))) (λ gj. distinct i j gi gj (sym (old-row rows lower r i gi) ∙ e ∙ old-row rows lower r j gj)) (place j lj))
       (place i li)
     where
       place : (i : ℕ) → i < length (rows ++ r ∷ []) → (i ≡ length rows) ⊎ (i < length rows)
-      place i l = eq-or-lt-of-le (le-of-suc-le-suc (subst (i <_) len l))
+      place i l = eq-or-lt-of-le (le-of-suc-le-suc (subst (i <_) (len rows lower r) l))
 
 forest-trees : (f : Forest) → forest (trees f) ≡ f
 forest-trees fnil = refl
@@ -143,16 +144,16 @@ module _ (P : Tree → Type 0) where
       r = record { symbol = s; kind = k; payload = p; children = js }
 
       more-len : length (rows′ ++ r ∷ []) ≡ suc (length rows′)
-      more-len = len rows′ (F .from .lower) (F .from .distinct) r
+      more-len = len rows′ (F .from .lower) r
 
       low : Lower (rows′ ++ r ∷ [])
-      low = more-lower rows′ (F .from .lower) (F .from .distinct) r (F .at-rows)
+      low = more-lower rows′ (F .from .lower) r (F .at-rows)
 
       top : treeAt (rows′ ++ r ∷ []) (length rows′) ≡ node s k p f
       top =
           tree-of (rows′ ++ r ∷ []) low s k p f js
           (map-same (treeAt (rows′ ++ r ∷ [])) (treeAt rows′) js (λ j m. tree-kept rows′ (r ∷ []) (F .from .lower) (suc j) j (F .at-rows j m)) ∙ F .forest-is)
-          (length rows′) (omega (arith, more-len)) (new-row rows′ (F .from .lower) (F .from .distinct) r)
+          (length rows′) (omega (arith, more-len)) (new-row rows′ (F .from .lower) r)
 
   cons-ok : (rows : List Row) (t : Tree) (f : Forest) (o₁ : List Row × ℕ) (o₂ : List Row × List ℕ) → TreeIn P rows t o₁ → ForestIn P (o₁ .0) f o₂ → ForestIn P rows (fcons t f) (o₂ .0, o₁ .1 ∷ o₂ .1)
   cons-ok rows t f o₁ o₂ T₁ F =
@@ -202,7 +203,7 @@ last-placed s k p f rows′ js F (some i) h =
     let e = ap levels (tree-of rows′ (F .from .lower) s k p f js (F .forest-is) i (h .0) (h .1)) in
     let z : ⊥ = omega arith in
     absurd z
-last-placed s k p f rows′ js F none h = sym (len rows′ (F .from .lower) (F .from .distinct) (record { symbol = s; kind = k; payload = p; children = js }))
+last-placed s k p f rows′ js F none h = sym (len rows′ (F .from .lower) (record { symbol = s; kind = k; payload = p; children = js }))
 
 pub no-rows : Lower []
 no-rows i l = let z : ⊥ = omega arith in absurd z

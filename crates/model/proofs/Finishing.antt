@@ -62,14 +62,14 @@ root-adds rows s k p f rows′ js F none h = (node s k p f ∷ [], inr (fresh, [
 
     more : treesOf (rows′ ++ r ∷ []) ≡ treesOf rows′ ++ node s k p f ∷ []
     more =
-        ap (λ n. tab n (treeAt (rows′ ++ r ∷ []))) (len rows′ (F .from .lower) (F .from .distinct) r)
+        ap (λ n. tab n (treeAt (rows′ ++ r ∷ []))) (len rows′ (F .from .lower) r)
         ∙ tab-snoc (length rows′) (treeAt (rows′ ++ r ∷ []))
         ∙ cc (tab-same (length rows′) (treeAt (rows′ ++ r ∷ [])) (treeAt rows′) kept, W .tree)
 
     fresh : In (node s k p f) (treesOf rows′) → ⊥
     fresh m =
         let (i, l, e) = in-tab (length rows′) (treeAt rows′) m in
-        let longer : length (rows′ ++ r ∷ []) ≡ suc (length rows′) = len rows′ (F .from .lower) (F .from .distinct) r in
+        let longer : length (rows′ ++ r ∷ []) ≡ suc (length rows′) = len rows′ (F .from .lower) r in
         let q = one-tree (rows′ ++ r ∷ []) (W .from .lower) (W .from .distinct) (suc i) i (length rows′) (omega arith) (omega arith) (W .at-row) (kept i l ∙ sym e ∙ sym (W .tree)) in
         omega arith
 

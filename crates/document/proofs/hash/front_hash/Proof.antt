@@ -1,12 +1,18 @@
--- The symbol, two places, and one more. Assumes nothing.
+-- A front whose hash is kept; or the symbol, two places, and one more. Assumes nothing.
 use borrow.Author.Needs.{needs}
-use Rattle.document.proofs.Hashing.{front-hashed}
+use Rattle.document.proofs.Hashing.{number-front, text-front, front-hashed}
 use Rattle.document.proofs.hash.front_hash.Statement.{statement}
 use Rattle.document.proofs.hash.front_hash.Tie as tie
 
-returns : tie.Need-returns
-returns c =
-    let a = c .before .before .before .before .before .args in
+number : tie.Need-returns
+number c = rw (c .if1 .taken) number-front
+
+text : tie.Need-returns-2
+text c = rw (c .if2 .taken) text-front
+
+others : tie.Need-returns-3
+others c =
+    let a = c .before .before .before .before .before .before .before .args in
     let x = c .before .before .before .before .low-cell in
     let s = c .before .before .before .add-small in
     let t = c .before .before .add-two in
@@ -14,4 +20,14 @@ returns c =
     front-hashed (a .a) (x .result) (y .result) (s .result) (t .result) (c .add-cell .result) (x .ensures) (s .ensures) (t .ensures) (y .ensures) (c .add-cell .ensures)
 
 pub front-hash-spec : {M : Type 1} → statement M
-front-hash-spec = tie.close (tie.spec (λ c κs. search needs) (λ c κs. search needs) (λ c κs. search needs) (λ c κs. search needs) (λ c κs. search needs) returns)
+front-hash-spec =
+    tie.close
+    (tie.spec
+    number
+    text
+    (λ c κs. search needs)
+    (λ c κs. search needs)
+    (λ c κs. search needs)
+    (λ c κs. search needs)
+    (λ c κs. search needs)
+    others)
