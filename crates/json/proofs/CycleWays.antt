@@ -9,7 +9,7 @@ use Rattle.model.specs.Limits.{unused}
 use Rattle.model.specs.Lists.{any, eqList}
 use Rattle.document.specs.Fields.{asRow}
 use Rattle.document.specs.declared.rows.Row as number
-use Rattle.json.specs.Signature.{textLeaf}
+use Rattle.json.specs.Signature.{other, textLeaf}
 use Rattle.json.specs.Grammar.{members, elements}
 use Rattle.json.specs.State.{keyRows, builtIn, Holds}
 use Rattle.json.specs.Seen.{entryKey, entries, Seen, Flagged, KeyOutcome, key-good, key-refused, KeySays, key-says, key-says-no}
@@ -25,6 +25,7 @@ pub record KeySaid (keys : List (List ℕ)) (t cells slots starts found pending 
   pub before-value : js ≡ keyRows symbol (row .0)
   pub holds : Holds t cells slots starts found used texts limit
   pub inside : row .0 < unused
+  pub own : symbol ≡ other → row .0 < used
   pub plain : symbol ≡ textLeaf → ⊥
   pub more : before ≤ texts
   pub same : (k : ℕ) → k < before → getD starts k 0 ≡ getD old k 0
@@ -47,6 +48,7 @@ module _ {keys : List (List ℕ)} {t cells slots starts found pending flags old 
         before-value = h .before-value ∙ sym (λ i. keyRows (a i) (c i .0));
         holds = subst (λ m. Holds t cells slots starts found m texts limit) (sym f) (subst (λ m. Holds t cells slots starts found (h .used) m limit) (sym g) (h .holds));
         inside = let k : row .0 ≡ h .row = ap (λ x. x .0) c in omega (arith, k, h .inside);
+        own = λ z. let k : row .0 ≡ h .row = ap (λ x. x .0) c in let o = h .own (sym a ∙ z) in omega (arith, k, f, o);
         plain = λ z. h .plain (sym a ∙ z);
         more = omega (arith, g, h .more);
         same = h .same;

@@ -12,13 +12,14 @@ use lib.Seq.{getD-set-same, getD-set-other}
 use Rattle.model.specs.Limits.{unused}
 use Rattle.document.specs.Fields.{asRow}
 use Rattle.document.specs.declared.rows.Row as number
-use Rattle.json.specs.Signature.{textLeaf}
-use Rattle.json.specs.Grammar.{Built, Outcome, good, refused, nodeRow, finish, joined}
+use Rattle.json.specs.Signature.{other, textLeaf}
+use Rattle.json.specs.Grammar.{Built, Outcome, good, refused, nodeRow, finish, joined, closeAt}
 use Rattle.json.specs.State.{keyRows, builtIn, Holds, Says, says-read, says-refused}
 use Rattle.json.specs.Frames.{frameSymbol, frameKey, frameValue, joins, Frame, Framed, Same, FrameSet}
 use Rattle.json.specs.declared.rows.Part.{Part}
 use Rattle.json.specs.declared.rows.Part.the-variants.{Read, Refused}
 use Rattle.json.proofs.Holding.{says-by, Said}
+use Rattle.json.proofs.Growing.{as-many, finish-grows, close-grows}
 
 -- nothing changed; from a later place on; one after the other
 pub same-self : {i : ℕ} {a : List ℕ} → Same i a a
@@ -72,7 +73,7 @@ module _ {t cells slots starts found old : List ℕ} {before limit : ℕ} (fs : 
 -- ---- the loop that makes them
 
 -- The rows below level l are made, the last of them being row r.
-pub record Unwinding (t starts found fs : List ℕ) (texts limit low top : ℕ) (o : Outcome) (cells slots : List ℕ) (r p n m l : ℕ) : Type 0 where
+pub record Unwinding (t starts found fs : List ℕ) (used texts limit low top : ℕ) (o : Outcome) (cells slots : List ℕ) (r p n m l : ℕ) : Type 0 where
   pub from : low ≤ l
   pub order : l ≤ top
   pub is : o ≡ joins limit fs l (top - l) (good r p (builtIn t cells starts n m))
@@ -80,8 +81,9 @@ pub record Unwinding (t starts found fs : List ℕ) (texts limit low top : ℕ) 
   pub inside : r < n
   pub behind : 0 < p
   pub more : texts ≤ m
+  pub grown : used ≤ n
 
-module _ {t starts found fs : List ℕ} {texts limit low top : ℕ} {o : Outcome} {cells slots : List ℕ} {r p n m l : ℕ} (u : Unwinding t starts found fs texts limit low top o cells slots r p n m l) where
+module _ {t starts found fs : List ℕ} {used texts limit low top : ℕ} {o : Outcome} {cells slots : List ℕ} {r p n m l : ℕ} (u : Unwinding t starts found fs used texts limit low top o cells slots r p n m l) where
   -- the row of one more
   next-row : l < top → o ≡ joins limit fs (l + 1) (top - (l + 1)) (finish limit (nodeRow (frameSymbol fs l) ((keyRows (frameSymbol fs l) (frameKey fs l) ++ frameValue fs l ∷ []) ++ r ∷ [])) p (builtIn t cells starts n m))
   next-row h = u .is ∙ joins-first limit fs l top h (good r p (builtIn t cells starts n m))
@@ -89,8 +91,8 @@ module _ {t starts found fs : List ℕ} {texts limit low top : ℕ} {o : Outcome
   pub unwind-refused : l < top → {w q : ℕ} → finish limit (nodeRow (frameSymbol fs l) ((keyRows (frameSymbol fs l) (frameKey fs l) ++ frameValue fs l ∷ []) ++ r ∷ [])) p (builtIn t cells starts n m) ≡ refused w q → {cs ss : List ℕ} → Says t cs ss starts found starts texts limit (Refused w q) o
   unwind-refused h {w} {q} e = says-by (next-row h ∙ ap (joins limit fs (l + 1) (top - (l + 1))) e ∙ joins-refused limit fs (l + 1) (top - (l + 1)) w q) (says-refused refl)
 
-  pub unwind-more : l < top → {cs ss : List ℕ} {x : number.Row} {q y z : ℕ} → Said t cs ss starts found starts m limit (finish limit (nodeRow (frameSymbol fs l) ((keyRows (frameSymbol fs l) (frameKey fs l) ++ frameValue fs l ∷ []) ++ r ∷ [])) p (builtIn t cells starts n m)) x q y z → Unwinding t starts found fs texts limit low top o cs ss (x .0) q y z (l + 1)
-  unwind-more h s =
+  pub unwind-more : l < top → {cs ss : List ℕ} {x : number.Row} {q y z : ℕ} → Said t cs ss starts found starts m limit (finish limit (nodeRow (frameSymbol fs l) ((keyRows (frameSymbol fs l) (frameKey fs l) ++ frameValue fs l ∷ []) ++ r ∷ [])) p (builtIn t cells starts n m)) x q y z → Unwinding t starts found fs used texts limit low top o cs ss (x .0) q y z (l + 1)
+  unwind-more h {cs} {ss} {x} {q} {y} {z} s =
       record {
         from = omega (arith, u .from);
         order = omega (arith, h);
@@ -99,6 +101,7 @@ module _ {t starts found fs : List ℕ} {texts limit low top : ℕ} {o : Outcome
         inside = s .inside;
         behind = s .behind;
         more = omega (arith, u .more, s .more);
+        grown = let g = finish-grows limit _ p (builtIn t cells starts n m) (s .outcome) in omega (arith, g, as-many t cells starts n m, as-many t cs starts y z, u .grown);
       }
 
   pub unwind-done : top ≤ l → {row : number.Row} → row .0 ≡ r → Says t cells slots starts found starts texts limit (Read row p n m) o
@@ -127,27 +130,39 @@ frame-made limit fs gs hs l top symbol key v h same set x =
     ∙ sym (joins-first limit hs l top h x)
 
 -- one frame more, below the others
-pub framed-more : (fs gs hs : List ℕ) (l top symbol key v : ℕ) → length hs ≡ length fs → Same (3 * l) fs gs → FrameSet gs hs l symbol key v → (symbol ≡ textLeaf → ⊥) → key < unused → v < unused → Framed fs (l + 1) top → Framed hs l top
-framed-more fs gs hs l top symbol key v size same set plain k m f =
+pub framed-more : (fs gs hs : List ℕ) (l top symbol key v : ℕ) → length hs ≡ length fs → Same (3 * l) fs gs → FrameSet gs hs l symbol key v → (symbol ≡ textLeaf → ⊥) → key < unused → {used n : ℕ} → used ≤ n → (symbol ≡ other → key < n) → v < n → Framed fs used (l + 1) top → Framed hs n l top
+framed-more fs gs hs l top symbol key v size same set plain k {used} {n} grown own m f =
     record {
       order = omega (arith, f .order);
       room = omega (arith, size, f .room);
       each = λ j lo hi. at-or-above j lo hi (ltb l j) refl;
     }
   where
-    here : Frame hs l
-    here = record { plain = λ e. plain (sym (set .symbol-is) ∙ e); key = omega (arith, set .key-is, k); value = omega (arith, set .value-is, m) }
+    here : Frame hs n l
+    here = record { plain = λ e. plain (sym (set .symbol-is) ∙ e); key = omega (arith, set .key-is, k); own = λ e. let o = own (sym (set .symbol-is) ∙ e) in omega (arith, set .key-is, o); value = omega (arith, set .value-is, m) }
 
-    above : (j : ℕ) → l < j → j < top → Frame hs j
+    above : (j : ℕ) → l < j → j < top → Frame hs n j
     above j a hi =
         let e = f .each j (omega (arith, a)) hi in
-        let was : (n : ℕ) → 3 * l + 3 ≤ n → getD hs n 0 ≡ getD fs n 0 = λ n q. set .above .at n q ∙ same .at n (omega (arith, q)) in
+        let was : (k : ℕ) → 3 * l + 3 ≤ k → getD hs k 0 ≡ getD fs k 0 = λ k q. set .above .at k q ∙ same .at k (omega (arith, q)) in
         record {
           plain = λ q. e .plain (sym (was (3 * j) (omega (arith, a))) ∙ q);
           key = omega (arith, was (3 * j + 1) (omega (arith, a)), e .key);
-          value = omega (arith, was (3 * j + 2) (omega (arith, a)), e .value);
+          own = λ q. let o = e .own (sym (was (3 * j) (omega (arith, a))) ∙ q) in omega (arith, was (3 * j + 1) (omega (arith, a)), o, grown);
+          value = omega (arith, was (3 * j + 2) (omega (arith, a)), e .value, grown);
         }
 
-    at-or-above : (j : ℕ) → l ≤ j → j < top → (b : Bool) → ltb l j ≡ b → Frame hs j
+    at-or-above : (j : ℕ) → l ≤ j → j < top → (b : Bool) → ltb l j ≡ b → Frame hs n j
     at-or-above j lo hi true e = above j (ltb-true l j e) hi
-    at-or-above j lo hi false e = let q : l ≡ j = omega (arith, ltb-false l j e, lo) in subst (Frame hs) q here
+    at-or-above j lo hi false e = let q : l ≡ j = omega (arith, ltb-false l j e, lo) in subst (Frame hs n) q here
+
+-- there are as many rows or more once the closing mark is read
+pub framed-closed : {fs t cs ss st fd old : List ℕ} {before limit y z lo hi : ℕ} {j : number.Row} {next : ℕ} (cells starts : List ℕ) (n m lim mark leaf at : ℕ) → Said t cs ss st fd old before limit (closeAt lim t mark leaf at (builtIn t cells starts n m)) j next y z → Framed fs n lo hi → Framed fs y lo hi
+framed-closed {t = t} {cs = cs} {st = st} {y = y} {z = z} cells starts n m lim mark leaf at s f =
+    let g = close-grows lim t mark leaf at (builtIn t cells starts n m) (s .outcome) in
+    let grown : n ≤ y = omega (arith, g, as-many t cells starts n m, as-many t cs st y z) in
+    record {
+      order = f .order;
+      room = f .room;
+      each = λ l a b. let e = f .each l a b in record { plain = e .plain; key = e .key; own = λ q. let o = e .own q in omega (arith, o, grown); value = omega (arith, e .value, grown) };
+    }

@@ -16,6 +16,7 @@ use Rattle.json.specs.Heads.{HeadSays, head-says, head-says-no}
 use Rattle.json.specs.declared.members.KeyPart.{KeyPart}
 use Rattle.json.specs.declared.members.KeyPart.the-variants.{Key, NoKey}
 use Rattle.json.proofs.Walking.{elements-item, member-refused, no-colon, colon}
+use Rattle.json.proofs.Growing.{as-many, key-grows}
 use Rattle.json.proofs.CycleWays.{key-said, key-said-no, no-object}
 
 -- nothing stands before an element
@@ -32,6 +33,8 @@ head-none false e S t cells slots starts found pending flags used texts lo hi se
       flagged = λ q. no-object q;
       holds = h;
       inside = omega arith;
+      own = λ q. absurd (omega (arith, q));
+      grown = let n = as-many t cells starts used texts in omega (arith, n);
       plain = λ q. omega (arith, q);
       more = omega arith;
       same = λ k l. refl;
@@ -60,6 +63,8 @@ module _ (S : Setting) {t cells slots starts found pending flags old : List ℕ}
           flagged = λ z. s .flagged;
           holds = s .holds;
           inside = s .inside;
+          own = s .own;
+          grown = let g = key-grows S t lo seen at b (s .outcome) in let n = as-many t cells starts used texts in omega (arith, g, n);
           plain = s .plain;
           more = s .more;
           same = s .same;

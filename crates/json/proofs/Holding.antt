@@ -1,7 +1,7 @@
 -- What is held after a row was finished. Assumes nothing.
 use mathlib.Core.Path.{_≡_, refl, sym, ap, subst, _∙_}
 use mathlib.Core.Bool.{Bool, true, false, _&&_, cond}
-use mathlib.Core.List.{List, [], _∷_, _++_}
+use mathlib.Core.List.{List, [], _∷_, _++_, List·Memᴰ as In, List·Memᴰ·not-nil as not-nil}
 use mathlib.Core.Option.{Option, none, some, Option·map}
 use Prim.Native.Nat.{ℕ, zero, suc, _+_, _-_, _<_, _≤_}
 use native.Mathlib.Omega.{arith}
@@ -9,8 +9,10 @@ use borrow.Author.Tests.{ne-eqb, lt-ltb, le-ltb}
 use lib.Dec.{eqb, ltb}
 use lib.ListN.{length, getD, length-append}
 use Rattle.model.specs.Limits.{unused}
-use Rattle.model.specs.Table.{Row}
+use Rattle.model.specs.Table.{Row, Lower}
 use Rattle.model.specs.Build.{eqRow, findRow}
+use Rattle.model.proofs.Members.{T-true}
+use Rattle.model.proofs.Build.{eqRow-refl}
 use Rattle.model.proofs.Tab.{length-tab}
 use Rattle.document.specs.Rows.{rowIn, rowsBelow, Kept}
 use Rattle.document.specs.Fields.{asRow}
@@ -20,16 +22,21 @@ use Rattle.document.specs.declared.rows.Row as number
 use Rattle.document.specs.declared.scalar.Scalar.the-variants.{Name}
 use Rattle.document.specs.declared.builder.Placed.{Placed}
 use Rattle.document.specs.declared.builder.Placed.the-variants.{Known, Added, Full}
+use Rattle.model.proofs.Build.{more-lower}
 use Rattle.document.proofs.Ready.{Put, was, is, no-room, puts}
 use Rattle.json.specs.Signature.{textLeaf}
 use Rattle.json.specs.Grammar.{Built, built, Outcome, good, refused, leafRow, placeRow, finish}
-use Rattle.json.specs.State.{textsIn, textAt, builtIn, Holds, Old, After, Says, says-read, says-refused}
+use Rattle.json.specs.State.{textsIn, textAt, builtIn, Holds, Old, After, Says, says-read, says-refused, partAfter}
 use Rattle.json.specs.declared.rows.Part.{Part}
 use Rattle.json.specs.declared.rows.Part.the-variants.{Read, Refused}
 
 -- an outcome that is known
 pub says-by : {t cells slots starts found old : List ℕ} {before limit : ℕ} {r : Part} {o v : Outcome} → o ≡ v → Says t cells slots starts found old before limit r v → Says t cells slots starts found old before limit r o
 says-by {t} {cells} {slots} {starts} {found} {old} {before} {limit} {r} e h = subst (Says t cells slots starts found old before limit r) (sym e) h
+
+-- an answer that is known
+pub says-as : {t cells slots starts found old : List ℕ} {before limit : ℕ} {r x : Part} {o : Outcome} → r ≡ x → Says t cells slots starts found old before limit r o → Says t cells slots starts found old before limit x o
+says-as {t} {cells} {slots} {starts} {found} {old} {before} {limit} {o = o} e h = subst (λ x. Says t cells slots starts found old before limit x o) e h
 
 -- a row that is known
 pub says-row : {t cells slots starts found old : List ℕ} {before limit : ℕ} {r : Part} (next : ℕ) (b : Built) {fields row : Row} → fields ≡ row → Says t cells slots starts found old before limit r (finish limit fields next b) → Says t cells slots starts found old before limit r (finish limit row next b)
@@ -96,6 +103,28 @@ find-more x r (y ∷ rows) e h = go (eqRow x y) (λ q. find-more x r rows e q) h
     go true f q = let z : _≡_ {A = ℕ} 0 1 = cc in absurd (omega arith)
     go false f q = ap (Option·map suc) (f (none-behind (findRow x rows) q))
 
+-- a row that is found is found with more behind
+pub find-on : (x r : Row) (rows : List Row) (i : ℕ) → findRow x rows ≡ some i → findRow x (rows ++ r ∷ []) ≡ some i
+find-on x r [] i e = let z : _≡_ {A = ℕ} 0 1 = cc in absurd (omega arith)
+find-on x r (y ∷ rows) i e = go (eqRow x y) (λ k q. find-on x r rows k q) e
+  where
+    behind : (o : Option ℕ) → ((k : ℕ) → o ≡ some k → findRow x (rows ++ r ∷ []) ≡ some k) → Option·map suc o ≡ some i → Option·map suc (findRow x (rows ++ r ∷ [])) ≡ some i
+    behind none f q = let z : _≡_ {A = ℕ} 0 1 = cc in absurd (omega arith)
+    behind (some k) f q = ap (Option·map suc) (f k refl) ∙ q
+
+    go : (b : Bool) → ((k : ℕ) → findRow x rows ≡ some k → findRow x (rows ++ r ∷ []) ≡ some k) → cond b (some 0) (Option·map suc (findRow x rows)) ≡ some i → cond b (some 0) (Option·map suc (findRow x (rows ++ r ∷ []))) ≡ some i
+    go true f q = q
+    go false f q = behind (findRow x rows) f q
+
+-- a row that is not found is found where it is added
+pub find-last : (x : Row) (rows : List Row) → findRow x rows ≡ none → findRow x (rows ++ x ∷ []) ≡ some (length rows)
+find-last x [] e = ap (λ c. cond c (some 0) none) (T-true (eqRow x x) .0 (eqRow-refl x))
+find-last x (y ∷ rows) e = go (eqRow x y) (λ q. find-last x rows q) e
+  where
+    go : (b : Bool) → (findRow x rows ≡ none → findRow x (rows ++ x ∷ []) ≡ some (length rows)) → cond b (some 0) (Option·map suc (findRow x rows)) ≡ none → cond b (some 0) (Option·map suc (findRow x (rows ++ x ∷ []))) ≡ some (suc (length rows))
+    go true f q = let z : _≡_ {A = ℕ} 0 1 = cc in absurd (omega arith)
+    go false f q = ap (Option·map suc) (f (none-behind (findRow x rows) q))
+
 -- a row that is found is one of them
 pub found-inside : (r : Row) (rows : List Row) (i : ℕ) → findRow r rows ≡ some i → i < length rows
 found-inside r [] i e = let z : _≡_ {A = ℕ} 0 1 = cc in absurd (omega arith)
@@ -109,25 +138,23 @@ found-inside r (x ∷ rows) i e = go (eqRow r x) (λ k q. found-inside r rows k 
     go true f q = let g : 0 ≡ i = cc in omega (arith, g)
     go false f q = behind (findRow r rows) f q
 
--- fields whose row is no text's
-pub no-text : (texts : ℕ) {r q : Row} → r ≡ q → (q .symbol ≡ textLeaf → ⊥) → Old texts r
-no-text texts {r} {q} f plain =
+-- a row that is no text's
+pub no-text : (used texts : ℕ) {r q : Row} → r ≡ q → (q .symbol ≡ textLeaf → ⊥) → ((j : ℕ) → In j (q .children) → j < used) → Old used texts r
+no-text used texts {r} {q} f plain below =
     let e : eqb textLeaf (q .symbol) ≡ false = ne-eqb _ _ (λ p. plain (sym p)) in
-    record { differs = λ k l. ap (eqRow (leafRow textLeaf (Name k))) f ∙ rw e }
+    record { differs = λ k l. ap (eqRow (leafRow textLeaf (Name k))) f ∙ rw e; below = λ j m. below j (subst (λ (z : Row). In j (z .children)) f m) }
+
+-- a leaf has no children
+pub no-child : {used : ℕ} (j : ℕ) → In j [] → j < used
+no-child j m = absurd (not-nil m)
 
 -- the leaf of a text that has its number
-pub numbered-text : (texts n : ℕ) → n < texts → Old texts (leafRow textLeaf (Name n))
-numbered-text texts n h = record { differs = λ k l. let e : eqb k n ≡ false = ne-eqb k n (λ q. omega (arith, h, l, q)) in rw e }
+pub numbered-text : (used texts n : ℕ) → n < texts → Old used texts (leafRow textLeaf (Name n))
+numbered-text used texts n h = record { differs = λ k l. let e : eqb k n ≡ false = ne-eqb k n (λ q. omega (arith, h, l, q)) in rw e; below = no-child }
 
--- fields whose row is that leaf
-pub old-leaf : (texts n : ℕ) {r : Row} → r ≡ leafRow textLeaf (Name n) → n < texts → Old texts r
-old-leaf texts n e l = record { differs = λ k m. ap (eqRow (leafRow textLeaf (Name k))) e ∙ numbered-text texts n l .differs k m }
-
--- the part that the builder's answer becomes
-abbrev pub partAfter : ℕ → ℕ → ℕ → Placed → Part
-partAfter next used texts (Known i) = Read i next used texts
-partAfter next used texts (Added i) = Read i next (used + 1) texts
-partAfter next used texts Full = Refused 67 (next - 1)
+-- a row that is that leaf
+pub old-leaf : (used texts n : ℕ) {r : Row} → r ≡ leafRow textLeaf (Name n) → n < texts → Old used texts r
+old-leaf used texts n {r} e l = subst (Old used texts) (sym e) (numbered-text used texts n l)
 
 module _ (t cells slots starts found : List ℕ) (used texts limit : ℕ) (h : Holds t cells slots starts found used texts limit) where
   rows-are : length (rowsBelow cells used) ≡ used
@@ -149,7 +176,7 @@ module _ (t cells slots starts found : List ℕ) (used texts limit : ℕ) (h : H
       }
 
   -- a row that is not the leaf of a text still to come
-  module _ (r : Row) (old : Old texts r) (next : ℕ) (behind : 0 < next) where
+  module _ (r : Row) (old : Old used texts r) (next : ℕ) (behind : 0 < next) where
     finish-by : {o : Option ℕ} → findRow r (rowsBelow cells used) ≡ o → finish limit r next (builtIn t cells starts used texts) ≡ placeRow limit r next (builtIn t cells starts used texts) o
     unfolding finish
     finish-by e = ap (placeRow limit r next (builtIn t cells starts used texts)) e
@@ -164,6 +191,8 @@ module _ (t cells slots starts found : List ℕ) (used texts limit : ℕ) (h : H
           indexed = h .indexed;
           few = omega (arith, h .few);
           fresh = λ k l. ap (findRow (leafRow textLeaf (Name k))) e ∙ find-more (leafRow textLeaf (Name k)) r (rowsBelow cells used) (old .differs k l) (h .fresh k l);
+          lower = subst Lower (sym e) (more-lower (rowsBelow cells used) (h .lower) r (λ j m. let b = old .below j m in omega (arith, b, rows-are)));
+          leaves = λ k l. ap (findRow (leafRow textLeaf (Name k))) e ∙ find-on (leafRow textLeaf (Name k)) r (rowsBelow cells used) _ (h .leaves k l);
         }
 
     finish-says : (cs ss : List ℕ) {a : Placed} → Put cells slots cs ss used limit r a → Says t cs ss starts found starts texts limit (partAfter next used texts a) (finish limit r next (builtIn t cells starts used texts))
@@ -189,8 +218,12 @@ module _ (t cells slots starts found : List ℕ) (used texts limit : ℕ) (h : H
         says-by (finish-by e ∙ (λ k. cond (room k) (good (length (rowsBelow cells used)) next (built (rowsBelow cells used ++ r ∷ []) (textsIn t starts texts))) (refused 67 (next - 1)))) (says-refused refl)
 
     -- the answer that the builder gave
-    pub finish-answers : Kept r → (cs ss : List ℕ) (a : Placed) → Did (findOrAdd cells slots used limit r) a cs ss → {x : Placed} → a ≡ x → Says t cs ss starts found starts texts limit (partAfter next used texts x) (finish limit r next (builtIn t cells starts used texts))
-    finish-answers k cs ss a did e = finish-says cs ss (subst (Put cells slots cs ss used limit r) e (puts cells slots used limit (h .ready) r k cs ss a did))
+    pub finish-answers : Kept r → (cs ss : List ℕ) (a : Placed) → Did (findOrAdd cells slots used limit r) a cs ss → {x : Part} → x ≡ partAfter next used texts a → Says t cs ss starts found starts texts limit x (finish limit r next (builtIn t cells starts used texts))
+    finish-answers k cs ss a did e = subst (λ x. Says t cs ss starts found starts texts limit x (finish limit r next (builtIn t cells starts used texts))) (sym e) (finish-says cs ss (puts cells slots used limit (h .ready) r k cs ss a did))
+
+-- there are fewer rows than places
+pub few-rows : {t cells slots starts found : List ℕ} {used texts limit : ℕ} → Holds t cells slots starts found used texts limit → used < unused
+few-rows h = omega (arith, h .ready .built .few)
 
 -- a row's number is no unused place
 pub small : {t cells slots starts found : List ℕ} {used texts limit : ℕ} → Holds t cells slots starts found used texts limit → {j : ℕ} → j < used → j < unused

@@ -21,7 +21,8 @@ use Rattle.json.specs.declared.members.KeyPart.{KeyPart}
 use Rattle.json.specs.declared.members.KeyPart.the-variants.{Key, NoKey}
 use Rattle.json.specs.declared.rows.Part.{Part}
 use Rattle.json.specs.declared.rows.Part.the-variants.{Refused}
-use Rattle.json.proofs.Holding.{says-by, says-since, Said, small}
+use Rattle.json.proofs.Holding.{says-by, says-since, Said}
+use Rattle.json.proofs.Growing.{as-many, value-grows}
 use Rattle.json.proofs.ItemWays.{seen-kept, item-refused, item-last, item-rest}
 use Rattle.json.proofs.Walking.{empty-object, some-members, empty-array, some-elements, plain-one}
 use Rattle.json.proofs.Flags.{flagged-none}
@@ -61,7 +62,7 @@ pub record Walk (alone object : Bool) (S : Setting) (t : List ℕ) (top : ℕ) (
   pub flagged : object ≡ true → Flagged (S .keys) flags seen
   pub order : l < top
   pub is : o ≡ joins (S .limit) frames (l + 1) (top - (l + 1)) (itemsAt alone object l S t seen i (builtIn t cells starts used texts))
-  pub framed : alone ≡ false → Framed frames (l + 1) top
+  pub framed : alone ≡ false → Framed frames used (l + 1) top
   pub first : alone ≡ true → l + 1 ≡ top
   pub holds : Holds t cells slots starts found used texts (S .limit)
   pub more : before ≤ texts
@@ -167,8 +168,12 @@ module _ {alone object : Bool} {S : Setting} {t : List ℕ} {top : ℕ} {o : Out
         made : (x : Outcome) → itemAt object l S t (h .seen-now) symbol (key .0) first (builtIn t cs st n m) ≡ joined (S .limit) symbol (keyRows symbol (key .0) ++ v .0 ∷ []) x → o ≡ joins (S .limit) gs l (top - l) x
         made x q = item-is (not-true many) ∙ ap (joins (S .limit) frames (l + 1) (top - (l + 1))) q ∙ frame-made (S .limit) frames fs gs l top symbol (key .0) (v .0) (w .order) inner set x
 
-        pub walk-framed : length gs ≡ length frames → Framed gs l top
-        walk-framed size = framed-more frames fs gs l top symbol (key .0) (v .0) size inner set (h .plain) (h .inside) (small (s .holds) (s .inside)) (w .framed (not-true many))
+        pub walk-framed : length gs ≡ length frames → Framed gs n′ l top
+        walk-framed size =
+            let g = value-grows S t l first (builtIn t cs st n m) (s .outcome) in
+            let k : n ≤ n′ = omega (arith, g, as-many t cs st n m, as-many t cells′ starts′ n′ m′) in
+            let j : used ≤ n′ = omega (arith, k, h .grown, as-many t cells starts used texts) in
+            framed-more frames fs gs l top symbol (key .0) (v .0) size inner set (h .plain) (h .inside) j (λ q. let o = h .own q in omega (arith, o, k)) (s .inside) (w .framed (not-true many))
 
         -- nothing follows
         pub walk-last : (byteAt t e ≡ 44 → ⊥) → (mark leaf : ℕ) → mark ≡ markOf object → leaf ≡ leafOf object → o ≡ joins (S .limit) gs l (top - l) (closeAt (S .limit) t mark leaf e (builtIn t cells′ starts′ n′ m′))
@@ -204,7 +209,7 @@ module _ {alone object : Bool} {S : Setting} {t : List ℕ} {top : ℕ} {o : Out
                 flagged = h .flagged;
                 order = omega (arith, w .order);
                 is = rest-is (listAt object (l - 1) S t (h .seen-now) j (builtIn t cells′ starts′ n′ m′)) (rest-below (l - 1) down) ∙ (λ k. joins (S .limit) gs (sym back k) (top - sym back k) (listAt object (l - 1) S t (h .seen-now) j (builtIn t cells′ starts′ n′ m′))) ∙ ap (joins (S .limit) gs (l - 1 + 1) (top - (l - 1 + 1))) (sym (ap (λ x. itemsAt x object (l - 1) S t (h .seen-now) j (builtIn t cells′ starts′ n′ m′)) (not-true many)));
-                framed = λ a. subst (λ k. Framed gs k top) (sym back) (walk-framed room);
+                framed = λ a. subst (λ k. Framed gs n′ k top) (sym back) (walk-framed room);
                 first = λ a. absurd (many a);
                 holds = s .holds;
                 more = omega (arith, more-all, s .more);

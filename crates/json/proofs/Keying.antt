@@ -18,8 +18,9 @@ use Rattle.document.specs.declared.index.Probed.the-variants.{Found, Free, Crow
 use Rattle.document.proofs.Probing.{scan, Answers, known, free, answers}
 use Rattle.names.specs.Lines.{lines}
 use Rattle.jsontext.specs.Decoded.{textSlot, isText}
+use Rattle.jsontext.specs.Tokens.{TokenOf}
 use Rattle.json.specs.Keys.{maxKeys, findText}
-use Rattle.json.specs.KeyTable.{keyAt, keyStart, keyEnd, Stands, Entered, KeyTable, keyOf}
+use Rattle.json.specs.KeyTable.{keyAt, keyStart, keyEnd, tokenFirst, tokenLast, tokenLength, Stands, Entered, KeyTable, keyOf}
 use Rattle.json.specs.declared.keys.KeyFound.{KeyFound}
 use Rattle.json.specs.declared.keys.KeyFound.the-variants.{Listed, Unlisted}
 use Rattle.json.proofs.Finding.{eqList-eq, find-scan}
@@ -51,13 +52,19 @@ module _ {list places slots : List ℕ} {n : ℕ} (x : Entered list places slots
       that : (i : ℕ) → eqList bs (keyAt list i) ≡ true → bs ≡ keyAt list i
       that i e = eqList-eq bs (keyAt list i) e
 
--- a line whose end is not 0 is one of them
-pub line-placed : {list places slots : List ℕ} → KeyTable list places slots → (k : ℕ) → (keyEnd places k ≡ 0 → ⊥) → k < length (lines list)
-line-placed {list = list} x k z = go (ltb k (length (lines list))) refl
+-- a number whose end or whose token's length is not 0 is that of a line
+pub line-placed : {list places slots : List ℕ} → KeyTable list places slots → (k : ℕ) → k < maxKeys → ((keyEnd places k ≡ 0) × (tokenLength places k ≡ 0) → ⊥) → k < length (lines list)
+line-placed {list = list} x k few z = go (ltb k (length (lines list))) refl
   where
     go : (b : Bool) → ltb k (length (lines list)) ≡ b → k < length (lines list)
     go true e = ltb-true k (length (lines list)) e
-    go false e = absurd (z (x .others k (ltb-false k (length (lines list)) e)))
+    go false e = absurd (z (x .others k (ltb-false k (length (lines list)) e) (omega (arith, few))))
+
+-- a string that is written as a line's token is the line
+pub token-string : {list places slots : List ℕ} → KeyTable list places slots → (k j : ℕ) → j ≡ k → k < maxKeys → (tokenLength places j ≡ 0 → ⊥) → (g : Got (List ℕ)) (r : ℕ) → ((key : List ℕ) → TokenOf key (tokenFirst places j) (tokenLast places j) (tokenLength places j) → g ≡ got key r) → (k < length (lines list)) × (g ≡ got (keyAt list k) r)
+token-string {list} x k j q few z g r written =
+    let l : j < length (lines list) = line-placed x j (omega (arith, q, few)) (λ o. z (o .1)) in
+    (omega (arith, q, l), written (keyAt list j) (x .tokens j l z) ∙ ap (λ i. got (keyAt list i) r) q)
 
 -- a string that is the bytes from a line's start up to its end
 pub line-string : {list places : List ℕ} (k : ℕ) {j r : ℕ} → j ≡ k → Stands list places k → (g : Got (List ℕ)) → g ≡ got (take (keyEnd places k - keyStart places k) (take (length list - keyStart places k) (drop (keyStart places k) list))) r → g ≡ got (keyAt list j) r

@@ -1,3 +1,4 @@
+pub mod LowerRows
 pub mod Holding
 pub mod Nodes
 pub mod Closing
@@ -41,6 +42,7 @@ pub mod Walking
 pub mod ItemWays
 pub mod Framing
 pub mod PlainWays
+pub mod Growing
 pub mod CycleWays
 pub mod Heading
 pub mod ItemLoop

@@ -61,6 +61,7 @@ module _ {t cells slots starts found : List ℕ} {used texts limit : ℕ} (h : H
         is = refl;
         holds = h;
         inside = omega arith;
+        own = λ p. absurd (omega (arith, p));
         plain = λ p. omega (arith, p);
         more = omega arith;
         same = λ i n. refl;

@@ -162,6 +162,7 @@ module _ {t cells slots starts found : List ℕ} {used texts limit : ℕ} (h : H
           is = refl;
           holds = s .holds;
           inside = small (s .holds) (s .inside);
+          own = λ e. s .inside;
           plain = λ e. omega (arith, e);
           more = s .more;
           same = s .same;

@@ -8,7 +8,6 @@ use native.Mathlib.Omega.{arith}
 use borrow.Author.Tests.{lt-ltb, le-ltb}
 use lib.Dec.{ltb}
 use lib.ListN.{length, set, getD}
-use lib.Seq.{getD-set-other}
 use Rattle.base.specs.Text.{got}
 use Rattle.model.specs.Limits.{maxRows}
 use Rattle.model.specs.Table.{Row}
@@ -30,8 +29,8 @@ use Rattle.json.specs.Grammar.{Built, built, Outcome, good, refused, lea
 use Rattle.json.specs.State.{textAt, textsIn, builtIn, Holds, Says, says-read, says-refused}
 use Rattle.json.specs.declared.rows.Part.{Part}
 use Rattle.json.specs.declared.rows.Part.the-variants.{Read, Refused}
-use Rattle.json.proofs.Holding.{says-by}
-use Rattle.json.proofs.Texting.{Fresh, holds-more, texts-more}
+use Rattle.json.proofs.Holding.{says-by, found-inside, after-same}
+use Rattle.json.proofs.Texting.{Fresh, there, holds-more, texts-more}
 
 module _ (t cells starts : List ℕ) (used texts limit at : ℕ) (bs : List ℕ) (next : ℕ) (string : stringAt t at ≡ got bs next) where
   abbrev b : Built
@@ -54,6 +53,15 @@ module _ (t cells starts : List ℕ) (used texts limit at : ℕ) (bs : List ℕ)
 
   pub text-new : findText bs (textsIn t starts texts) ≡ none → afterText limit b (stringAt t at) ≡ finish limit (leafRow textLeaf (Name texts)) next (built (rowsBelow cells used) (textsIn t starts texts ++ bs ∷ []))
   text-new e = text-by e ∙ ap (λ n. finish limit (leafRow textLeaf (Name n)) next (built (rowsBelow cells used) (textsIn t starts texts ++ bs ∷ []))) texts-are
+
+  -- a text that has its number has its leaf's row
+  pub known-says : (slots found : List ℕ) (h : Holds t cells slots starts found used texts limit) → 0 < next → (k : ℕ) → k < texts → findText bs (textsIn t starts texts) ≡ some k → (row : number.Row) → row .0 ≡ getD starts (maxRows + k) 0 → Says t cells slots starts found starts texts limit (Read row next used texts) (afterText limit b (stringAt t at))
+  unfolding finish
+  known-says slots found h behind k l e row r =
+      let there = h .leaves k l in
+      let inside = found-inside (leafRow textLeaf (Name k)) (rowsBelow cells used) (getD starts (maxRows + k) 0) there in
+      says-by (text-known k e ∙ ap (placeRow limit (leafRow textLeaf (Name k)) next b) (there ∙ ap some (sym r)))
+      (says-read (after-same t cells slots starts found used texts limit h cells slots refl refl row next behind (omega (arith, inside, r, rows-are))))
 
   -- a text that is new, by what the builder answered for its leaf
   module _ (slots found : List ℕ) (h : Holds t cells slots starts found used texts limit) (s : ℕ) (f : Fresh t starts found bs texts s) (behind : 0 < next) where
@@ -86,10 +94,11 @@ module _ (t cells starts : List ℕ) (used texts limit at : ℕ) (bs : List ℕ)
           go (is j n q l m d) p = l
           go (no-room q l) p = let z : _≡_ {A = ℕ} 0 1 = cc in absurd (omega arith)
 
-      pub leaf-added : (i : number.Row) → a ≡ Added i → (place : ℕ) → place ≡ texts → Says t cs ss (set starts place at) (set found s (texts + 1)) starts texts limit (Read i next (used + 1) (texts + 1)) (afterText limit b (stringAt t at))
-      leaf-added i e place p = subst (λ n. Says t cs ss (set starts n at) (set found s (texts + 1)) starts texts limit (Read i next (used + 1) (texts + 1)) (afterText limit b (stringAt t at))) (sym p) (go put e)
+      pub leaf-added : (i : number.Row) → a ≡ Added i → (place behind row-is : ℕ) → place ≡ texts → behind ≡ maxRows + texts → row-is ≡ used → Says t cs ss (set (set starts place at) behind row-is) (set found s (texts + 1)) starts texts limit (Read i next (used + 1) (texts + 1)) (afterText limit b (stringAt t at))
+      leaf-added i e place after row-is p q r =
+          subst (λ st. Says t cs ss st (set found s (texts + 1)) starts texts limit (Read i next (used + 1) (texts + 1)) (afterText limit b (stringAt t at))) (λ j. set (set starts (sym p j) at) (sym q j) (sym r j)) (go put e)
         where
-          go : {x : Placed} → Put cells slots cs ss used limit (leafRow textLeaf (Name texts)) x → x ≡ Added i → Says t cs ss (set starts texts at) (set found s (texts + 1)) starts texts limit (Read i next (used + 1) (texts + 1)) (afterText limit b (stringAt t at))
+          go : {x : Placed} → Put cells slots cs ss used limit (leafRow textLeaf (Name texts)) x → x ≡ Added i → Says t cs ss (set (set starts texts at) (maxRows + texts) used) (set found s (texts + 1)) starts texts limit (Read i next (used + 1) (texts + 1)) (afterText limit b (stringAt t at))
           go (was j q c d) p = let z : _≡_ {A = ℕ} 0 1 = cc in absurd (omega arith)
           go (is j n q l m d) p =
               let same : j ≡ i = cc in
@@ -108,7 +117,7 @@ module _ (t cells starts : List ℕ) (used texts limit at : ℕ) (bs : List ℕ)
                 inside = omega (arith, rows-are);
                 behind = behind;
                 more = omega arith;
-                same = λ k l. getD-set-other starts texts k at 0 (λ q. let z : ⊥ = omega (arith, q, l) in absurd z);
+                same = there t cells slots starts found used texts limit h at bs next string s (f .new) (f .slot-free) few;
               }))
           go (no-room q l) p = let z : _≡_ {A = ℕ} 0 1 = cc in absurd (omega arith)
 
@@ -122,3 +131,9 @@ module _ (t cells starts : List ℕ) (used texts limit at : ℕ) (bs : List ℕ)
               let room : ltb (length (rowsBelow cells used)) limit ≡ false = le-ltb (length (rowsBelow cells used)) limit (omega (arith, rows-are, l)) in
               leaf-by absent
               ∙ (λ k. cond (room k) (good (length (rowsBelow cells used)) next (built (rowsBelow cells used ++ leafRow textLeaf (Name texts) ∷ []) (textsIn t starts texts ++ bs ∷ []))) (refused 67 (next - 1)))
+
+-- the row of a text's leaf is one of the rows
+pub row-inside : {t cells slots starts found : List ℕ} {used texts limit : ℕ} → Holds t cells slots starts found used texts limit → {k : ℕ} → k < texts → (k < 1024) × (getD starts (maxRows + k) 0 < 65536)
+row-inside {cells = cells} {starts = starts} {used = used} h {k} l =
+    let inside = found-inside (leafRow textLeaf (Name k)) (rowsBelow cells used) (getD starts (maxRows + k) 0) (h .leaves k l) in
+    (omega (arith, l, h .few, h .ready .built .few), omega (arith, inside, length-tab used (rowIn cells), h .ready .built .few))

@@ -13,9 +13,10 @@ use lib.Seq.{getD-set-same, getD-set-other}
 use Rattle.base.specs.Text.{got}
 use Rattle.model.specs.Limits.{maxRows}
 use Rattle.model.specs.Lists.{eqList, tab}
+use Rattle.model.specs.Table.{Lower}
 use Rattle.model.specs.Build.{findRow}
-use Rattle.model.proofs.Tab.{tab-same, tab-snoc}
-use Rattle.document.specs.Rows.{rowsBelow}
+use Rattle.model.proofs.Tab.{length-tab, tab-same, tab-snoc}
+use Rattle.document.specs.Rows.{rowIn, rowsBelow}
 use Rattle.document.specs.Fields.{asRow}
 use Rattle.document.specs.Index.{slotCount, probe, Indexed}
 use Rattle.document.specs.Builder.{Ready}
@@ -30,7 +31,8 @@ use Rattle.json.specs.Keys.{findText}
 use Rattle.json.specs.Grammar.{leafRow}
 use Rattle.json.specs.State.{bytesOf, textAt, textsIn, Whole, Holds}
 use Rattle.json.proofs.Finding.{eq-eqList, eqList-eq, eqList-swap, find-scan}
-use Rattle.json.proofs.Holding.{find-more, numbered-text}
+use Rattle.model.proofs.Build.{more-lower}
+use Rattle.json.proofs.Holding.{find-more, find-on, find-last, numbered-text, no-child}
 
 -- What a probe finds: a text that has its number, or the slot for one that has none.
 pub data ProbedText (t starts found bs : List ℕ) (texts : ℕ) : Probed → Type 0 where
@@ -73,13 +75,20 @@ module _ (t cells slots starts found : List ℕ) (used texts limit : ℕ) (h : H
   -- the text is added behind the others, at a slot that is free for it
   module _ (s : ℕ) (new : (k : ℕ) → k < texts → textAt t starts k ≡ bs → ⊥) (slot-free : Opens found (textSlot bs) s) (room : texts < maxRows) where
     abbrev more : List ℕ
-    more = set starts texts at
+    more = set (set starts texts at) (maxRows + texts) used
 
     here : getD more texts 0 ≡ at
-    here = getD-set-same starts texts at 0 (omega (arith, h .size, room))
+    here = getD-set-other (set starts texts at) (maxRows + texts) texts used 0 (λ e. let z : ⊥ = omega (arith, e) in absurd z) ∙ getD-set-same starts texts at 0 (omega (arith, h .size, room))
 
-    there : (k : ℕ) → k < texts → getD more k 0 ≡ getD starts k 0
-    there k l = getD-set-other starts texts k at 0 (λ e. let z : ⊥ = omega (arith, e, l) in absurd z)
+    pub there : (k : ℕ) → k < texts → getD more k 0 ≡ getD starts k 0
+    there k l = getD-set-other (set starts texts at) (maxRows + texts) k used 0 (λ e. let z : ⊥ = omega (arith, e, l) in absurd z) ∙ getD-set-other starts texts k at 0 (λ e. let z : ⊥ = omega (arith, e, l) in absurd z)
+
+    -- the rows of the leaves, and that of the new one
+    row-here : getD more (maxRows + texts) 0 ≡ used
+    row-here = getD-set-same (set starts texts at) (maxRows + texts) used 0 (let e = length-set starts texts at in omega (arith, e, h .size, room))
+
+    row-there : (k : ℕ) → k < texts → getD more (maxRows + k) 0 ≡ getD starts (maxRows + k) 0
+    row-there k l = getD-set-other (set starts texts at) (maxRows + texts) (maxRows + k) used 0 (λ e. let z : ⊥ = omega (arith, e, l) in absurd z) ∙ getD-set-other starts texts (maxRows + k) at 0 (λ e. let z : ⊥ = omega (arith, e, room) in absurd z)
 
     pub that-text : textAt t more texts ≡ bs
     that-text = ap (λ i. bytesOf (stringAt t i)) here ∙ ap bytesOf string
@@ -118,14 +127,19 @@ module _ (t cells slots starts found : List ℕ) (used texts limit : ℕ) (h : H
     holds-more cs ss e d =
         record {
           ready = d;
-          size = length-set starts texts at ∙ h .size;
+          size = length-set (set starts texts at) (maxRows + texts) used ∙ length-set starts texts at ∙ h .size;
           whole = one-of (λ k. Whole t (getD more k 0)) (record { bytes = bs; next = next; string = ap (stringAt t) here ∙ string }) (λ k l. subst (Whole t) (sym (there k l)) (h .whole k l));
           distinct = apart;
           indexed = subst (λ n. Indexed (set found s n) n (λ k. textSlot (textAt t more k))) (sym (add-one texts)) still-indexed;
           few = omega (arith, h .few);
           fresh = λ k l.
               ap (findRow (leafRow textLeaf (Name k))) e
-              ∙ find-more (leafRow textLeaf (Name k)) (leafRow textLeaf (Name texts)) (rowsBelow cells used) (numbered-text (texts + 1) texts (omega arith) .differs k l) (h .fresh k (omega (arith, l)));
+              ∙ find-more (leafRow textLeaf (Name k)) (leafRow textLeaf (Name texts)) (rowsBelow cells used) (numbered-text used (texts + 1) texts (omega arith) .differs k l) (h .fresh k (omega (arith, l)));
+          lower = subst Lower (sym e) (more-lower (rowsBelow cells used) (h .lower) (leafRow textLeaf (Name texts)) no-child);
+          leaves =
+              one-of (λ k. findRow (leafRow textLeaf (Name k)) (rowsBelow cs (used + 1)) ≡ some (getD more (maxRows + k) 0))
+              (ap (findRow (leafRow textLeaf (Name texts))) e ∙ find-last (leafRow textLeaf (Name texts)) (rowsBelow cells used) (h .fresh texts (omega arith)) ∙ ap some (length-tab used (rowIn cells) ∙ sym row-here))
+              (λ k l. ap (findRow (leafRow textLeaf (Name k))) e ∙ find-on (leafRow textLeaf (Name k)) (leafRow textLeaf (Name texts)) (rowsBelow cells used) _ (h .leaves k l) ∙ ap some (sym (row-there k l)));
         }
 
 -- what a text that is new has

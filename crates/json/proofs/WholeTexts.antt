@@ -13,6 +13,7 @@ use Rattle.model.specs.Limits.{maxRows, maxLevels}
 use Rattle.model.specs.Space.{putAt}
 use Rattle.model.specs.Table.{Row}
 use Rattle.model.proofs.Space.{put-front}
+use Rattle.model.proofs.Build.{no-rows}
 use Rattle.model.proofs.Tab.{length-tab}
 use Rattle.document.specs.declared.rows.Row as number
 use Rattle.document.specs.Rows.{rowCells, rowIn, rowsBelow}
@@ -47,7 +48,7 @@ module _ (old : List ℕ) (limit : ℕ) (e : limit ≡ min maxRows (length old /
       omega arith
 
   -- nothing is read yet: cells for as many rows as a table has, places for as many texts, and empty slots
-  pub holds-none : (t cells starts : List ℕ) → length cells ≡ maxRows * rowCells → length starts ≡ maxRows → Holds t cells (replicate slotCount 0) starts (replicate slotCount 0) 0 0 limit
+  pub holds-none : (t cells starts : List ℕ) → length cells ≡ maxRows * rowCells → length starts ≡ 2 * maxRows → Holds t cells (replicate slotCount 0) starts (replicate slotCount 0) 0 0 limit
   holds-none t cells starts size many =
       record {
         ready = record { built = built-none cells; encoded = refl; few = limit-few; room = omega (arith, size, limit-few) };
@@ -57,6 +58,8 @@ module _ (old : List ℕ) (limit : ℕ) (e : limit ≡ min maxRows (length old /
         indexed = indexed-none (λ k. textSlot (textAt t starts k));
         few = omega arith;
         fresh = λ k l. refl;
+        lower = no-rows;
+        leaves = λ k l. let z : ⊥ = omega arith in absurd z;
       }
 
 -- what the reader of values said of a text from its first byte that is no space, its rows in the cells cs

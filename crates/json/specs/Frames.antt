@@ -4,7 +4,7 @@ use mathlib.Core.List.{List, [], _∷_, _++_}
 use Prim.Native.Nat.{ℕ, zero, suc, _+_, _*_, _<_, _≤_}
 use lib.ListN.{length, getD}
 use Rattle.model.specs.Limits.{unused}
-use Rattle.json.specs.Signature.{textLeaf}
+use Rattle.json.specs.Signature.{other, textLeaf}
 use Rattle.json.specs.Grammar.{Outcome, joined}
 use Rattle.json.specs.State.{keyRows}
 
@@ -22,17 +22,18 @@ abbrev pub joins : ℕ → List ℕ → ℕ → ℕ → Outcome → Outcome
 joins limit fs l zero o = o
 joins limit fs l (suc n) o = joins limit fs (suc l) n (joined limit (frameSymbol fs l) (keyRows (frameSymbol fs l) (frameKey fs l) ++ frameValue fs l ∷ []) o)
 
--- A frame of an item: no text's leaf, and its rows are some.
-pub record Frame (fs : List ℕ) (l : ℕ) : Type 0 where
+-- A frame of an item: no text's leaf, its value's row is one of so many, and so is its key's where it has one.
+pub record Frame (fs : List ℕ) (used l : ℕ) : Type 0 where
   pub plain : frameSymbol fs l ≡ textLeaf → ⊥
   pub key : frameKey fs l < unused
-  pub value : frameValue fs l < unused
+  pub own : frameSymbol fs l ≡ other → frameKey fs l < used
+  pub value : frameValue fs l < used
 
 -- There are frames from level lo up to level hi.
-pub record Framed (fs : List ℕ) (lo hi : ℕ) : Type 0 where
+pub record Framed (fs : List ℕ) (used lo hi : ℕ) : Type 0 where
   pub order : lo ≤ hi
   pub room : 3 * hi ≤ length fs
-  pub each : (l : ℕ) → lo ≤ l → l < hi → Frame fs l
+  pub each : (l : ℕ) → lo ≤ l → l < hi → Frame fs used l
 
 -- From place i on, cells are as they were.
 pub record Same (i : ℕ) (before after : List ℕ) : Type 0 where

@@ -3,10 +3,10 @@ use mathlib.Core.Path.{_≡_}
 use mathlib.Core.Bool.{Bool, true, false}
 use mathlib.Core.List.{List}
 use Prim.Native.Nat.{ℕ, _<_, _≤_}
-use lib.ListN.{getD}
+use lib.ListN.{length, getD}
 use Rattle.model.specs.Limits.{unused}
 use Rattle.document.specs.declared.rows.Row as number
-use Rattle.json.specs.Signature.{textLeaf}
+use Rattle.json.specs.Signature.{other, textLeaf}
 use Rattle.json.specs.Grammar.{Setting, Built, refused}
 use Rattle.json.specs.State.{builtIn, Holds}
 use Rattle.json.specs.Seen.{Seen, Flagged}
@@ -23,6 +23,8 @@ pub record Headed (object : Bool) (S : Setting) (t cells slots starts found pend
   pub flagged : object ≡ true → Flagged (S .keys) flags seen-now
   pub holds : Holds t cells slots starts found used texts (S .limit)
   pub inside : key .0 < unused
+  pub own : symbol ≡ other → key .0 < used
+  pub grown : length (b .rows) ≤ used
   pub plain : symbol ≡ textLeaf → ⊥
   pub more : before ≤ texts
   pub same : (k : ℕ) → k < before → getD starts k 0 ≡ getD old k 0

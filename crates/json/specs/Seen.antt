@@ -89,6 +89,7 @@ pub record AfterKey (keys : List (List ℕ)) (t cells slots starts found pending
   pub is : b ≡ builtIn t cells starts used texts
   pub holds : Holds t cells slots starts found used texts limit
   pub inside : row < unused
+  pub own : symbol ≡ other → row < used
   pub plain : symbol ≡ textLeaf → ⊥
   pub more : before ≤ texts
   pub same : (k : ℕ) → k < before → getD starts k 0 ≡ getD old k 0

@@ -1,6 +1,6 @@
 // Members and elements whose rest is still to come, one at each level: a symbol, the row of a key's text and a value's row.
 use crate::rows::Part;
-use crate::rows::TEXTS;
+use crate::rows::STARTS;
 use crate::rows::close;
 use crate::rows::join;
 use document::index::SLOTS;
@@ -32,7 +32,7 @@ pub(crate) fn put_frame(frames: &mut [u16], level: usize, symbol: u16, key: Row,
 // The rows of the items from the lowest frame up to `top`, each over its value and the one before.
 fn unwind(
     text: &[u8],
-    starts: &[usize; TEXTS],
+    starts: &[usize; STARTS],
     found: &[u16; SLOTS],
     rows: &mut [u16; CELLS],
     slots: &mut [u16; SLOTS],
@@ -48,7 +48,7 @@ fn unwind(
 ) -> Part
     requires holds { ⌜ Holds (now text) (now rows) (now slots) (now starts) (now found) used texts limit ⌝ }
     requires read { ⌜ (row .0 < used) × (0 < next) ⌝ }
-    requires framed { ⌜ Framed (now frames) low top ⌝ }
+    requires framed { ⌜ Framed (now frames) used low top ⌝ }
     ensures { λ r. ⌜ Says (now (text .entry)) (now (rows .exit)) (now (slots .exit)) (now (starts .entry)) (now (found .entry)) (now (starts .entry)) texts limit r (joins limit (now (frames .entry)) low (top - low) (good (row .0) next (builtIn (now (text .entry)) (now (rows .entry)) (now (starts .entry)) used texts))) ⌝ }
 {
     let mut r = row;
@@ -92,7 +92,7 @@ fn unwind(
 // The closing mark and its leaf, then the rows of all items.
 pub(crate) fn close_items(
     text: &[u8],
-    starts: &[usize; TEXTS],
+    starts: &[usize; STARTS],
     found: &[u16; SLOTS],
     rows: &mut [u16; CELLS],
     slots: &mut [u16; SLOTS],
@@ -110,7 +110,7 @@ pub(crate) fn close_items(
     requires holds { ⌜ Holds (now text) (now rows) (now slots) (now starts) (now found) used texts limit ⌝ }
     requires printed { ⌜ 0 < mark ⌝ }
     requires plain { ⌜ (closing ≡ textLeaf → ⊥) ⌝ }
-    requires framed { ⌜ Framed (now frames) low top ⌝ }
+    requires framed { ⌜ Framed (now frames) used low top ⌝ }
     ensures { λ r. ⌜ Says (now (text .entry)) (now (rows .exit)) (now (slots .exit)) (now (starts .entry)) (now (found .entry)) (now (starts .entry)) texts limit r (joins limit (now (frames .entry)) low (top - low) (closeAt limit (now (text .entry)) mark closing at (builtIn (now (text .entry)) (now (rows .entry)) (now (starts .entry)) used texts))) ⌝ }
 {
     match close(

@@ -4,6 +4,8 @@ use base::numbers::smaller;
 use document::index::SLOTS;
 use jsontext::decoded::is_text;
 use jsontext::slots::slot_of;
+use jsontext::tokens::has_token;
+use jsontext::tokens::token_of;
 use jsontext::written::written;
 use names::bytes::same;
 use names::lines::line_end;
@@ -21,7 +23,7 @@ ghost use Rattle.names.specs.Places.{Starts, Ended};
 ghost use Rattle.jsontext.specs.Strings.{stringAt};
 ghost use Rattle.jsontext.specs.Decoded.{textSlot};
 ghost use Rattle.json.specs.Keys.{key?, keysFit?, findText};
-ghost use Rattle.json.specs.KeyTable.{keyAt, Stands, Entered, Told, KeyTable, freeIn, freeOf, keyOf};
+ghost use Rattle.json.specs.KeyTable.{keyAt, Stands, LinePut, Entered, Told, KeyTable, freeIn, freeOf, keyOf};
 ghost use Rattle.json.specs.declared.keys.KeyFound.the-variants.{Listed};
 
 // The most keys.
@@ -30,8 +32,11 @@ const MAX_KEYS: u16 = 56;
 // The most bytes of a key.
 const MAX_KEY: usize = 64;
 
-// The start and the end of each line, with room for 64 of them.
-pub(crate) const KEY_PLACES: usize = 128;
+// The start and the end of each line, with room for 64 of them; behind them the first number, the last number and the length of each line's token. Length 0: the line has none.
+pub(crate) const KEY_PLACES: usize = 320;
+
+// Where the tokens stand.
+const TOKENS: usize = 128;
 
 // The line that a key is, if it is one.
 pub(crate) enum KeyFound {
@@ -88,6 +93,22 @@ fn line_slot(
     LineSlot::Taken
 }
 
+// Line `n`, from place `a` to place `e`, gets its places and its token.
+fn put_line(places: &mut [usize; KEY_PLACES], n: u16, a: usize, e: usize, line: &[u8])
+    requires few { ⌜ n < 56 ⌝ }
+    requires size { ⌜ length (now places) ≡ 320 ⌝ }
+    ensures { λ r. ⌜ LinePut (now (line .entry)) (now (places .entry)) (now (places .exit)) n a e ⌝ }
+{
+    let k = size(n);
+    places[2 * k] = a;
+    places[2 * k + 1] = e;
+    let token = token_of(line);
+    let i = TOKENS + 3 * k;
+    places[i] = token.first as usize;
+    places[i + 1] = token.last as usize;
+    places[i + 2] = token.length;
+}
+
 // Line `n`, from place `a` to place `e`, is entered behind the others, unless it is no key or equals one of them.
 fn enter(
     list: &[u8],
@@ -109,9 +130,7 @@ fn enter(
     match line_slot(list, &*places, &*key_slots, line, slot_of(line)) {
         LineSlot::Taken => false,
         LineSlot::FreeSlot(i) => {
-            let k = 2 * size(n);
-            places[k] = a;
-            places[k + 1] = e;
+            put_line(places, n, a, e, line);
             key_slots[i] = n + 1;
             true
         },
@@ -124,7 +143,7 @@ pub(crate) fn fill_keys(
     places: &mut [usize; KEY_PLACES],
     key_slots: &mut [u16; SLOTS],
 ) -> bool
-    requires zero { ⌜ now places ≡ replicate 128 0 ⌝ }
+    requires zero { ⌜ now places ≡ replicate 320 0 ⌝ }
     requires empty { ⌜ now «key_slots» ≡ replicate slotCount 0 ⌝ }
     ensures { λ r. ⌜ r ≡ keysFit? (now (list .entry)) ⌝ }
     ensures filled { λ r. ⌜ (r ≡ true → KeyTable (now (list .entry)) (now (places .exit)) (now («key_slots» .exit))) ⌝ }
@@ -146,7 +165,26 @@ pub(crate) fn fill_keys(
     true
 }
 
-// The place after the key at a place, where it is line `k` written just as it is; 0 where it is not, or where there is no such line. Most keys follow the one that they followed before, so that nothing is to be looked for.
+// The place after the key at a place, where it is line `k` written just as it is, compared byte by byte; 0 where it is not, or where there is no such line.
+fn line_here(text: &[u8], list: &[u8], places: &[usize; KEY_PLACES], k: u16, at: usize) -> usize
+    requires few { ⌜ k < 56 ⌝ }
+    requires table { ⌜ ((slots : List ℕ) × KeyTable (now list) (now places) slots) ⌝ }
+    ensures { λ r. ⌜ ((r ≡ 0 → ⊥) → (k < length (lines (now (list .entry)))) × (stringAt (now (text .entry)) at ≡ got (keyAt (now (list .entry)) k) r)) ⌝ }
+{
+    let i = 2 * size(k);
+    let e = places[i + 1];
+    if e == 0 {
+        return 0;
+    }
+    let a = places[i];
+    let n = e - a;
+    if written(text, at, &list[a..], n) {
+        return at + n + 2;
+    }
+    0
+}
+
+// The place after the key at a place, where it is line `k` written just as it is; 0 where it is not, where there is no such line, or where it stands too near the end of the text. Most keys follow the one that they followed before, so that nothing is to be looked for, and most are so short that one or two words tell.
 pub(crate) fn key_here(
     text: &[u8],
     list: &[u8],
@@ -160,15 +198,13 @@ pub(crate) fn key_here(
     if k >= MAX_KEYS {
         return 0;
     }
-    let i = 2 * size(k);
-    let e = places[i + 1];
-    if e == 0 {
-        return 0;
+    let i = TOKENS + 3 * size(k);
+    let n = places[i + 2];
+    if n == 0 {
+        return line_here(text, list, places, k, at);
     }
-    let a = places[i];
-    let n = e - a;
-    if written(text, at, &list[a..], n) {
-        return at + n + 2;
+    if has_token(text, at, places[i] as u64, places[i + 1] as u64, n) {
+        return at + n;
     }
     0
 }

@@ -1,6 +1,6 @@
 // Values without parts: words, numbers and strings.
 use crate::rows::Part;
-use crate::rows::TEXTS;
+use crate::rows::STARTS;
 use crate::rows::finish;
 use crate::rows::leaf;
 use crate::texts::look_up;
@@ -31,7 +31,7 @@ const NUMBER: u16 = 6;
 // A word that says a scalar.
 pub(crate) fn word(
     text: &[u8],
-    starts: &[usize; TEXTS],
+    starts: &[usize; STARTS],
     found: &[u16; SLOTS],
     rows: &mut [u16; CELLS],
     slots: &mut [u16; SLOTS],
@@ -76,7 +76,7 @@ pub(crate) fn word(
 pub(crate) fn number_leaf(
     text: &[u8],
     classes: &[u8; 256],
-    starts: &[usize; TEXTS],
+    starts: &[usize; STARTS],
     found: &[u16; SLOTS],
     rows: &mut [u16; CELLS],
     slots: &mut [u16; SLOTS],
@@ -93,6 +93,24 @@ pub(crate) fn number_leaf(
     match number(text, classes, at) {
         NumberRead::Fault(p) => Part::Refused(71, p),
         NumberRead::Outside(_) => Part::Refused(73, at),
+        NumberRead::Counted(value, next) => {
+            let w = leaf(NUMBER, Scalar::Count(value));
+            finish(
+                text,
+                starts,
+                found,
+                rows,
+                slots,
+                near,
+                used,
+                texts,
+                limit,
+                next,
+                w.a,
+                w.b,
+                w.c,
+            )
+        },
         NumberRead::Is(scalar, next) => {
             let w = leaf(NUMBER, scalar);
             finish(
@@ -120,8 +138,7 @@ pub(crate) fn string_leaf(
     classes: &[u8; 256],
     rows: &mut [u16; CELLS],
     slots: &mut [u16; SLOTS],
-    near: &mut [u16; NEAR],
-    starts: &mut [usize; TEXTS],
+    starts: &mut [usize; STARTS],
     found: &mut [u16; SLOTS],
     used: u16,
     texts: u16,
@@ -140,7 +157,6 @@ pub(crate) fn string_leaf(
                 text,
                 rows,
                 slots,
-                near,
                 starts,
                 found,
                 used,

@@ -25,7 +25,7 @@ use keys::fill_keys;
 use reader::SYMBOLS;
 use reader::items;
 use rows::Part;
-use rows::TEXTS;
+use rows::STARTS;
 ghost use mathlib.Core.Path.{_≡_};
 ghost use Prim.Native.Nat.{_/_, min};
 ghost use lib.ListN.{length};
@@ -67,7 +67,7 @@ fn read_text(
 {
     let mut cells = [0u16; CELLS];
     let mut slots = [0u16; SLOTS];
-    let mut starts = [0usize; TEXTS];
+    let mut starts = [0usize; STARTS];
     let mut found = [0u16; SLOTS];
     let mut near = [0u16; NEAR];
     let mut pending = [0u16; LEVELS];

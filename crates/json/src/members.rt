@@ -5,13 +5,12 @@ use crate::keys::find_key;
 use crate::keys::key_here;
 use crate::rows::OTHER;
 use crate::rows::Part;
-use crate::rows::TEXTS;
+use crate::rows::STARTS;
 use crate::texts::TextProbed;
 use crate::texts::look_up;
 use crate::texts::text_leaf;
 use base::numbers::size;
 use document::index::SLOTS;
-use document::near::NEAR;
 use document::rows::Row;
 use document::words::CELLS;
 use jsontext::strings::StringRead;
@@ -107,8 +106,7 @@ fn other_key(
     classes: &[u8; 256],
     rows: &mut [u16; CELLS],
     slots: &mut [u16; SLOTS],
-    near: &mut [u16; NEAR],
-    starts: &mut [usize; TEXTS],
+    starts: &mut [usize; STARTS],
     found: &mut [u16; SLOTS],
     pending: &mut [u16],
     listed: &[u16; FLAGS],
@@ -140,7 +138,6 @@ fn other_key(
         text,
         rows,
         slots,
-        near,
         starts,
         found,
         used,
@@ -167,8 +164,7 @@ fn looked_up(
     key_slots: &[u16; SLOTS],
     rows: &mut [u16; CELLS],
     slots: &mut [u16; SLOTS],
-    near: &mut [u16; NEAR],
-    starts: &mut [usize; TEXTS],
+    starts: &mut [usize; STARTS],
     found: &mut [u16; SLOTS],
     pending: &mut [u16],
     listed: &mut [u16; FLAGS],
@@ -203,7 +199,6 @@ fn looked_up(
                 classes,
                 rows,
                 slots,
-                near,
                 starts,
                 found,
                 pending,
@@ -240,8 +235,7 @@ pub(crate) fn key_at(
     key_slots: &[u16; SLOTS],
     rows: &mut [u16; CELLS],
     slots: &mut [u16; SLOTS],
-    near: &mut [u16; NEAR],
-    starts: &mut [usize; TEXTS],
+    starts: &mut [usize; STARTS],
     found: &mut [u16; SLOTS],
     pending: &mut [u16],
     listed: &mut [u16; FLAGS],
@@ -273,7 +267,6 @@ pub(crate) fn key_at(
         key_slots,
         rows,
         slots,
-        near,
         starts,
         found,
         pending,

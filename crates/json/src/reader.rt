@@ -9,7 +9,7 @@ use crate::members::FLAGS;
 use crate::members::KeyPart;
 use crate::members::key_at;
 use crate::rows::Part;
-use crate::rows::TEXTS;
+use crate::rows::STARTS;
 use crate::rows::close;
 use base::numbers::size;
 use base::text::byte_at;
@@ -21,12 +21,13 @@ use document::rows::Row;
 use document::words::CELLS;
 use jsontext::spaces::space_end;
 ghost use mathlib.Core.Path.{_≡_};
-ghost use mathlib.Core.Bool.{true, false, cond};
+ghost use mathlib.Core.Bool.{true, false, cond, _||_};
 ghost use mathlib.Core.List.{List, []};
 ghost use Prim.Native.Nat.{ℕ, _+_, _*_, _<_, _≤_};
+ghost use lib.Dec.{eqb};
 ghost use lib.ListN.{length, drop};
 ghost use Rattle.base.specs.Text.{byteAt};
-ghost use Rattle.classes.specs.Classes.{classTable};
+ghost use Rattle.classes.specs.Classes.{digit?, classTable};
 ghost use Rattle.names.specs.Lines.{lines};
 ghost use Rattle.json.specs.KeyTable.{KeyTable};
 ghost use Rattle.json.specs.Grammar.{opens?, value};
@@ -86,14 +87,14 @@ fn past_last(text: &[u8], classes: &[u8; 256], at: usize) -> Part
     Part::Refused(71, at)
 }
 
-// A value that is no object and no array, by its first byte.
-fn plain_value(
+// A value that is no object, no array and no number, by its first byte.
+fn text_or_word(
     text: &[u8],
     classes: &[u8; 256],
     rows: &mut [u16; CELLS],
     slots: &mut [u16; SLOTS],
     near: &mut [u16; NEAR],
-    starts: &mut [usize; TEXTS],
+    starts: &mut [usize; STARTS],
     found: &mut [u16; SLOTS],
     used: u16,
     texts: u16,
@@ -102,6 +103,7 @@ fn plain_value(
 ) -> Part
     requires holds { ⌜ Holds (now text) (now rows) (now slots) (now starts) (now found) used texts limit ⌝ }
     requires lent { ⌜ now classes ≡ classTable ⌝ }
+    requires other { ⌜ (eqb (byteAt (now text) at) 45 || digit? (byteAt (now text) at)) ≡ false ⌝ }
     ensures { λ r. ⌜ Says (now (text .entry)) (now (rows .exit)) (now (slots .exit)) (now (starts .exit)) (now (found .exit)) (now (starts .entry)) texts limit r (plainAt limit (now (text .entry)) at (builtIn (now (text .entry)) (now (rows .entry)) (now (starts .entry)) used texts)) ⌝ }
 {
     let b = byte_at(text, at);
@@ -111,7 +113,6 @@ fn plain_value(
             classes,
             rows,
             slots,
-            near,
             starts,
             found,
             used,
@@ -171,6 +172,28 @@ fn plain_value(
             Scalar::Bare,
         );
     }
+    Part::Refused(71, at)
+}
+
+// A value that is no object and no array: a number, which most are, or another.
+fn plain_value(
+    text: &[u8],
+    classes: &[u8; 256],
+    rows: &mut [u16; CELLS],
+    slots: &mut [u16; SLOTS],
+    near: &mut [u16; NEAR],
+    starts: &mut [usize; STARTS],
+    found: &mut [u16; SLOTS],
+    used: u16,
+    texts: u16,
+    limit: u16,
+    at: usize,
+) -> Part
+    requires holds { ⌜ Holds (now text) (now rows) (now slots) (now starts) (now found) used texts limit ⌝ }
+    requires lent { ⌜ now classes ≡ classTable ⌝ }
+    ensures { λ r. ⌜ Says (now (text .entry)) (now (rows .exit)) (now (slots .exit)) (now (starts .exit)) (now (found .exit)) (now (starts .entry)) texts limit r (plainAt limit (now (text .entry)) at (builtIn (now (text .entry)) (now (rows .entry)) (now (starts .entry)) used texts)) ⌝ }
+{
+    let b = byte_at(text, at);
     if (b == b'-') | is_digit(classes, b) {
         return number_leaf(
             text,
@@ -186,7 +209,29 @@ fn plain_value(
             at,
         );
     }
-    Part::Refused(71, at)
+    text_or_word(
+        text,
+        classes,
+        rows,
+        slots,
+        near,
+        starts,
+        found,
+        used,
+        texts,
+        limit,
+        at,
+    )
+}
+
+// The same answer, taken apart and made again: from here on its fields need not lie in memory, as those of a plain value need not.
+fn unpacked(part: Part) -> Part
+    ensures { λ r. ⌜ r ≡ part ⌝ }
+{
+    match part {
+        Part::Refused(w, p) => Part::Refused(w, p),
+        Part::Read(row, next, n, m) => Part::Read(row, next, n, m),
+    }
 }
 
 // The value at a place, of at most so many levels.
@@ -200,7 +245,7 @@ fn value(
     rows: &mut [u16; CELLS],
     slots: &mut [u16; SLOTS],
     near: &mut [u16; NEAR],
-    starts: &mut [usize; TEXTS],
+    starts: &mut [usize; STARTS],
     found: &mut [u16; SLOTS],
     pending: &mut [u16],
     frames: &mut [u16],
@@ -241,7 +286,7 @@ fn value(
                 closing(object),
             );
         }
-        return items(
+        return unpacked(items(
             text,
             classes,
             list,
@@ -262,7 +307,7 @@ fn value(
             i,
             object,
             false,
-        );
+        ));
     }
     plain_value(
         text,
@@ -289,8 +334,7 @@ fn head(
     limit: u16,
     rows: &mut [u16; CELLS],
     slots: &mut [u16; SLOTS],
-    near: &mut [u16; NEAR],
-    starts: &mut [usize; TEXTS],
+    starts: &mut [usize; STARTS],
     found: &mut [u16; SLOTS],
     pending: &mut [u16],
     listed: &mut [u16; FLAGS],
@@ -320,7 +364,6 @@ fn head(
         key_slots,
         rows,
         slots,
-        near,
         starts,
         found,
         pending,
@@ -355,7 +398,7 @@ pub(crate) fn items(
     rows: &mut [u16; CELLS],
     slots: &mut [u16; SLOTS],
     near: &mut [u16; NEAR],
-    starts: &mut [usize; TEXTS],
+    starts: &mut [usize; STARTS],
     found: &mut [u16; SLOTS],
     pending: &mut [u16],
     frames: &mut [u16],
@@ -394,7 +437,6 @@ pub(crate) fn items(
             limit,
             &mut *rows,
             &mut *slots,
-            &mut *near,
             &mut *starts,
             &mut *found,
             &mut *pending,

@@ -4,6 +4,7 @@ use base::limits::UNUSED;
 use base::text::byte_at;
 use document::Scalar;
 use document::builder::Placed;
+use document::fresh::add_new;
 use document::index::SLOTS;
 use document::near::NEAR;
 use document::near::place_row;
@@ -17,9 +18,9 @@ ghost use mathlib.Core.List.{[], _∷_, _++_};
 ghost use Prim.Native.Nat.{_<_};
 ghost use Rattle.model.specs.Table as table;
 ghost use Rattle.document.specs.Words.{Words};
-ghost use Rattle.json.specs.Signature.{textLeaf};
+ghost use Rattle.json.specs.Signature.{other, textLeaf};
 ghost use Rattle.json.specs.Grammar.{leafRow, nodeRow, finish, closeAt};
-ghost use Rattle.json.specs.State.{keyRows, builtIn, Holds, Old, Says};
+ghost use Rattle.json.specs.State.{keyRows, builtIn, Holds, Old, Says, partAfter};
 
 // What one cell holds, and what two do.
 const CELL: u64 = 65536;
@@ -28,6 +29,9 @@ const TWO_CELLS: u64 = 4294967296;
 
 // As many texts as a table has rows, since each has a row.
 pub(crate) const TEXTS: usize = MAX_ROWS as usize;
+
+// Where each text first stands, and behind that the row of its leaf.
+pub(crate) const STARTS: usize = 2 * TEXTS;
 
 // The symbol of an unlisted key.
 pub(crate) const OTHER: u16 = 2;
@@ -81,10 +85,22 @@ fn node(symbol: u16, key: Row, value: Row, rest: Row) -> RowWords
     }
 }
 
+// What becomes of a row that ends before `next`, by the builder's answer.
+fn part_after(placed: Placed, next: usize, used: u16, texts: u16) -> Part
+    requires { ⌜ (0 < next) × (used < 65535) ⌝ }
+    ensures { λ r. ⌜ r ≡ partAfter next used texts placed ⌝ }
+{
+    match placed {
+        Placed::Known(i) => Part::Read(i, next, used, texts),
+        Placed::Added(i) => Part::Read(i, next, used + 1, texts),
+        Placed::Full => Part::Refused(67, next - 1),
+    }
+}
+
 // The row of the words, which is not that of a text still to come, is finished before `next`.
 pub(crate) fn finish(
     text: &[u8],
-    starts: &[usize; TEXTS],
+    starts: &[usize; STARTS],
     found: &[u16; SLOTS],
     rows: &mut [u16; CELLS],
     slots: &mut [u16; SLOTS],
@@ -99,19 +115,16 @@ pub(crate) fn finish(
 ) -> Part
     requires holds { ⌜ Holds (now text) (now rows) (now slots) (now starts) (now found) used texts limit ⌝ }
     requires behind { ⌜ 0 < next ⌝ }
-    ensures { λ r. ⌜ ((x : table.Row) → Words x a b c → Old texts x → Says (now (text .entry)) (now (rows .exit)) (now (slots .exit)) (now (starts .entry)) (now (found .entry)) (now (starts .entry)) texts limit r (finish limit x next (builtIn (now (text .entry)) (now (rows .entry)) (now (starts .entry)) used texts))) ⌝ }
+    ensures { λ r. ⌜ ((x : table.Row) → Words x a b c → Old used texts x → Says (now (text .entry)) (now (rows .exit)) (now (slots .exit)) (now (starts .entry)) (now (found .entry)) (now (starts .entry)) texts limit r (finish limit x next (builtIn (now (text .entry)) (now (rows .entry)) (now (starts .entry)) used texts))) ⌝ }
 {
-    match place_row(rows, slots, near, used, limit, a, b, c) {
-        Placed::Known(i) => Part::Read(i, next, used, texts),
-        Placed::Added(i) => Part::Read(i, next, used + 1, texts),
-        Placed::Full => Part::Refused(67, next - 1),
-    }
+    let placed = place_row(rows, slots, near, used, limit, a, b, c);
+    part_after(placed, next, used, texts)
 }
 
-// The row of a member or an element, whose value and rest are read.
+// The row of a member or an element, whose value and rest are read. Over the last row it is new, since no row below has that one as a child.
 pub(crate) fn join(
     text: &[u8],
-    starts: &[usize; TEXTS],
+    starts: &[usize; STARTS],
     found: &[u16; SLOTS],
     rows: &mut [u16; CELLS],
     slots: &mut [u16; SLOTS],
@@ -128,10 +141,15 @@ pub(crate) fn join(
     requires holds { ⌜ Holds (now text) (now rows) (now slots) (now starts) (now found) used texts limit ⌝ }
     requires behind { ⌜ 0 < next ⌝ }
     requires plain { ⌜ (symbol ≡ textLeaf → ⊥) ⌝ }
-    requires inside { ⌜ (key .0 < 65535) × (value .0 < 65535) × (rest .0 < 65535) ⌝ }
+    requires inside { ⌜ (key .0 < 65535) × (value .0 < used) × (rest .0 < used) ⌝ }
+    requires own { ⌜ (symbol ≡ other → key .0 < used) ⌝ }
     ensures { λ r. ⌜ Says (now (text .entry)) (now (rows .exit)) (now (slots .exit)) (now (starts .entry)) (now (found .entry)) (now (starts .entry)) texts limit r (finish limit (nodeRow symbol ((keyRows symbol (key .0) ++ value .0 ∷ []) ++ rest .0 ∷ [])) next (builtIn (now (text .entry)) (now (rows .entry)) (now (starts .entry)) used texts)) ⌝ }
 {
     let w = node(symbol, key, value, rest);
+    if (value.0 + 1 == used) | (rest.0 + 1 == used) {
+        let placed = add_new(rows, slots, used, limit, w.a, w.b, w.c);
+        return part_after(placed, next, used, texts);
+    }
     finish(
         text,
         starts,
@@ -152,7 +170,7 @@ pub(crate) fn join(
 // The closing mark of an object or an array, and its leaf.
 pub(crate) fn close(
     text: &[u8],
-    starts: &[usize; TEXTS],
+    starts: &[usize; STARTS],
     found: &[u16; SLOTS],
     rows: &mut [u16; CELLS],
     slots: &mut [u16; SLOTS],

@@ -1,18 +1,18 @@
 // Texts that become leaves, numbered by first appearance after decoding: each is known by the place where it first stands, and an index finds it again.
 use crate::rows::Part;
+use crate::rows::STARTS;
 use crate::rows::TEXTS;
-use crate::rows::finish;
 use crate::rows::leaf;
 use base::numbers::size;
 use document::Scalar;
 use document::builder::Placed;
+use document::fresh::add_new;
 use document::index::SLOTS;
-use document::near::NEAR;
-use document::near::place_row;
+use document::rows::Row;
 use document::words::CELLS;
 use jsontext::decoded::same;
 ghost use mathlib.Core.Path.{_≡_};
-ghost use Prim.Native.Nat.{_<_};
+ghost use Prim.Native.Nat.{_+_, _<_};
 ghost use lib.ListN.{length, getD};
 ghost use Rattle.classes.specs.Classes.{classTable};
 ghost use Rattle.document.specs.Index.{probe};
@@ -34,24 +34,33 @@ pub(crate) enum TextProbed {
 }
 
 // The place where a text first stands; 0 for a number that no text has.
-fn start_of(starts: &[usize; TEXTS], k: u16) -> usize
-    requires size { ⌜ length (now starts) ≡ 1024 ⌝ }
+fn start_of(starts: &[usize; STARTS], k: u16) -> usize
+    requires size { ⌜ length (now starts) ≡ 2048 ⌝ }
     ensures { λ r. ⌜ r ≡ getD (now (starts .entry)) k 0 ⌝ }
 {
     let i = size(k);
-    if i < TEXTS { starts[i] } else { 0 }
+    if i < STARTS { starts[i] } else { 0 }
+}
+
+// The row of a text's leaf.
+fn row_of(starts: &[usize; STARTS], k: u16) -> Row
+    requires size { ⌜ length (now starts) ≡ 2048 ⌝ }
+    requires numbered { ⌜ (k < 1024) × (getD (now starts) (1024 + k) 0 < 65536) ⌝ }
+    ensures { λ r. ⌜ r .0 ≡ getD (now (starts .entry)) (1024 + k) 0 ⌝ }
+{
+    Row(starts[TEXTS + size(k)] as u16)
 }
 
 // Looks for the text of the string at a place, from its slot on.
 pub(crate) fn look_up(
     text: &[u8],
     classes: &[u8; 256],
-    starts: &[usize; TEXTS],
+    starts: &[usize; STARTS],
     found: &[u16; SLOTS],
     slot: u16,
     at: usize,
 ) -> TextProbed
-    requires size { ⌜ length (now starts) ≡ 1024 ⌝ }
+    requires size { ⌜ length (now starts) ≡ 2048 ⌝ }
     requires lent { ⌜ now classes ≡ classTable ⌝ }
     ensures { λ r. ⌜ probedOf r ≡ probe (now (found .entry)) (λ k. sameText (stringAt (now (text .entry)) at) (stringAt (now (text .entry)) (getD (now (starts .entry)) k 0))) slot ⌝ }
 {
@@ -75,8 +84,7 @@ fn new_text(
     text: &[u8],
     rows: &mut [u16; CELLS],
     slots: &mut [u16; SLOTS],
-    near: &mut [u16; NEAR],
-    starts: &mut [usize; TEXTS],
+    starts: &mut [usize; STARTS],
     found: &mut [u16; SLOTS],
     used: u16,
     texts: u16,
@@ -91,10 +99,12 @@ fn new_text(
     ensures { λ r. ⌜ Says (now (text .entry)) (now (rows .exit)) (now (slots .exit)) (now (starts .exit)) (now (found .exit)) (now (starts .entry)) texts limit r (afterText limit (builtIn (now (text .entry)) (now (rows .entry)) (now (starts .entry)) used texts) (stringAt (now (text .entry)) at)) ⌝ }
 {
     let w = leaf(TEXT, Scalar::Name(texts as u32));
-    match place_row(rows, slots, near, used, limit, w.a, w.b, w.c) {
+    match add_new(rows, slots, used, limit, w.a, w.b, w.c) {
         Placed::Known(_) => Part::Refused(67, next - 1),
         Placed::Added(i) => {
-            starts[size(texts)] = at;
+            let k = size(texts);
+            starts[k] = at;
+            starts[TEXTS + k] = size(used);
             found[free] = texts + 1;
             Part::Read(i, next, used + 1, texts + 1)
         },
@@ -107,8 +117,7 @@ pub(crate) fn text_leaf(
     text: &[u8],
     rows: &mut [u16; CELLS],
     slots: &mut [u16; SLOTS],
-    near: &mut [u16; NEAR],
-    starts: &mut [usize; TEXTS],
+    starts: &mut [usize; STARTS],
     found: &mut [u16; SLOTS],
     used: u16,
     texts: u16,
@@ -123,29 +132,11 @@ pub(crate) fn text_leaf(
     ensures { λ r. ⌜ Says (now (text .entry)) (now (rows .exit)) (now (slots .exit)) (now (starts .exit)) (now (found .exit)) (now (starts .entry)) texts limit r (afterText limit (builtIn (now (text .entry)) (now (rows .entry)) (now (starts .entry)) used texts) (stringAt (now (text .entry)) at)) ⌝ }
 {
     match probed {
-        TextProbed::Known(k) => {
-            let w = leaf(TEXT, Scalar::Name(k as u32));
-            finish(
-                text,
-                &*starts,
-                &*found,
-                rows,
-                slots,
-                near,
-                used,
-                texts,
-                limit,
-                next,
-                w.a,
-                w.b,
-                w.c,
-            )
-        },
+        TextProbed::Known(k) => Part::Read(row_of(&*starts, k), next, used, texts),
         TextProbed::Free(free) => new_text(
             text,
             rows,
             slots,
-            near,
             starts,
             found,
             used,

@@ -10,8 +10,8 @@ use Rattle.base.specs.Text.{byteAt, got}
 use Rattle.base.proofs.Tenths.{tenth-fits, tenth-past}
 use Rattle.classes.specs.Classes.{digit?}
 use Rattle.jsontext.specs.Number.{Digits, withDigit, digitsFrom}
-use Rattle.jsontext.specs.NumberAnswer.{carried, carriedAt, Bounded}
-use Rattle.jsontext.proofs.Rates.{power-more}
+use Rattle.jsontext.specs.NumberAnswer.{Short, carried, carriedAt, Bounded}
+use Rattle.jsontext.proofs.Rates.{power-more, power-below}
 use Rattle.jsontext.specs.declared.number.DigitRun.{DigitRun}
 use Rattle.jsontext.specs.declared.number.DigitsRead.the-variants.{Digits as Run}
 
@@ -33,7 +33,7 @@ module _ (r : DigitRun) (b x : ℕ) (value : x ≡ b - 48) (d : Digits) (held : 
       let l : 2 ^ 64 ≤ d .value * 10 + (b - 48) = omega (arith, v-is) in
       same-run (omega arith) (sym (le-ltb _ _ l)) (ap (λ (s : DigitRun). s .count + 1) held)
 
-  pub carry-fits : x ≤ 9 → r .value ≤ (2 ^ 64 - 1 - x) / 10 → run (r .value * 10 + x) (r .fits) (r .count + 1) ≡ carried (withDigit d b)
+  pub carry-fits : x ≤ 15 → r .value ≤ (2 ^ 64 - 1 - x) / 10 → run (r .value * 10 + x) (r .fits) (r .count + 1) ≡ carried (withDigit d b)
   carry-fits s h =
       let k : r .value * 10 + x ≤ 2 ^ 64 - 1 = tenth-fits _ _ _ (omega arith) h in
       let w : r .value ≡ d .value = omega (arith, v-is) in
@@ -41,20 +41,24 @@ module _ (r : DigitRun) (b x : ℕ) (value : x ≡ b - 48) (d : Digits) (held : 
       same-run (omega arith) (ap (λ (s : DigitRun). s .fits) held ∙ lt-ltb (d .value) (2 ^ 64) (omega arith) ∙ sym (lt-ltb _ _ l)) (ap (λ (s : DigitRun). s .count + 1) held)
 
 -- a value that is no longer than its digits stays so, and so does 2^64 - 1 where it stands for a larger one
-module _ (v n x : ℕ) (small : v < 10 ^ n) (few : x ≤ 9) where
-  pub more-small : v * 10 + x < 10 ^ (n + 1)
-  more-small = let p = power-more n in omega arith
+module _ (v n : ℕ) (short : Short v n) where
+  pub short-up : (k : ℕ) → n ≤ k → Short v k
+  short-up k l = let p = power-below n k l in omega arith
 
-  pub past-small : (2 ^ 64 - 1 - x) / 10 < v → 2 ^ 64 - 1 < 10 ^ (n + 1)
-  past-small h = let k : 2 ^ 64 - 1 < v * 10 + x = tenth-past _ _ _ h in omega (arith, more-small)
+  module _ (x : ℕ) (few : x ≤ 15) where
+    pub short-more : Short (v * 10 + x) (n + 1)
+    short-more = let p = power-more n in omega arith
+
+    pub short-past : (2 ^ 64 - 1 - x) / 10 < v → Short (2 ^ 64 - 1) (n + 1)
+    short-past h = let k : 2 ^ 64 - 1 < v * 10 + x = tenth-past _ _ _ h in omega (arith, short-more)
 
 -- one digit
 module _ (t : List ℕ) (d : Digits) (i n : ℕ) where
-  no-digit : digit? (byteAt t i) ≡ false → digitsFrom (suc n) t d i ≡ got d i
+  pub no-digit : digit? (byteAt t i) ≡ false → digitsFrom (suc n) t d i ≡ got d i
   unfolding digitsFrom
   no-digit e = rw (digitsFrom, e)
 
-  next-digit : digit? (byteAt t i) ≡ true → digitsFrom (suc n) t d i ≡ digitsFrom n t (withDigit d (byteAt t i)) (i + 1)
+  pub next-digit : digit? (byteAt t i) ≡ true → digitsFrom (suc n) t d i ≡ digitsFrom n t (withDigit d (byteAt t i)) (i + 1)
   unfolding digitsFrom
   next-digit e = rw (digitsFrom, e)
 
@@ -92,11 +96,11 @@ module _ (lent : Type 0) (t : List ℕ) (before : DigitRun) (at : ℕ) where
       pub scanned-stop : digit? (byteAt t i) ≡ false → lent → (d : Digits) → before ≡ carried d → Run r i ≡ carriedAt (digitsFrom (length t - at) t d at)
       scanned-stop e x d b = answered x d b (λ s. ap (λ (n : ℕ). digitsFrom n t s i) one-left ∙ no-digit t s i _ e)
 
-      pub scanned-more : (lent → digit? (byteAt t i) ≡ true) → (s : DigitRun) → s .count ≡ r .count + 1 → s .value < 10 ^ (s .count)
+      pub scanned-more : (lent → digit? (byteAt t i) ≡ true) → (s : DigitRun) → s .count ≡ r .count + 1 → Short (s .value) (s .count)
           → (digit? (byteAt t i) ≡ true → (d : Digits) → r ≡ carried d → s ≡ carried (withDigit d (byteAt t i))) → Scanned lent t before at s (i + 1)
-      scanned-more e s n small more =
+      scanned-more e s n short more =
           record {
-            bounded = record { small = small; few = omega (arith, v .bounded .few) };
+            bounded = record { short = short; few = omega (arith, v .bounded .few) };
             more = omega (arith, v .more);
             left = λ x d b.
                 let l = v .left x d b in

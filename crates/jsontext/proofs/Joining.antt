@@ -126,8 +126,11 @@ module _ (n : ℕ) (h : n < 8) where
   pub cut-some : 0 < 1 * 2 ^ (8 * n) % 2 ^ 64
   cut-some = rw one-shifted (one-le-pow n 256 (omega arith))
 
-pub word-cut : (t : List ℕ) → Bytes t → (i n w : ℕ) → n < 8 → w ≡ joinBytes (take 8 (drop i t)) → w % (1 * 2 ^ (8 * n) % 2 ^ 64) ≡ joinBytes (take n (drop i t))
-word-cut t v i n w h e =
-    ap (λ (m : ℕ). w % m) (one-shifted n h) ∙ ap (λ (m : ℕ). m % 256 ^ n) e
+pub word-front : (t : List ℕ) → Bytes t → (i n w : ℕ) → n ≤ 8 → w ≡ joinBytes (take 8 (drop i t)) → w % 2 ^ (8 * n) ≡ joinBytes (take n (drop i t))
+word-front t v i n w h e =
+    ap₂ (λ (x y : ℕ). x % y) e (pow-256 n)
     ∙ sym (join-take n (take 8 (drop i t)) (bytes-take 8 (drop i t) (bytes-drop i t v)))
-    ∙ ap joinBytes (take-take n 8 (drop i t) (omega arith))
+    ∙ ap joinBytes (take-take n 8 (drop i t) h)
+
+pub word-cut : (t : List ℕ) → Bytes t → (i n w : ℕ) → n < 8 → w ≡ joinBytes (take 8 (drop i t)) → w % (1 * 2 ^ (8 * n) % 2 ^ 64) ≡ joinBytes (take n (drop i t))
+word-cut t v i n w h e = ap (λ (m : ℕ). w % m) (one-shifted n h ∙ sym (pow-256 n)) ∙ word-front t v i n w (omega arith) e

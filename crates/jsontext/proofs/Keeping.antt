@@ -138,7 +138,7 @@ module _ (bs xs : List ℕ) (k : Kept) (v : Keeps bs k) (u : Bytes xs) (n b z c 
       }
 
 -- ---- bytes of a text
-drop-take : (k n : ℕ) (l : List ℕ) → drop k (take (k + n) l) ≡ take n (drop k l)
+pub drop-take : (k n : ℕ) (l : List ℕ) → drop k (take (k + n) l) ≡ take n (drop k l)
 drop-take zero n l = let z : 0 + n ≡ n = omega arith in rw z
 drop-take (suc k) n [] = ap (drop (suc k)) (take-nil {A = ℕ} (suc k + n)) ∙ sym (take-nil {A = ℕ} n)
 drop-take (suc k) n (x ∷ l) = let z : suc k + n ≡ suc (k + n) = omega arith in rw z (drop-take k n l)

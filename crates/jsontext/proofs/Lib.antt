@@ -20,6 +20,7 @@ pub mod NumberWays
 pub mod NumberSizes
 pub mod NumberParts
 pub mod NumberScalars
+pub mod ShortRuns
 pub mod Packing
 pub mod WellFormed
 pub mod Agreeing
@@ -32,3 +33,4 @@ pub mod DecodedSlots
 pub mod Bytewise
 pub mod StringEnds
 pub mod Writing
+pub mod Quoting

@@ -12,9 +12,9 @@ use Rattle.document.specs.Scalars.{rowRate}
 use Rattle.document.specs.declared.scalar.Scalar.{Scalar}
 use Rattle.document.specs.declared.scalar.Scalar.the-variants.{Count}
 use Rattle.jsontext.specs.Number.{Digits, Number, withExponent, plainNumber, count?, decimal?, rate, numberScalar, asScalar}
-use Rattle.jsontext.specs.NumberAnswer.{carried}
+use Rattle.jsontext.specs.NumberAnswer.{Short, carried}
 use Rattle.jsontext.specs.declared.number.DigitRun.{DigitRun}
-use Rattle.jsontext.proofs.NumberSizes.{few-digits}
+use Rattle.jsontext.proofs.DigitRuns.{short-up}
 
 -- a number with an exponent is neither a count nor a rate
 abbrev raised : Number → Number
@@ -74,10 +74,10 @@ module _ (s f : Bool) (k : ℕ) (r : DigitRun) (d : Digits) (held : r ≡ carrie
     unfolding numberScalar decimal?
     as-none h = rw (numberScalar, none-counts, lt-leb (d .count) 15 (omega (arith, n-is)))
 
-    pub as-rate : r .count ≤ 15 → r .value < 10 ^ (r .count) → (x : Float) (bits : ℕ) (leaf : Scalar) → x ≡ rate s (r .value) k → bits ≡ toBits binary64 x → leaf ≡ rowRate bits → got (some leaf) next ≡ got (numberScalar (plainNumber s d k f)) next
+    pub as-rate : r .count ≤ 15 → Short (r .value) (r .count) → (x : Float) (bits : ℕ) (leaf : Scalar) → x ≡ rate s (r .value) k → bits ≡ toBits binary64 x → leaf ≡ rowRate bits → got (some leaf) next ≡ got (numberScalar (plainNumber s d k f)) next
     unfolding numberScalar decimal?
-    as-rate h small x bits leaf p q l =
-        let low = few-digits (r .value) (r .count) small h in
+    as-rate h short x bits leaf p q l =
+        let low = short-up (r .value) (r .count) short 15 h in
         let v : r .value ≡ d .value = omega (arith, v-is) in
         let m : leaf ≡ rowRate (toBits binary64 (rate s (d .value) k)) = l ∙ ap rowRate (q ∙ ap (toBits binary64) (p ∙ ap (λ (n : ℕ). rate s n k) v)) in
         rw (numberScalar, none-counts, le-leb (d .count) 15 (omega (arith, n-is)), m)

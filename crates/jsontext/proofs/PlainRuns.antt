@@ -13,7 +13,7 @@ use Rattle.base.specs.Text.{byteAt}
 use Rattle.jsontext.specs.Strings.{plain?}
 use Rattle.jsontext.specs.StringAnswers.{Plains}
 
-below-or-not : (k i : ℕ) → (k < i) ⊎ (i ≤ k)
+pub below-or-not : (k i : ℕ) → (k < i) ⊎ (i ≤ k)
 below-or-not k i = go (ltb k i) refl
   where
     go : (b : Bool) → ltb k i ≡ b → (k < i) ⊎ (i ≤ k)

@@ -24,9 +24,9 @@ pub power-below : (k n : ℕ) → k ≤ n → 10 ^ k ≤ 10 ^ n
 power-below k n h = pow-le-pow-right {n = 10} (omega arith) {i = k} {j = n} h
 
 -- a whole number up to 2^53 becomes an f64 without loss: what the cast asks, and the value it has
-pub whole : (n : ℕ) → n ≤ 10 ^ 15 → T (inFloat binary64 (pos n))
+pub whole : (n : ℕ) → n ≤ 2 ^ 53 → T (inFloat binary64 (pos n))
 unfolding inFloat
-whole n h = le→leb n (2 ^ 53) (omega arith)
+whole n h = le→leb n (2 ^ 53) h
 
 pub exact : (n : ℕ) → n ≤ 2 ^ 53 → HasValue (ofInt binary64 (pos n)) false n 1
 unfolding ofInt

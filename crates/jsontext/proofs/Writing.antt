@@ -1,13 +1,13 @@
 -- Bytes of two texts that agree and stand for themselves, word by word, and the string that they are between quotes. Assumes nothing.
 use mathlib.Core.Path.{_≡_, refl, sym, ap, ap₂, _∙_, subst}
 use mathlib.Core.Bool.{true}
-use mathlib.Core.List.{List, [], _∷_, _++_, map}
-use Prim.Native.Nat.{ℕ, zero, suc, _+_, _-_, _*_, _/_, _%_, _^_, _<_, _≤_}
+use mathlib.Core.List.{List, _++_, map}
+use Prim.Native.Nat.{ℕ, _+_, _-_, _*_, _/_, _%_, _^_, _<_, _≤_}
 use native.Mathlib.Nat.{zero-div}
 use native.Mathlib.Omega.{arith}
 use lib.Pow.{field, shl-shr}
 use lib.ListN.{length, take, drop, length-take, length-drop}
-use lib.Seq.{take-take, getD-take, getD-drop}
+use lib.Seq.{getD-take, getD-drop}
 use Rattle.base.specs.Text.{byteAt, got}
 use Rattle.jsontext.specs.Strings.{plain?, stringAt}
 use Rattle.jsontext.specs.Decoded.{joinBytes}
@@ -19,7 +19,7 @@ use Rattle.jsontext.specs.Kept.{Bytes}
 use Rattle.jsontext.proofs.Ways.{piece-closed}
 use Rattle.jsontext.proofs.PlainRuns.{plains-join}
 use Rattle.jsontext.proofs.Scanning.{part-join, scan-start, scan-closed}
-use Rattle.jsontext.proofs.Joining.{bytes-tail, join-take, bytes-take, bytes-drop, pow-256}
+use Rattle.jsontext.proofs.Joining.{join-same, word-front, bytes-take, bytes-drop}
 use Rattle.jsontext.proofs.Bytewise.{plain-below}
 use Rattle.jsontext.proofs.Comparing.{running-begin, running-alike}
 
@@ -44,41 +44,24 @@ module _ (s : List ℕ) (i : ℕ) (t : List ℕ) (n m o : ℕ) (e : o ≡ n + m)
 
 -- ---- words
 -- the bytes shifted out leave the others
-shifted : (x n : ℕ) → n ≤ 8 → x * 2 ^ (64 - 8 * n) % 2 ^ 64 / 2 ^ (64 - 8 * n) ≡ x % 2 ^ (8 * n)
+pub shifted : (x n : ℕ) → n ≤ 8 → x * 2 ^ (64 - 8 * n) % 2 ^ 64 / 2 ^ (64 - 8 * n) ≡ x % 2 ^ (8 * n)
 shifted x n h =
     let e : 64 ≡ 8 * n + (64 - 8 * n) = omega arith in
     ap (λ (k : ℕ). x * 2 ^ (64 - 8 * n) % 2 ^ k / 2 ^ (64 - 8 * n)) e
     ∙ field (x * 2 ^ (64 - 8 * n)) (8 * n) (64 - 8 * n)
     ∙ ap (λ (k : ℕ). k % 2 ^ (8 * n)) (shl-shr x (64 - 8 * n))
 
-joined-same : (xs ys : List ℕ) → Bytes xs → Bytes ys → length xs ≡ length ys → joinBytes xs ≡ joinBytes ys → xs ≡ ys
-joined-same [] [] p q h e = refl
-joined-same [] (y ∷ ys) p q h e = absurd (omega arith)
-joined-same (x ∷ xs) [] p q h e = absurd (omega arith)
-joined-same (x ∷ xs) (y ∷ ys) p q h e =
-    let a : x < 256 = p 0 (omega arith) in
-    let b : y < 256 = q 0 (omega arith) in
-    let c : x ≡ y = omega arith in
-    let d : joinBytes xs ≡ joinBytes ys = omega arith in
-    ap₂ (λ (z : ℕ) (zs : List ℕ). z ∷ zs) c (joined-same xs ys (bytes-tail x xs p) (bytes-tail y ys q) (omega arith) d)
-
 -- the first n of eight bytes at two places
 module _ (s : List ℕ) (i : ℕ) (t : List ℕ) (j n : ℕ) (few : n ≤ 8) (first : i + 8 ≤ length s) (second : j + 8 ≤ length t) where
   eight : (l : List ℕ) (k : ℕ) → k + 8 ≤ length l → length (take n (drop k l)) ≡ n
   eight l k h = omega (arith, length-take n (drop k l), length-drop k l)
 
-  low : (l : List ℕ) (k w : ℕ) → Bytes l → w ≡ joinBytes (take 8 (drop k l)) → w % 2 ^ (8 * n) ≡ joinBytes (take n (drop k l))
-  low l k w b e =
-      ap₂ (λ (x y : ℕ). x % y) e (pow-256 n)
-      ∙ sym (join-take n (take 8 (drop k l)) (bytes-take 8 (drop k l) (bytes-drop k l b)))
-      ∙ ap joinBytes (take-take n 8 (drop k l) few)
-
   module _ (p : Bytes s) (q : Bytes t) (v w : ℕ) (e : v ≡ joinBytes (take 8 (drop i s))) (f : w ≡ joinBytes (take 8 (drop j t)))
       (same : v * 2 ^ (64 - 8 * n) % 2 ^ 64 ≡ w * 2 ^ (64 - 8 * n) % 2 ^ 64) where
     agree : take n (drop i s) ≡ take n (drop j t)
     agree =
-        joined-same (take n (drop i s)) (take n (drop j t)) (bytes-take n (drop i s) (bytes-drop i s p)) (bytes-take n (drop j t) (bytes-drop j t q)) (eight s i first ∙ sym (eight t j second))
-        (sym (low s i v p e) ∙ sym (shifted v n few) ∙ ap (λ (k : ℕ). k / 2 ^ (64 - 8 * n)) same ∙ shifted w n few ∙ low t j w q f)
+        join-same (take n (drop i s)) (take n (drop j t)) (bytes-take n (drop i s) (bytes-drop i s p)) (bytes-take n (drop j t) (bytes-drop j t q)) (eight s i first ∙ sym (eight t j second))
+        (sym (word-front s p i n v few e) ∙ sym (shifted v n few) ∙ ap (λ (k : ℕ). k / 2 ^ (64 - 8 * n)) same ∙ shifted w n few ∙ word-front t q j n w few f)
 
     module _ (m : ℕ) (g : m ≡ joinBytes (map mark (take 8 (drop j t)))) (none : m * 2 ^ (64 - 8 * n) % 2 ^ 64 ≡ 0) where
       plain-there : (k : ℕ) → k < n → plain? (byteAt (drop j t) k) ≡ true

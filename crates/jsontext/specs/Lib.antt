@@ -12,3 +12,4 @@ pub mod StringAnswers
 pub mod Compared
 pub mod Chars
 pub mod Kept
+pub mod Tokens

@@ -1,4 +1,8 @@
 // A JSON number at a place of a text, and the scalar that it becomes.
+use crate::digits::FITTING;
+use crate::digits::ShortRun;
+use crate::digits::digit_value;
+use crate::digits::few_digits;
 use crate::rate::rate;
 use base::text::byte_at;
 use classes::is_digit;
@@ -10,14 +14,14 @@ ghost use mathlib.Core.Bool.{true};
 ghost use Prim.Native.Nat.{_+_, _-_, _/_, _<_, _≤_, _^_};
 ghost use lib.Dec.{ltb};
 ghost use lib.ListN.{length};
-ghost use Rattle.base.specs.Text.{got};
+ghost use Rattle.base.specs.Text.{byteAt, got};
 ghost use Rattle.classes.specs.Classes.{digit?, classTable};
 ghost use Rattle.jsontext.specs.Number.{Digits, Number, noDigits, withDigit, digitsFrom, someDigits, wholeAt, signEnd, withExponent, plainNumber, exponentAt, fractionAt, afterWhole, numberAt, numberScalar, asScalar};
-ghost use Rattle.jsontext.specs.NumberAnswer.{carried, carriedAt, Bounded, BoundedFrom, numberOf};
+ghost use Rattle.jsontext.specs.NumberAnswer.{Short, ShortWhole, Begins, carried, carriedAt, Bounded, BoundedFrom, numberOf};
 
 const MAX_COUNT: u64 = 18446744073709551615;
 
-// A tenth of what the greatest digit leaves of it.
+// A tenth of what the greatest value of a digit, 15 where any byte is taken for one, leaves of it.
 const TENTH: u64 = 1844674407370955160;
 
 // The most digits of a rate.
@@ -36,25 +40,17 @@ pub(crate) enum DigitsRead {
     Fault(usize),
 }
 
-// A number's scalar and the place after it; the place after a number that becomes none; or the place of the byte that no rule allows.
+// A number's scalar and the place after it, a count told as it is where it was read in the short way; the place after a number that becomes none; or the place of the byte that no rule allows.
 pub enum NumberRead {
+    Counted(u64, usize),
     Is(Scalar, usize),
     Outside(usize),
     Fault(usize),
 }
 
-// The value of a digit; at most 9 for every byte.
-fn digit_value(b: u8) -> u64
-    ensures few { λ r. ⌜ r ≤ 9 ⌝ }
-    ensures { λ r. ⌜ (digit? b ≡ true → r ≡ b - 48) ⌝ }
-{
-    let x = (b % 16) as u64;
-    if x > 9 { 9 } else { x }
-}
-
 // Whether a digit of value x takes a number past 2^64 - 1: up to a tenth of that none does, which most numbers show without a division.
 fn is_past(value: u64, x: u64) -> bool
-    requires { ⌜ x ≤ 9 ⌝ }
+    requires { ⌜ x ≤ 15 ⌝ }
     ensures { λ r. ⌜ r ≡ ltb ((2 ^ 64 - 1 - x) / 10) value ⌝ }
 {
     if value <= TENTH {
@@ -65,9 +61,9 @@ fn is_past(value: u64, x: u64) -> bool
 
 // A digit more.
 fn with_digit(digits: DigitRun, b: u8) -> DigitRun
-    requires { ⌜ (digits .value < 10 ^ (digits .count)) × (digits .count < 2 ^ 64 - 1) ⌝ }
+    requires { ⌜ Short (digits .value) (digits .count) × (digits .count < 2 ^ 64 - 1) ⌝ }
     ensures counted { λ r. ⌜ r .count ≡ digits .count + 1 ⌝ }
-    ensures small { λ r. ⌜ r .value < 10 ^ (r .count) ⌝ }
+    ensures short { λ r. ⌜ Short (r .value) (r .count) ⌝ }
     ensures held { λ r. ⌜ (digit? b ≡ true → (d : Digits) → digits ≡ carried d → r ≡ carried (withDigit d b)) ⌝ }
 {
     let x = digit_value(b);
@@ -167,7 +163,7 @@ fn as_scalar(
     fraction: bool,
     next: usize,
 ) -> NumberRead
-    requires { ⌜ (digits .value < 10 ^ (digits .count)) × (places ≤ digits .count) ⌝ }
+    requires { ⌜ Short (digits .value) (digits .count) × (places ≤ digits .count) ⌝ }
     ensures { λ r. ⌜ ((d : Digits) → digits ≡ carried d → numberOf r ≡ got (numberScalar (plainNumber negative d places fraction)) next) ⌝ }
 {
     if !negative & !fraction & digits.fits {
@@ -212,7 +208,7 @@ fn behind_digits(
     fraction: bool,
     at: usize,
 ) -> NumberRead
-    requires { ⌜ (digits .value < 10 ^ (digits .count)) × (places ≤ digits .count) ⌝ }
+    requires { ⌜ Short (digits .value) (digits .count) × (places ≤ digits .count) ⌝ }
     ensures { λ r. ⌜ (now (classes .entry) ≡ classTable → ((d : Digits) → digits ≡ carried d → numberOf r ≡ asScalar (exponentAt (now (text .entry)) (plainNumber negative d places fraction) at))) ⌝ }
 {
     let b = byte_at(text, at);
@@ -255,12 +251,76 @@ fn behind_sign(text: &[u8], classes: &[u8; 256], negative: bool, at: usize) -> N
     }
 }
 
-// The number at a place, the longest one, as a scalar.
-pub fn number(text: &[u8], classes: &[u8; 256], at: usize) -> NumberRead
+// The number at a place, however long it is.
+fn any_number(text: &[u8], classes: &[u8; 256], at: usize) -> NumberRead
     ensures { λ r. ⌜ (now (classes .entry) ≡ classTable → numberOf r ≡ asScalar (numberAt (now (text .entry)) at)) ⌝ }
 {
     if byte_at(text, at) == b'-' {
         return behind_sign(text, classes, true, at + 1);
     }
     behind_sign(text, classes, false, at)
+}
+
+// The whole part at a place, without sign and with at most 18 digits, before the last bytes of the text; place 0 for any other.
+fn short_whole(text: &[u8], classes: &[u8; 256], at: usize) -> ShortRun
+    ensures placed { λ r. ⌜ ((r .end ≡ 0 → ⊥) → ShortWhole (now (text .entry)) at r) ⌝ }
+    ensures { λ r. ⌜ (now (classes .entry) ≡ classTable → (r .end ≡ 0 → ⊥) → Begins (now (text .entry)) at r) ⌝ }
+{
+    let none = ShortRun { value: 0, end: 0 };
+    if text.len() < FITTING {
+        return none;
+    }
+    if at > text.len() - FITTING {
+        return none;
+    }
+    let last = at + FITTING;
+    let run = few_digits(text, classes, 0, at, last);
+    let next = run.end;
+    if (next == at) | (next == last) {
+        return none;
+    }
+    if (text[at] == b'0') & (next > at + 1) {
+        return none;
+    }
+    run
+}
+
+// The number at a place, whose whole part is short and has a point behind it: in the short way where all its digits are before place at + 19.
+fn short_fraction(text: &[u8], classes: &[u8; 256], at: usize, whole: ShortRun) -> NumberRead
+    requires { ⌜ ShortWhole (now text) at whole ⌝ }
+    ensures { λ r. ⌜ (now (classes .entry) ≡ classTable → Begins (now (text .entry)) at whole → byteAt (now (text .entry)) (whole .end) ≡ 46 → numberOf r ≡ asScalar (numberAt (now (text .entry)) at)) ⌝ }
+{
+    let first = whole.end + 1;
+    let last = at + FITTING;
+    let run = few_digits(text, classes, whole.value, first, last);
+    let next = run.end;
+    if (next == first) | (next == last) {
+        return any_number(text, classes, at);
+    }
+    let value = run.value;
+    let all = DigitRun {
+        value: value,
+        fits: true,
+        count: next - at - 1,
+    };
+    behind_digits(text, classes, false, all, next - first, true, next)
+}
+
+// The number at a place, the longest one, as a scalar. A short one is read in a shorter way, and a short count is told as it is.
+pub fn number(text: &[u8], classes: &[u8; 256], at: usize) -> NumberRead
+    ensures { λ r. ⌜ (now (classes .entry) ≡ classTable → numberOf r ≡ asScalar (numberAt (now (text .entry)) at)) ⌝ }
+{
+    let run = short_whole(text, classes, at);
+    let next = run.end;
+    if next == 0 {
+        return any_number(text, classes, at);
+    }
+    let b = text[next];
+    if b == b'.' {
+        return short_fraction(text, classes, at, run);
+    }
+    if (b == b'e') | (b == b'E') {
+        return any_number(text, classes, at);
+    }
+    NumberRead::Counted(run.value, next)
 }

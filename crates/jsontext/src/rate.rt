@@ -19,7 +19,7 @@ fn power_of_ten(places: usize) -> u64
 
 // Both become f64 without loss, and the division rounds once.
 fn quotient(digits: u64, power: u64) -> f64
-    requires { ⌜ (digits < 10 ^ 15) × (power ≤ 10 ^ 15) ⌝ }
+    requires { ⌜ (digits ≤ 2 ^ 53) × (power ≤ 10 ^ 15) ⌝ }
     ensures { λ r. ⌜ r ≡ quotient digits power ⌝ }
 {
     (digits as f64) / (power as f64)
@@ -27,7 +27,7 @@ fn quotient(digits: u64, power: u64) -> f64
 
 // The rate of a number with these digits, so many of them behind the point.
 pub(crate) fn rate(negative: bool, digits: u64, places: usize) -> f64
-    requires { ⌜ (digits < 10 ^ 15) × (places ≤ 15) ⌝ }
+    requires { ⌜ (digits ≤ 2 ^ 53) × (places ≤ 15) ⌝ }
     ensures { λ r. ⌜ r ≡ rate negative digits places ⌝ }
 {
     let x = quotient(digits, power_of_ten(places));

@@ -14,7 +14,7 @@ use Rattle.json.proofs.read_text.Statement.{statement}
 use Rattle.json.proofs.read_text.Tie as tie
 
 items-requires : tie.Need-items-requires
-items-requires c κs = (holds-none (now (c .before .before .before .before .before .before .before .before .before .before .before .before .before .before .args .rows)) _ (c .before .before .before .before .before .before .before .before .before .row-limit .ensures) _ _ _ (length-replicate {A = ℕ} (maxRows * rowCells) 0) (length-replicate {A = ℕ} maxRows 0), (c .before .before .before .before .before .before .before .before .before .before .before .before .before .before .pre .0, (c .before .before .before .before .before .before .before .before .before .before .before .before .before .before .pre .1, ((omega arith, omega (arith, length-replicate {A = ℕ} maxLevels 0), omega (arith, length-replicate {A = ℕ} (maxLevels * 3) 0)), (λ a. no-object (sym a), λ a. refl)))))
+items-requires c κs = (holds-none (now (c .before .before .before .before .before .before .before .before .before .before .before .before .before .before .args .rows)) _ (c .before .before .before .before .before .before .before .before .before .row-limit .ensures) _ _ _ (length-replicate {A = ℕ} (maxRows * rowCells) 0) (length-replicate {A = ℕ} (2 * maxRows) 0), (c .before .before .before .before .before .before .before .before .before .before .before .before .before .before .pre .0, (c .before .before .before .before .before .before .before .before .before .before .before .before .before .before .pre .1, ((omega arith, omega (arith, length-replicate {A = ℕ} maxLevels 0), omega (arith, length-replicate {A = ℕ} (maxLevels * 3) 0)), (λ a. no-object (sym a), λ a. refl)))))
 
 returns : tie.Need-returns
 returns c =

@@ -6,14 +6,14 @@ use Prim.Native.Nat.{_-_}
 use Rattle.json.specs.Grammar.{good}
 use Rattle.json.specs.State.{builtIn}
 use Rattle.json.specs.Frames.{joins}
-use Rattle.json.proofs.Holding.{said, said-no, small}
+use Rattle.json.proofs.Holding.{said, said-no}
 use Rattle.json.proofs.Framing.{Unwinding, unwind-refused, unwind-more, unwind-done}
 use Rattle.json.proofs.frames.unwind.Statement.{statement}
 use Rattle.json.proofs.frames.unwind.Tie as tie
 
 abbrev Inv-loop : tie.InvT-loop
 Inv-loop text starts found rows₀ slots₀ near₀ frames used texts limit next low top r₀ p₀ n₀ m₀ l₀ rows slots near r p n m l =
-    Unwinding text starts found frames texts limit low top (joins limit frames low (top - low) (good (r₀ .0) next (builtIn text rows₀ starts used texts))) rows slots (r .0) p n m l
+    Unwinding text starts found frames used texts limit low top (joins limit frames low (top - low) (good (r₀ .0) next (builtIn text rows₀ starts used texts))) rows slots (r .0) p n m l
 
 abbrev μ-loop : tie.MeasureT-loop
 μ-loop text starts found rows₀ slots₀ near₀ frames used texts limit next low top r₀ p₀ n₀ m₀ l₀ rows slots near r p n m l =
@@ -29,6 +29,7 @@ loop-holds c =
       inside = c .before .before .pre .1 .0 .0;
       behind = c .before .before .pre .1 .0 .1;
       more = omega arith;
+      grown = omega arith;
     }
 
 mul-i : tie.Need-mul-i Inv-loop μ-loop
@@ -47,7 +48,7 @@ join-requires : tie.Need-join-requires Inv-loop μ-loop
 join-requires c κs =
     let u = c .before .before .before .before .before .before .before .loop .inv in
     let f = c .before .before .before .before .before .before .before .before .before .before .pre .1 .1 .each (c .before .before .before .before .before .before .before .loop .l) (u .from) (c .before .before .before .before .before .before .loop-test .taken) in
-    (u .holds, (u .behind, (f .plain, (f .key, f .value, small (u .holds) (u .inside)))))
+    (u .holds, (u .behind, (f .plain, ((f .key, omega (arith, f .value, u .grown), u .inside), λ q. let o = f .own q in omega (arith, o, u .grown)))))
 
 returns : tie.Need-returns Inv-loop μ-loop
 returns c = unwind-refused (c .before .before .before .before .before .before .before .before .before .before .before .loop .inv) (c .before .before .before .before .before .before .before .before .before .before .loop-test .taken) (said-no (c .before .before .before .join .ensures) (c .before .w .given .1))

@@ -15,8 +15,8 @@ returns c =
 
 element-write-key-slots : tie.Need-element-write-key-slots
 element-write-key-slots c =
-    let (few, (x, (s, d, before))) = c .before .before .before .before .before .before .before .before .before .before .before .before .pre in
-    slot-inside x s d before _ (c .before .before .before .before .before .slot-of .ensures) _ (c .before .before .before .before .line-slot .ensures) _ (c .before .before .i .given .1)
+    let (few, (x, (s, d, before))) = c .before .before .before .before .before .before .before .before .before .before .before .before .before .pre in
+    slot-inside x s d before _ (c .before .before .before .before .before .before .slot-of .ensures) _ (c .before .before .before .before .before .line-slot .ensures) _ (c .before .before .before .i .given .1)
 
 mul-key-slots : tie.Need-mul-key-slots
 mul-key-slots c = record { fits = omega (arith, element-write-key-slots c) }
@@ -28,10 +28,10 @@ returns-2 c =
 
 returns-3 : tie.Need-returns-3
 returns-3 c =
-    let (few, (x, (s, d, before))) = c .before .before .before .before .before .before .before .before .before .before .before .before .pre in
-    let key = sym (c .before .before .before .before .before .before .before .before .before .is-key .ensures) ∙ not-false _ (c .before .before .before .before .before .before .before .before .if1 .left) in
+    let (few, (x, (s, d, before))) = c .before .before .before .before .before .before .before .before .before .before .before .before .before .pre in
+    let key = sym (c .before .before .before .before .before .before .before .before .before .before .is-key .ensures) ∙ not-false _ (c .before .before .before .before .before .before .before .before .before .if1 .left) in
     line-entered
-    (places-entered x s d before _ (c .before .before .before .before .before .slot-of .ensures) _ (c .before .before .before .before .line-slot .ensures) _ (c .before .before .i .given .1) few _ (c .size .ensures .0) key)
+    (places-entered x s d before _ (c .before .before .before .before .before .before .slot-of .ensures) _ (c .before .before .before .before .before .line-slot .ensures) _ (c .before .before .before .i .given .1) (c .put-line .ensures) few key)
 
 pub enter-spec : {M : Type 1} → statement M
 enter-spec =
@@ -47,12 +47,6 @@ enter-spec =
     (λ c. search needs)
     (λ c. search needs)
     (λ c κs. search needs)
-    (λ c. search needs)
-    (λ c. search needs)
-    (λ c. search needs)
-    (λ c. search needs)
-    (λ c. search needs)
-    (λ c. search needs)
     (λ c. search needs)
     mul-key-slots
     element-write-key-slots

@@ -1,35 +1,27 @@
--- A line whose end is not 0 stands between its places. Assumes nothing.
-use mathlib.Core.Path.{refl, sym}
-use Prim.Native.Nat.{_<_}
+-- A token whose length is not 0 is that of its line. Assumes nothing.
+use mathlib.Core.Path.{refl}
 use borrow.Author.Needs.{needs}
 use native.Mathlib.Omega.{arith}
-use denote.Ref.{now}
-use lib.ListN.{length}
-use Rattle.names.specs.Lines.{lines}
 use Rattle.jsontext.proofs.StringEnds.{string-ahead}
-use Rattle.json.specs.KeyTable.{Stands}
-use Rattle.json.proofs.Keying.{line-placed, line-string}
+use Rattle.json.proofs.Keying.{token-string}
 use Rattle.json.proofs.keys.key_here.Statement.{statement}
 use Rattle.json.proofs.keys.key_here.Tie as tie
 
-module _ (c : tie.Else2) where
-  listed : c .before .before .size .result < length (lines (now (c .before .before .before .before .before .before .args .list)))
-  listed = line-placed (c .before .before .before .before .before .before .pre .1) _ (c .if2 .left)
-
-  stands : Stands (now (c .before .before .before .before .before .before .args .list)) (now (c .before .before .before .before .before .before .args .places)) (c .before .before .size .result)
-  stands = c .before .before .before .before .before .before .pre .1 .stands _ listed
-
--- the place after the key stands inside the text
-room : tie.Need-add-result-2
-room c =
-    let a = string-ahead _ _ _ _ (c .before .written .ensures (c .if3 .taken)) in
-    record { fits = omega (arith, a .inside, c .before .before .before .before .before .before .before .before .before .before .good .0) }
+returns-2 : tie.Need-returns-2
+returns-2 c f = let (l, s) = c .line-here .ensures f in (omega (arith, c .before .before .before .before .if1 .left), l, s)
 
 returns-3 : tie.Need-returns-3
 returns-3 c f =
-    let x = c .before .before .before .before in
-    let e = c .before .before .before .before .before .before .size .ensures .0 in
-    (omega arith, omega (arith, listed x, e), line-string _ (sym e) (stands x) _ (c .before .written .ensures (c .if3 .taken)))
+    let x = c .before .before .before .before .before .before .before .before .before .before .pre .1 in
+    let few = c .before .before .before .before .before .before .before .if1 .left in
+    let (l, s) = token-string x _ _ (c .before .before .before .before .before .before .size .ensures .0) (omega (arith, few)) (c .before .before .before .before .if2 .left) _ _ (c .before .has-token .ensures (c .if3 .taken)) in
+    (omega (arith, few), l, s)
+
+-- a token has bytes, and the place after the key stands inside the text
+room : tie.Need-add-result
+room c =
+    let a = string-ahead _ _ _ _ (returns-3 c (λ z. c .before .before .before .before .if2 .left (omega (arith, z))) .2) in
+    record { fits = omega (arith, a .inside, c .before .before .before .before .before .before .before .before .before .before .good .0) }
 
 pub key-here-spec : {M : Type 1} → statement M
 key-here-spec =
@@ -41,15 +33,15 @@ key-here-spec =
     (λ c. search needs)
     (λ c. search needs)
     (λ c. search needs)
-    (λ c f. absurd (f refl))
-    (λ c. search needs)
-    (λ c. search needs)
-    (λ c. let x = stands (c .before) in search needs)
-    (λ c. let x = stands (c .before) in search needs)
-    (λ c. let x = stands (c .before) in search needs)
     (λ c. search needs)
     (λ c κs. search needs)
-    (λ c. record { fits = omega (arith, (room c) .fits) })
+    returns-2
+    (λ c. search needs)
+    (λ c. search needs)
+    (λ c. search needs)
+    (λ c. search needs)
+    (λ c. search needs)
+    (λ c κs. search needs)
     room
     returns-3
     (λ c f. absurd (f refl)))

@@ -17,7 +17,7 @@ listed-key-requires c κs = (c .before .before .before .before .before .find-key
 
 other-key-requires : tie.Need-other-key-requires
 other-key-requires c κs =
-    (c .before .before .before .before .before .before .before .before .before .before .before .before .before .before .before .before .before .pre .0, (c .before .before .before .before .before .before .before .before .before .before .before .before .before .before .before .before .before .pre .1 .0, (c .before .before .before .before .before .before .before .before .before .before .before .before .before .before .before .before .before .pre .1 .1 .0, whole-string (now (c .before .before .before .before .before .before .before .before .before .before .before .before .before .before .before .before .before .args .text)) (c .before .before .before .before .before .before .before .before .before .before .before .before .before .before .before .before .before .args .at) (ap slotOf (sym (c .before .before .before .before .before .before .before .before .before .before .before .slot .given .1)) ∙ c .before .before .before .before .before .before .before .before .before .before .before .before .before .read .ensures (c .before .before .before .before .before .before .before .before .before .before .before .before .before .before .before .before .before .pre .1 .0)))))
+    (c .before .before .before .before .before .before .before .before .before .before .before .before .before .before .before .before .pre .0, (c .before .before .before .before .before .before .before .before .before .before .before .before .before .before .before .before .pre .1 .0, (c .before .before .before .before .before .before .before .before .before .before .before .before .before .before .before .before .pre .1 .1 .0, whole-string (now (c .before .before .before .before .before .before .before .before .before .before .before .before .before .before .before .before .args .text)) (c .before .before .before .before .before .before .before .before .before .before .before .before .before .before .before .before .args .at) (ap slotOf (sym (c .before .before .before .before .before .before .before .before .before .before .slot .given .1)) ∙ c .before .before .before .before .before .before .before .before .before .before .before .before .read .ensures (c .before .before .before .before .before .before .before .before .before .before .before .before .before .before .before .before .pre .1 .0)))))
 
 returns : tie.Need-returns
 returns c = (λ seen marks v. key-refused-says (key-no-string _ (now (c .before .before .before .before .before .before .before .args .text)) _ seen _ _ _ (no-string (now (c .before .before .before .before .before .before .before .args .text)) (c .before .before .before .before .before .before .before .args .at) (ap slotOf (sym (c .before .p .given .1)) ∙ c .before .before .before .read .ensures (c .before .before .before .before .before .before .before .pre .1 .0)))), refl)
@@ -34,9 +34,9 @@ returns-2 c =
 
 returns-3 : tie.Need-returns-3
 returns-3 c =
-    let w = whole-string (now (c .before .before .before .before .before .before .before .before .before .before .before .before .before .before .before .before .before .before .before .before .args .text)) (c .before .before .before .before .before .before .before .before .before .before .before .before .before .before .before .before .before .before .before .before .args .at) (ap slotOf (sym (c .before .before .before .before .before .before .before .before .before .before .before .before .before .before .slot .given .1)) ∙ c .before .before .before .before .before .before .before .before .before .before .before .before .before .before .before .before .read .ensures (c .before .before .before .before .before .before .before .before .before .before .before .before .before .before .before .before .before .before .before .before .pre .1 .0)) in
-    let unlisted = sym (c .before .before .before .before .before .before .before .before .before .before .before .before .find-key .ensures .0 (w .bytes) _ (w .string) (w .slot-is)) ∙ ap keyOf (c .before .before .before .before .before .before .before .before .before .before .enum-told .given .1) in
-    (λ seen marks v. says-of-string (key-of-string _ _ _ seen _ _ (w .bytes) _ (w .string)) (c .before .before .other-key .ensures .0 (lines (now (c .before .before .before .before .before .before .before .before .before .before .before .before .before .before .before .before .before .before .before .before .args .list))) seen (w .bytes) (w .string) unlisted marks v), c .before .before .other-key .ensures .1)
+    let w = whole-string (now (c .before .before .before .before .before .before .before .before .before .before .before .before .before .before .before .before .before .before .before .args .text)) (c .before .before .before .before .before .before .before .before .before .before .before .before .before .before .before .before .before .before .before .args .at) (ap slotOf (sym (c .before .before .before .before .before .before .before .before .before .before .before .before .before .slot .given .1)) ∙ c .before .before .before .before .before .before .before .before .before .before .before .before .before .before .before .read .ensures (c .before .before .before .before .before .before .before .before .before .before .before .before .before .before .before .before .before .before .before .pre .1 .0)) in
+    let unlisted = sym (c .before .before .before .before .before .before .before .before .before .before .before .find-key .ensures .0 (w .bytes) _ (w .string) (w .slot-is)) ∙ ap keyOf (c .before .before .before .before .before .before .before .before .before .enum-told .given .1) in
+    (λ seen marks v. says-of-string (key-of-string _ _ _ seen _ _ (w .bytes) _ (w .string)) (c .before .before .other-key .ensures .0 (lines (now (c .before .before .before .before .before .before .before .before .before .before .before .before .before .before .before .before .before .before .before .args .list))) seen (w .bytes) (w .string) unlisted marks v), c .before .before .other-key .ensures .1)
 
 pub looked-up-spec : {M : Type 1} → statement M
 looked-up-spec =

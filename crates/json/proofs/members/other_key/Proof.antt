@@ -22,30 +22,30 @@ returns-2 c = (
 )
 
 text-leaf-requires : tie.Need-text-leaf-requires
-text-leaf-requires c κs = (c .before .before .before .before .before .before .before .before .before .before .before .before .before .before .before .pre .0, (omega (arith, c .before .before .before .before .before .before .before .before .before .before .before .before .before .before .before .pre .1 .1 .1 .behind), probed-at _ _ (c .before .before .before .before .before .before .before .before .before .before .before .before .before .before .before .pre .1 .1 .1) (c .before .before .before .before .before .before .before .before .before .look-up .ensures)))
+text-leaf-requires c κs = (c .before .before .before .before .before .before .before .before .before .before .before .before .before .before .pre .0, (omega (arith, c .before .before .before .before .before .before .before .before .before .before .before .before .before .before .pre .1 .1 .1 .behind), probed-at _ _ (c .before .before .before .before .before .before .before .before .before .before .before .before .before .before .pre .1 .1 .1) (c .before .before .before .before .before .before .before .before .look-up .ensures)))
 
 mul-pending : tie.Need-mul-pending
-mul-pending c = let l = c .before .before .before .before .before .before .before .before .before .before .before .before .before .before .before .before .before .before .before .pre .1 .1 .0 in omega (arith, l, c .before .before .before .before .before .before .before .before .before .before .before .before .before .before .before .before .before .before .before .good)
+mul-pending c = let l = c .before .before .before .before .before .before .before .before .before .before .before .before .before .before .before .before .before .before .pre .1 .1 .0 in omega (arith, l, c .before .before .before .before .before .before .before .before .before .before .before .before .before .before .before .before .before .before .good)
 
 slice-write-pending : tie.Need-slice-write-pending
-slice-write-pending c = omega (arith, c .before .before .before .before .before .before .before .before .before .before .before .before .before .before .before .before .before .before .before .pre .1 .1 .0)
+slice-write-pending c = omega (arith, c .before .before .before .before .before .before .before .before .before .before .before .before .before .before .before .before .before .before .pre .1 .1 .0)
 
 returns-3 : tie.Need-returns-3
 returns-3 c = (
   λ keys seen key string unlisted marks v.
-      let n = number-by (c .before .before .before .before .before .before .before .before .before .before .before .before .before .before .before .before .before .before .before .pre .0) _ key _ string (c .before .before .before .before .before .before .before .before .before .before .before .before .before .look-up .result) (probed-at _ _ (c .before .before .before .before .before .before .before .before .before .before .before .before .before .before .before .before .before .before .before .pre .1 .1 .1) (c .before .before .before .before .before .before .before .before .before .before .before .before .before .look-up .ensures)) _ (c .before .before .before .before .before .before .before .before .before .before .before .before .number-of .ensures) in
-      let first = seen-by-number (c .before .before .before .before .before .before .before .before .before .before .before .before .before .before .before .before .before .before .before .pre .0) _ key _ string unlisted v n (c .before .before .before .before .before .before .before .before .before .before .has-entry .ensures) ∙ c .before .before .before .before .before .before .before .before .before .if2 .left in
-      key-leaf-refused (c .before .before .before .before .before .before .before .before .before .before .before .before .before .before .before .before .before .before .before .pre .0) _ key _ string keys seen unlisted _ (c .before .before .before .before .before .before .before .before .before .before .before .before .before .before .before .before .if1 .left) first (said-no (c .before .before .before .text-leaf .ensures) (c .before .w .given .1)),
+      let n = number-by (c .before .before .before .before .before .before .before .before .before .before .before .before .before .before .before .before .before .before .pre .0) _ key _ string (c .before .before .before .before .before .before .before .before .before .before .before .before .look-up .result) (probed-at _ _ (c .before .before .before .before .before .before .before .before .before .before .before .before .before .before .before .before .before .before .pre .1 .1 .1) (c .before .before .before .before .before .before .before .before .before .before .before .before .look-up .ensures)) _ (c .before .before .before .before .before .before .before .before .before .before .before .number-of .ensures) in
+      let first = seen-by-number (c .before .before .before .before .before .before .before .before .before .before .before .before .before .before .before .before .before .before .pre .0) _ key _ string unlisted v n (c .before .before .before .before .before .before .before .before .before .has-entry .ensures) ∙ c .before .before .before .before .before .before .before .before .if2 .left in
+      key-leaf-refused (c .before .before .before .before .before .before .before .before .before .before .before .before .before .before .before .before .before .before .pre .0) _ key _ string keys seen unlisted _ (c .before .before .before .before .before .before .before .before .before .before .before .before .before .before .before .if1 .left) first (said-no (c .before .before .before .text-leaf .ensures) (c .before .w .given .1)),
   refl,
 )
 
 returns-4 : tie.Need-returns-4
 returns-4 c = (
   λ keys seen key string unlisted marks v.
-      let n = number-by (c .before .before .before .before .before .before .before .before .before .before .before .before .before .before .before .before .before .before .before .pre .0) _ key _ string (c .before .before .before .before .before .before .before .before .before .before .before .before .before .look-up .result) (probed-at _ _ (c .before .before .before .before .before .before .before .before .before .before .before .before .before .before .before .before .before .before .before .pre .1 .1 .1) (c .before .before .before .before .before .before .before .before .before .before .before .before .before .look-up .ensures)) _ (c .before .before .before .before .before .before .before .before .before .before .before .before .number-of .ensures) in
-      let first = seen-by-number (c .before .before .before .before .before .before .before .before .before .before .before .before .before .before .before .before .before .before .before .pre .0) _ key _ string unlisted v n (c .before .before .before .before .before .before .before .before .before .before .has-entry .ensures) ∙ c .before .before .before .before .before .before .before .before .before .if2 .left in
-      key-leaf (c .before .before .before .before .before .before .before .before .before .before .before .before .before .before .before .before .before .before .before .pre .0) _ key _ string keys seen unlisted _ (c .before .before .before .before .before .before .before .before .before .before .before .before .before .before .before .before .if1 .left) first marks v (c .before .before .before .before .before .before .before .before .before .before .before .before .before .before .before .before .before .before .before .pre .1 .1 .0 .0) (c .before .before .before .before .before .before .before .before .before .before .before .before .before .before .before .before .before .before .before .pre .1 .1 .0 .1) (said (c .before .before .before .text-leaf .ensures) (c .before .row .given .1)) n,
-  drop-set-lt (c .before .before .before .before .before .before .before .before .before .before .before .before .before .before .before .before .before .before .before .args .level + 1) _ _ _ (omega arith),
+      let n = number-by (c .before .before .before .before .before .before .before .before .before .before .before .before .before .before .before .before .before .before .pre .0) _ key _ string (c .before .before .before .before .before .before .before .before .before .before .before .before .look-up .result) (probed-at _ _ (c .before .before .before .before .before .before .before .before .before .before .before .before .before .before .before .before .before .before .pre .1 .1 .1) (c .before .before .before .before .before .before .before .before .before .before .before .before .look-up .ensures)) _ (c .before .before .before .before .before .before .before .before .before .before .before .number-of .ensures) in
+      let first = seen-by-number (c .before .before .before .before .before .before .before .before .before .before .before .before .before .before .before .before .before .before .pre .0) _ key _ string unlisted v n (c .before .before .before .before .before .before .before .before .before .has-entry .ensures) ∙ c .before .before .before .before .before .before .before .before .if2 .left in
+      key-leaf (c .before .before .before .before .before .before .before .before .before .before .before .before .before .before .before .before .before .before .pre .0) _ key _ string keys seen unlisted _ (c .before .before .before .before .before .before .before .before .before .before .before .before .before .before .before .if1 .left) first marks v (c .before .before .before .before .before .before .before .before .before .before .before .before .before .before .before .before .before .before .pre .1 .1 .0 .0) (c .before .before .before .before .before .before .before .before .before .before .before .before .before .before .before .before .before .before .pre .1 .1 .0 .1) (said (c .before .before .before .text-leaf .ensures) (c .before .row .given .1)) n,
+  drop-set-lt (c .before .before .before .before .before .before .before .before .before .before .before .before .before .before .before .before .before .before .args .level + 1) _ _ _ (omega arith),
 )
 
 pub other-key-spec : {M : Type 1} → statement M

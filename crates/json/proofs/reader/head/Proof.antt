@@ -14,21 +14,21 @@ returns : tie.Need-returns
 returns c = (λ seen marks known. head-none _ (not-true _ (c .if1 .taken)) _ _ _ _ _ _ _ _ _ _ _ _ seen _ (c .before .before .before .before .pre .0), refl)
 
 key-at-requires : tie.Need-key-at-requires
-key-at-requires c κs = (c .before .before .before .before .before .before .before .before .before .before .before .pre .0, (c .before .before .before .before .before .before .before .before .before .before .before .pre .1 .0, (c .before .before .before .before .before .before .before .before .before .before .before .pre .1 .1 .1 (not-false _ (c .before .before .before .before .before .before .before .if1 .left)), c .before .before .before .before .before .before .before .before .before .before .before .pre .1 .1 .0)))
+key-at-requires c κs = (c .before .before .before .before .before .before .before .before .before .before .pre .0, (c .before .before .before .before .before .before .before .before .before .before .pre .1 .0, (c .before .before .before .before .before .before .before .before .before .before .pre .1 .1 .1 (not-false _ (c .before .before .before .before .before .before .if1 .left)), c .before .before .before .before .before .before .before .before .before .before .pre .1 .1 .0)))
 
 returns-2 : tie.Need-returns-2
-returns-2 c = (λ seen marks known. head-no-colon (record { keys = lines (now (c .before .before .before .before .before .before .before .before .before .before .before .before .before .before .before .before .before .before .before .before .args .list)); limit = c .before .before .before .before .before .before .before .before .before .before .before .before .before .before .before .before .before .before .before .before .args .limit }) (c .before .before .before .before .before .before .before .before .key-at .ensures .0 seen (marks (not-false _ (c .before .before .before .before .before .before .before .before .before .before .before .before .before .before .before .before .if1 .left))) (known (not-false _ (c .before .before .before .before .before .before .before .before .before .before .before .before .before .before .before .before .if1 .left)))) (c .before .before .before .before .symbol .given .1) _ (c .before .before .space-end .ensures (c .before .before .before .before .before .before .before .before .before .before .before .before .before .before .before .before .before .before .before .before .pre .1 .0)) _ (not-false _ (c .before .before .before .before .before .before .before .before .before .before .before .before .before .before .before .before .if1 .left)) (λ q. c .if2 .taken (c .before .byte-at .ensures ∙ q)), c .before .before .before .before .before .before .before .before .key-at .ensures .1)
+returns-2 c = (λ seen marks known. head-no-colon (record { keys = lines (now (c .before .before .before .before .before .before .before .before .before .before .before .before .before .before .before .before .before .before .before .args .list)); limit = c .before .before .before .before .before .before .before .before .before .before .before .before .before .before .before .before .before .before .before .args .limit }) (c .before .before .before .before .before .before .before .before .key-at .ensures .0 seen (marks (not-false _ (c .before .before .before .before .before .before .before .before .before .before .before .before .before .before .before .if1 .left))) (known (not-false _ (c .before .before .before .before .before .before .before .before .before .before .before .before .before .before .before .if1 .left)))) (c .before .before .before .before .symbol .given .1) _ (c .before .before .space-end .ensures (c .before .before .before .before .before .before .before .before .before .before .before .before .before .before .before .before .before .before .before .pre .1 .0)) _ (not-false _ (c .before .before .before .before .before .before .before .before .before .before .before .before .before .before .before .if1 .left)) (λ q. c .if2 .taken (c .before .byte-at .ensures ∙ q)), c .before .before .before .before .before .before .before .before .key-at .ensures .1)
 
 add-space-end : tie.Need-add-space-end
 add-space-end c =
-    let l = byte-inside (now (c .before .before .before .before .before .before .before .before .before .before .before .before .before .before .before .before .before .before .before .before .args .text)) (c .before .before .space-end .result) (c .before .byte-at .result) (c .before .byte-at .ensures) (omega (arith, c .if2 .left)) in
-    omega (arith, l, c .before .before .before .before .before .before .before .before .before .before .before .before .before .before .before .before .before .before .before .before .good .0)
+    let l = byte-inside (now (c .before .before .before .before .before .before .before .before .before .before .before .before .before .before .before .before .before .before .before .args .text)) (c .before .before .space-end .result) (c .before .byte-at .result) (c .before .byte-at .ensures) (omega (arith, c .if2 .left)) in
+    omega (arith, l, c .before .before .before .before .before .before .before .before .before .before .before .before .before .before .before .before .before .before .before .good .0)
 
 returns-3 : tie.Need-returns-3
-returns-3 c = (λ seen marks known. head-refused (record { keys = lines (now (c .before .before .before .before .before .before .before .before .before .before .before .before .before .before .before .before .before .args .list)); limit = c .before .before .before .before .before .before .before .before .before .before .before .before .before .before .before .before .before .args .limit }) (c .before .before .before .before .before .key-at .ensures .0 seen (marks (not-false _ (c .before .before .before .before .before .before .before .before .before .before .before .before .before .if1 .left))) (known (not-false _ (c .before .before .before .before .before .before .before .before .before .before .before .before .before .if1 .left)))) _ (not-false _ (c .before .before .before .before .before .before .before .before .before .before .before .before .before .if1 .left)) (c .before .w .given .1), c .before .before .before .before .before .key-at .ensures .1)
+returns-3 c = (λ seen marks known. head-refused (record { keys = lines (now (c .before .before .before .before .before .before .before .before .before .before .before .before .before .before .before .before .args .list)); limit = c .before .before .before .before .before .before .before .before .before .before .before .before .before .before .before .before .args .limit }) (c .before .before .before .before .before .key-at .ensures .0 seen (marks (not-false _ (c .before .before .before .before .before .before .before .before .before .before .before .before .if1 .left))) (known (not-false _ (c .before .before .before .before .before .before .before .before .before .before .before .before .if1 .left)))) _ (not-false _ (c .before .before .before .before .before .before .before .before .before .before .before .before .if1 .left)) (c .before .w .given .1), c .before .before .before .before .before .key-at .ensures .1)
 
 returns-4 : tie.Need-returns-4
-returns-4 c = (λ seen marks known. head-colon (record { keys = lines (now (c .before .before .before .before .before .before .before .before .before .before .before .before .before .before .before .before .before .before .before .before .before .args .list)); limit = c .before .before .before .before .before .before .before .before .before .before .before .before .before .before .before .before .before .before .before .before .before .args .limit }) (c .before .before .before .before .before .before .before .before .before .key-at .ensures .0 seen (marks (not-false _ (c .before .before .before .before .before .before .before .before .before .before .before .before .before .before .before .before .before .if1 .left))) (known (not-false _ (c .before .before .before .before .before .before .before .before .before .before .before .before .before .before .before .before .before .if1 .left)))) (c .before .before .before .before .before .symbol .given .1) _ (c .before .before .before .space-end .ensures (c .before .before .before .before .before .before .before .before .before .before .before .before .before .before .before .before .before .before .before .before .before .pre .1 .0)) _ (not-false _ (c .before .before .before .before .before .before .before .before .before .before .before .before .before .before .before .before .before .if1 .left)) (sym (c .before .before .byte-at .ensures) ∙ c .before .if2 .left) _ (c .space-end2 .ensures (c .before .before .before .before .before .before .before .before .before .before .before .before .before .before .before .before .before .before .before .before .before .pre .1 .0)), c .before .before .before .before .before .before .before .before .before .key-at .ensures .1)
+returns-4 c = (λ seen marks known. head-colon (record { keys = lines (now (c .before .before .before .before .before .before .before .before .before .before .before .before .before .before .before .before .before .before .before .before .args .list)); limit = c .before .before .before .before .before .before .before .before .before .before .before .before .before .before .before .before .before .before .before .before .args .limit }) (c .before .before .before .before .before .before .before .before .before .key-at .ensures .0 seen (marks (not-false _ (c .before .before .before .before .before .before .before .before .before .before .before .before .before .before .before .before .if1 .left))) (known (not-false _ (c .before .before .before .before .before .before .before .before .before .before .before .before .before .before .before .before .if1 .left)))) (c .before .before .before .before .before .symbol .given .1) _ (c .before .before .before .space-end .ensures (c .before .before .before .before .before .before .before .before .before .before .before .before .before .before .before .before .before .before .before .before .pre .1 .0)) _ (not-false _ (c .before .before .before .before .before .before .before .before .before .before .before .before .before .before .before .before .if1 .left)) (sym (c .before .before .byte-at .ensures) ∙ c .before .if2 .left) _ (c .space-end2 .ensures (c .before .before .before .before .before .before .before .before .before .before .before .before .before .before .before .before .before .before .before .before .pre .1 .0)), c .before .before .before .before .before .before .before .before .before .key-at .ensures .1)
 
 pub head-spec : {M : Type 1} → statement M
 head-spec =

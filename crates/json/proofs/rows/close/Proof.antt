@@ -4,7 +4,7 @@ use native.Mathlib.Omega.{arith}
 use borrow.Author.Needs.{needs}
 use denote.Ref.{now}
 use Rattle.base.proofs.Bytes.{byte-inside}
-use Rattle.json.proofs.Holding.{no-text}
+use Rattle.json.proofs.Holding.{no-text, no-child}
 use Rattle.json.proofs.Closing.{close-wrong, close-right}
 use Rattle.json.proofs.rows.close.Statement.{statement}
 use Rattle.json.proofs.rows.close.Tie as tie
@@ -20,7 +20,7 @@ finish-requires : tie.Need-finish-requires
 finish-requires c κs = (c .before .before .before .before .before .before .before .pre .0, omega arith)
 
 returns-2 : tie.Need-returns-2
-returns-2 c = close-right _ _ _ _ (sym (c .before .before .before .before .before .before .byte-at .ensures) ∙ c .before .before .before .before .before .if1 .left) refl (c .finish .ensures _ (c .before .before .before .before .leaf .ensures) (no-text _ refl (c .before .before .before .before .before .before .before .before .pre .1 .1)))
+returns-2 c = close-right _ _ _ _ (sym (c .before .before .before .before .before .before .byte-at .ensures) ∙ c .before .before .before .before .before .if1 .left) refl (c .finish .ensures _ (c .before .before .before .before .leaf .ensures) (no-text _ _ refl (c .before .before .before .before .before .before .before .before .pre .1 .1) no-child))
 
 pub close-spec : {M : Type 1} → statement M
 close-spec =

@@ -38,13 +38,13 @@ behind-whole-spec =
     tie.close
     (tie.spec
     (λ c κs. search needs)
-    (λ c κs. (c .before .before .before .pre .small, omega arith))
+    (λ c κs. (c .before .before .before .pre .short, omega arith))
     (λ c l d e. c .behind-digits .ensures l d e ∙ ap asScalar (sym (fraction-none _ _ _ (c .before .before .byte-at .ensures) _ d (c .before .if1 .taken))))
     (λ c. omega (arith, inside c))
-    (λ c κs. record { small = c .before .before .before .pre .small; few = omega (arith, c .before .before .before .pre .few) })
+    (λ c κs. record { short = c .before .before .before .pre .short; few = omega (arith, c .before .before .before .pre .few) })
     (λ c. search needs)
     (λ c. grown c .1)
-    (λ c κs. (grown c .0 .small, omega arith))
+    (λ c κs. (grown c .0 .short, omega arith))
     (λ c. search needs)
     returns-2
     returns-3)

@@ -36,7 +36,7 @@ digits-spec =
     (λ c. search needs)
     (λ c κs. search needs)
     returns
-    (λ c κs. (c .before .before .before .before .loop .inv .bounded .small, omega (arith, c .before .before .before .before .loop .inv .bounded .few)))
+    (λ c κs. (c .before .before .before .before .loop .inv .bounded .short, omega (arith, c .before .before .before .before .loop .inv .bounded .few)))
     (λ c. search needs)
     (λ c. search needs)
     loop-again

@@ -27,4 +27,4 @@ returns-2 : tie.Need-returns-2
 returns-2 c = λ l m. exponent-faults m (asked (c .before .before .before)) _ (not-found (asked (c .before .before .before)) _ _ (c .before .p .given .1) (answer (c .before .before .before) l))
 
 pub exponent-spec : {M : Type 1} → statement M
-exponent-spec = tie.close (tie.spec (λ c κs. search needs) (λ c κs. record { small = omega arith; few = omega arith }) (λ c. search needs) (λ c. search needs) returns returns-2)
+exponent-spec = tie.close (tie.spec (λ c κs. search needs) (λ c κs. record { short = omega arith; few = omega arith }) (λ c. search needs) (λ c. search needs) returns returns-2)

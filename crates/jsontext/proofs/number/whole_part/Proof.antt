@@ -32,7 +32,7 @@ returns-3 c = (
   λ l. ap carriedAt
       (whole-zero _ _ _ (c .before .before .before .before .byte-at .ensures) (c .before .before .before .if1 .left)
       (ap digit? (sym (c .before .before .byte-at2 .ensures)) ∙ sym (c .before .is-digit .ensures .1 l) ∙ c .if2 .left)),
-  (record { small = omega arith; few = omega arith }, omega arith),
+  (record { short = omega arith; few = omega arith }, omega arith),
 )
 
 pub whole-part-spec : {M : Type 1} → statement M
@@ -40,7 +40,7 @@ whole-part-spec =
     tie.close
     (tie.spec
     (λ c κs. search needs)
-    (λ c κs. record { small = omega arith; few = omega arith })
+    (λ c κs. record { short = omega arith; few = omega arith })
     returns
     (λ c. omega (arith, inside c))
     (λ c κs. search needs)

@@ -5,14 +5,14 @@ use native.Mathlib.Omega.{arith}
 use borrow.Author.Needs.{needs}
 use borrow.Author.Tests.{ltb-true, ltb-false}
 use Rattle.base.proofs.Tenths.{tenth-fits}
-use Rattle.jsontext.proofs.DigitRuns.{carry-past, carry-fits, more-small, past-small}
+use Rattle.jsontext.proofs.DigitRuns.{carry-past, carry-fits, short-more, short-past}
 use Rattle.jsontext.proofs.number.with_digit.Statement.{statement}
 use Rattle.jsontext.proofs.number.with_digit.Tie as tie
 
 returns : tie.Need-returns
 returns c =
     let h = ltb-true _ _ (sym (c .before .is-past .ensures) ∙ c .if1 .taken) in
-    (refl, (past-small _ _ _ (c .before .before .before .before .pre .0) (c .before .before .before .digit-value .ensures .0) h, λ g d e. carry-past _ _ _ (c .before .before .before .digit-value .ensures .1 g) d e h))
+    (refl, (short-past _ _ (c .before .before .before .before .pre .0) _ (c .before .before .before .digit-value .ensures .0) h, λ g d e. carry-past _ _ _ (c .before .before .before .digit-value .ensures .1 g) d e h))
 
 -- it stays below
 module _ (c : tie.After-struct-known2) where
@@ -32,4 +32,4 @@ with-digit-spec =
     returns
     (λ c. omega (arith, room c))
     (λ c. omega (arith, room c))
-    (λ c. (refl, (more-small _ _ _ (c .before .before .before .before .before .pre .0) (c .before .before .before .before .digit-value .ensures .0), λ g d e. carry-fits _ _ _ (c .before .before .before .before .digit-value .ensures .1 g) d e (c .before .before .before .before .digit-value .ensures .0) (fits c)))))
+    (λ c. (refl, (short-more _ _ (c .before .before .before .before .before .pre .0) _ (c .before .before .before .before .digit-value .ensures .0), λ g d e. carry-fits _ _ _ (c .before .before .before .before .digit-value .ensures .1 g) d e (c .before .before .before .before .digit-value .ensures .0) (fits c)))))
