@@ -35,6 +35,9 @@
 #define BUILT_WITH "unknown flags"
 #endif
 
+/* In a file of its own. */
+bool rapidjson_accepts_checked(const char *bytes, std::size_t count);
+
 namespace {
 
 using Clock = std::chrono::steady_clock;
@@ -149,6 +152,13 @@ public:
     }
 };
 
+/* With UTF-8 checked and decimals rounded to the nearest. */
+class RapidjsonChecked : public Side {
+public:
+    using Side::Side;
+    bool read() override { return rapidjson_accepts_checked(text.bytes.data(), text.bytes.size()); }
+};
+
 class Yajl : public Side {
 public:
     using Side::Side;
@@ -175,19 +185,20 @@ public:
     }
 };
 
-enum { OURS, SIMDJSON, RAPIDJSON, RAPIDJSON_TO_ZERO, YAJL, JANSSON, SIDES };
-constexpr std::array<const char *, SIDES> NAMES = {"Cidhomba",         "simdjson", "RapidJSON",
-                                                   "RapidJSON to a 0", "yajl",     "jansson"};
+enum { OURS, SIMDJSON, RAPIDJSON, RAPIDJSON_TO_ZERO, RAPIDJSON_CHECKED, YAJL, JANSSON, SIDES };
+constexpr std::array<const char *, SIDES> NAMES = {
+    "Cidhomba", "simdjson", "RapidJSON", "RapidJSON to a 0", "RapidJSON, checking", "yajl", "jansson"};
 /* The quotients that are printed: one side's time over another's. */
 constexpr std::pair<int, int> QUOTIENTS[] = {
-    {OURS, SIMDJSON}, {RAPIDJSON, OURS}, {RAPIDJSON_TO_ZERO, OURS}, {YAJL, OURS}, {JANSSON, OURS}};
+    {OURS, SIMDJSON}, {RAPIDJSON, OURS}, {RAPIDJSON_TO_ZERO, OURS}, {RAPIDJSON_CHECKED, OURS}, {YAJL, OURS}, {JANSSON, OURS}};
 
 /* In the order of their names. */
 std::array<std::unique_ptr<Side>, SIDES> sides_of(const Text &text)
 {
     return {std::make_unique<Cidhomba>(text),  std::make_unique<Simdjson>(text),
             std::make_unique<Rapidjson>(text), std::make_unique<RapidjsonToZero>(text),
-            std::make_unique<Yajl>(text),      std::make_unique<Jansson>(text)};
+            std::make_unique<RapidjsonChecked>(text), std::make_unique<Yajl>(text),
+            std::make_unique<Jansson>(text)};
 }
 
 /* The time of one reading over the rounds, in microseconds. */
