@@ -33,7 +33,7 @@ pub(crate) enum TextProbed {
     Crowded,
 }
 
-// The place where a text first stands; 0 for a number that no text has.
+// The place where a text first stands, by its number; for a number that no text has, what stands there, or 0.
 fn start_of(starts: &[usize; STARTS], k: u16) -> usize
     requires size { ⌜ length (now starts) ≡ 2048 ⌝ }
     ensures { λ r. ⌜ r ≡ getD (now (starts .entry)) k 0 ⌝ }
