@@ -117,6 +117,15 @@ module _ (h b c x g : ℕ) (ex : x ≡ b % 65536) (eg : g ≡ fnvCell h x) where
 pub words-hashed : (a b c f r : ℕ) → f ≡ fnv1a (cellBytes (splitCells 4 a)) → r ≡ fnvFrom f (cellBytes (splitCells 4 b ++ splitCells 2 c)) → r ≡ rowHash (wordsCells a b c)
 words-hashed a b c f r e q = q ∙ ap (λ t. fnvFrom t (cellBytes (splitCells 4 b ++ splitCells 2 c))) e ∙ sym (cells-append 2166136261 (splitCells 4 a) (splitCells 4 b ++ splitCells 2 c))
 
+-- five cells one by one, and nothing but zeros
+module _ (s x y z u f g h i j : ℕ) (ef : f ≡ fnvCell 2166136261 s) (eg : g ≡ fnvCell f x) (eh : h ≡ fnvCell g y) (ei : i ≡ fnvCell h z) (ej : j ≡ fnvCell i u) where
+  five-hashed : j ≡ fnv1a (cellBytes (s ∷ x ∷ y ∷ z ∷ u ∷ []))
+  unfolding fnvFrom
+  five-hashed = ej ∙ ap (λ k. fnvCell k u) (ei ∙ ap (λ k. fnvCell k z) (eh ∙ ap (λ k. fnvCell k y) (eg ∙ ap (λ k. fnvCell k x) ef)))
+
+  pub node-hashed : (r : ℕ) → j < 2 ^ 32 → r ≡ j * 1485291145 % 2 ^ 32 → r ≡ rowHash (s ∷ x ∷ y ∷ z ∷ u ∷ replicate 5 0)
+  node-hashed r l e = e ∙ sym (zeros-at-once 10 1485291145 j refl l) ∙ ap (λ k. fnvFrom k (replicate 10 0)) five-hashed ∙ sym (cells-append 2166136261 (s ∷ x ∷ y ∷ z ∷ u ∷ []) (replicate 5 0))
+
 -- after i cells the hash is h
 pub record Hashed (cells : List ℕ) (h i : ℕ) : Type 0 where
   pub inside : i ≤ length cells

@@ -2,9 +2,11 @@
 use crate::rows::ROW_CELLS;
 use crate::words::TWO_CELLS;
 use crate::words::low_cell;
+use base::limits::UNUSED;
 ghost use mathlib.Core.Path.{_≡_};
-ghost use mathlib.Core.List.{_++_};
+ghost use mathlib.Core.List.{_∷_, _++_};
 ghost use Prim.Native.Nat.{_*_, _%_, _^_};
+ghost use lib.ListN.{replicate};
 ghost use Rattle.document.specs.Rows.{splitCells};
 ghost use Rattle.document.specs.Hash.{fnvByte, fnvCell, fnvFrom, fnv1a, cellBytes, rowHash};
 ghost use Rattle.document.specs.Words.{wordsCells};
@@ -104,6 +106,14 @@ pub fn words_hash(a: u64, b: u64, c: u64) -> u32
     ensures { λ r. ⌜ r ≡ rowHash (wordsCells a b c) ⌝ }
 {
     add_rest(front_hash(a), b, c)
+}
+
+// The hash of a row of up to three children and no scalar, by its first four cells: for a row that is not there as words.
+pub fn node_hash(symbol: u16, x: u16, y: u16, z: u16) -> u32
+    ensures { λ r. ⌜ r ≡ rowHash (symbol ∷ x ∷ y ∷ z ∷ 65535 ∷ replicate 5 0) ⌝ }
+{
+    let front = add_cell(add_cell(add_cell(add_small(FNV_START, symbol), x), y), z);
+    times(add_cell(front, UNUSED), FACTOR_10)
 }
 
 // The hash of ten cells, cell by cell: they lie in narrow parts, and reading them in wide ones would wait.

@@ -9,10 +9,13 @@ use crate::rows::Row;
 use crate::words::CELLS;
 use crate::words::put_words;
 use crate::words::same_words;
-ghost use Prim.Native.Nat.{_<_};
+use base::limits::UNUSED;
+ghost use mathlib.Core.List.{List};
+ghost use Prim.Native.Nat.{ℕ, _<_};
 ghost use Rattle.model.specs.Table as table;
 ghost use Rattle.document.specs.Words.{Words};
 ghost use Rattle.document.specs.Builder.{findOrAdd, Did, Ready};
+ghost use Rattle.document.specs.declared.builder.Placed.the-variants.{Known};
 
 // Rows near at hand.
 pub const NEAR: usize = 2048;
@@ -25,7 +28,18 @@ fn near_place(a: u64, b: u64, c: u64) -> usize
     (mixed * 2654435761 / 2097152 % 2048) as usize
 }
 
-// The row with the cells of the words among the first n, which the slots index; added as row n where there is none and there is room. What stands near at hand is a guess that is tried.
+// The row with the cells of the words, where it is near at hand among the first n; else what no row is.
+pub fn near_row(rows: &[u16; CELLS], near: &[u16; NEAR], n: u16, a: u64, b: u64, c: u64) -> Row
+    ensures { λ r. ⌜ (r .0 < n → (x : table.Row) (slots : List ℕ) (limit : ℕ) → Words x a b c → Ready (now (rows .entry)) slots n limit → Did (findOrAdd (now (rows .entry)) slots n limit x) (Known r) (now (rows .entry)) slots) ⌝ }
+{
+    let guess = near[near_place(a, b, c)];
+    if (guess < n) & same_words(rows, Row(guess), a, b, c) {
+        return Row(guess);
+    }
+    Row(UNUSED)
+}
+
+// The row with the cells of the words among the first n, which the slots index; added as row n where there is none and there is room. It is near at hand from then on.
 pub fn place_row(
     rows: &mut [u16; CELLS],
     slots: &mut [u16; SLOTS],
@@ -39,10 +53,6 @@ pub fn place_row(
     ensures { λ r. ⌜ ((x : table.Row) → Words x a b c → Ready (now (rows .entry)) (now (slots .entry)) n limit → Did (findOrAdd (now (rows .entry)) (now (slots .entry)) n limit x) r (now (rows .exit)) (now (slots .exit))) ⌝ }
 {
     let at = near_place(a, b, c);
-    let guess = near[at];
-    if (guess < n) & same_words(&*rows, Row(guess), a, b, c) {
-        return Placed::Known(Row(guess));
-    }
     let start = words_hash(a, b, c) as usize % SLOTS;
     match look_up_words(&*rows, &*slots, start, a, b, c) {
         Probed::Found(i) => {

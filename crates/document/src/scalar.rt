@@ -52,6 +52,16 @@ pub fn row_rate(bits: u64) -> Scalar
     rate_of(one_zero(bits))
 }
 
+// The kind of a rate.
+pub const RATE: u16 = 3;
+
+// The payload of that rate.
+pub fn rate_payload(bits: u64) -> u64
+    ensures { λ r. ⌜ (r ≡ payloadOf (rowRate bits)) × (kindOf (rowRate bits) ≡ 3) ⌝ }
+{
+    one_zero(bits)
+}
+
 // A float's bits, for every float: of a NaN, the pattern that the definition names.
 pub fn bits_of(x: f64) -> u64
     ensures { λ r. ⌜ r ≡ toBits binary64 x ⌝ }

@@ -8,6 +8,8 @@ use Rattle.base.specs.Text.{byteAt}
 use Rattle.document.specs.Fields.{asRow}
 use Rattle.document.specs.declared.rows.Row as number
 use Rattle.jsontext.specs.Spaces.{spaceEnd}
+use Rattle.jsontext.proofs.Blanks.{blank-above, blank-none, blank-stop}
+use Rattle.base.proofs.Bytes.{byte-inside}
 use Rattle.json.specs.Signature.{item}
 use Rattle.json.specs.Grammar.{Setting, Built}
 use Rattle.json.specs.State.{builtIn, Holds}
@@ -39,6 +41,10 @@ head-none false e S t cells slots starts found pending flags used texts lo hi se
       more = omega arith;
       same = λ k l. refl;
     })
+
+-- no space stands before a colon
+pub colon-here : (t : List ℕ) (i : ℕ) → byteAt t i ≡ 58 → i ≡ spaceEnd t i
+colon-here t i e = blank-stop t i i (blank-none t i) (byte-inside t i (byteAt t i) refl (omega (arith, e))) (blank-above (byteAt t i) (omega (arith, e)))
 
 -- a member's key was read, or not
 module _ (S : Setting) {t cells slots starts found pending flags old : List ℕ} {before lo hi : ℕ} {seen : List (List ℕ)} {at : ℕ} {b : Built} {r : KeyPart} (says : KeySays (S .keys) t cells slots starts found pending flags old before (S .limit) lo hi seen r (keyAt S t lo seen at b)) where

@@ -18,10 +18,10 @@ use Rattle.jsontext.proofs.StringProductions.{string-read, string-ahead}
 use Rattle.jsontext.proofs.NumberProductions.{number-read, number-ahead}
 use Rattle.json.specs.Signature.{numberLeaf}
 use Rattle.json.specs.Grammar.{Built, leafRow, finish, afterWord, afterText, afterNumber}
-use Rattle.json.specs.State.{Says, says-refused}
+use Rattle.json.specs.State.{Old, Says, says-refused}
 use Rattle.json.specs.declared.rows.Part.{Part}
 use Rattle.json.specs.declared.rows.Part.the-variants.{Refused}
-use Rattle.json.proofs.Holding.{says-by, says-row}
+use Rattle.json.proofs.Holding.{says-by, says-row, no-text, no-child}
 
 module _ {t cells slots starts found old : List ℕ} {before limit : ℕ} (b : Built) where
   pub word-fault : (symbol : ℕ) {g : Got Scalar} {p : ℕ} → fault p ≡ g → Says t cells slots starts found old before limit (Refused 71 p) (afterWord limit symbol b g)
@@ -41,6 +41,10 @@ module _ {t cells slots starts found old : List ℕ} {before limit : ℕ} (b : B
 
   pub text-fault : {g : Got (List ℕ)} {p : ℕ} → g ≡ fault p → Says t cells slots starts found old before limit (Refused 71 p) (afterText limit b g)
   text-fault e = says-by (ap (afterText limit b) e) (says-refused refl)
+
+-- the leaf of a number is none of a text
+pub number-old : (used texts : ℕ) (k : Scalar) → Old used texts (leafRow numberLeaf k)
+number-old used texts k = no-text used texts refl (λ e. omega (arith, e)) no-child
 
 -- a number ends behind its first byte
 pub scalar-behind : (t : List ℕ) (at : ℕ) {o : Option Scalar} {n : ℕ} → got o n ≡ asScalar (numberAt t at) → 0 < n

@@ -31,6 +31,7 @@ pub mod KeyLines
 pub mod Keying
 pub mod KeyFilling
 pub mod TextLeaves
+pub mod Glancing
 pub mod LeafWays
 pub mod Entries
 pub mod KeyWays

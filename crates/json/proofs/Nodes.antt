@@ -6,9 +6,9 @@ use Prim.Native.Nat.{ℕ, _/_, _%_, _^_, _<_, _≤_}
 use native.Mathlib.Omega.{arith}
 use borrow.Author.Tests.{eq-eqb, ne-eqb}
 use lib.Dec.{eqb}
-use lib.ListN.{length}
+use lib.ListN.{length, replicate}
 use Rattle.model.specs.Limits.{unused}
-use Rattle.document.specs.Rows.{used, placesOf, splitCells}
+use Rattle.document.specs.Rows.{used, placesOf, splitCells, encodeRow}
 use Rattle.document.specs.Words.{Words}
 use Rattle.document.specs.Scalars.{kindOf, payloadOf}
 use Rattle.document.specs.declared.scalar.Scalar.{Scalar}
@@ -50,3 +50,11 @@ module _ (s k v r : ℕ) (l : (k < unused) × (v < unused) × (r < unused)) wher
     two-places e f =
         subst (λ x. Words (nodeRow s (by x)) a b 0) (sym (ne-eqb s other e))
         (node-words (v ∷ r ∷ []) (omega arith) (used-first v (r ∷ []) (l .1) ∙ ap (v ∷_) (used-first r [] (l .2))) (ap (λ cs. cs ++ unused ∷ []) f))
+
+-- the cells of a row with children
+module _ (s k v r : ℕ) where
+  pub three-cells : s ≡ other → encodeRow (nodeRow s ((keyRows s k ++ v ∷ []) ++ r ∷ [])) ≡ s ∷ k ∷ v ∷ r ∷ unused ∷ replicate 5 0
+  three-cells e = ap (λ x. encodeRow (nodeRow s ((cond x (k ∷ []) [] ++ v ∷ []) ++ r ∷ []))) (eq-eqb s other e)
+
+  pub two-cells : (s ≡ other → ⊥) → encodeRow (nodeRow s ((keyRows s k ++ v ∷ []) ++ r ∷ [])) ≡ s ∷ v ∷ r ∷ unused ∷ unused ∷ replicate 5 0
+  two-cells e = ap (λ x. encodeRow (nodeRow s ((cond x (k ∷ []) [] ++ v ∷ []) ++ r ∷ []))) (ne-eqb s other e)

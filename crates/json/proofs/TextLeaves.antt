@@ -22,15 +22,18 @@ use Rattle.document.specs.declared.builder.Placed.{Placed}
 use Rattle.document.specs.declared.builder.Placed.the-variants.{Known, Added, Full}
 use Rattle.document.proofs.Ready.{Put, was, is, no-room, puts}
 use Rattle.jsontext.specs.Strings.{stringAt}
+use Rattle.jsontext.specs.Decoded.{textSlot}
 use Rattle.json.specs.Signature.{textLeaf}
 use Rattle.json.specs.Keys.{findText}
 use Rattle.json.specs.Value.{numbered}
 use Rattle.json.specs.Grammar.{Built, built, Outcome, good, refused, leafRow, placeRow, finish, finishText, afterText}
 use Rattle.json.specs.State.{textAt, textsIn, builtIn, Holds, Says, says-read, says-refused}
+use Rattle.json.specs.Texts.{ProbedAt}
+use Rattle.json.specs.declared.texts.TextProbed.the-variants.{Known as KnownText}
 use Rattle.json.specs.declared.rows.Part.{Part}
 use Rattle.json.specs.declared.rows.Part.the-variants.{Read, Refused}
 use Rattle.json.proofs.Holding.{says-by, found-inside, after-same}
-use Rattle.json.proofs.Texting.{Fresh, there, holds-more, texts-more}
+use Rattle.json.proofs.Texting.{Fresh, there, holds-more, texts-more, probe-text, probed-known}
 
 module _ (t cells starts : List ℕ) (used texts limit at : ℕ) (bs : List ℕ) (next : ℕ) (string : stringAt t at ≡ got bs next) where
   abbrev b : Built
@@ -133,7 +136,18 @@ module _ (t cells starts : List ℕ) (used texts limit at : ℕ) (bs : List ℕ)
               ∙ (λ k. cond (room k) (good (length (rowsBelow cells used)) next (built (rowsBelow cells used ++ leafRow textLeaf (Name texts) ∷ []) (textsIn t starts texts ++ bs ∷ []))) (refused 67 (next - 1)))
 
 -- the row of a text's leaf is one of the rows
-pub row-inside : {t cells slots starts found : List ℕ} {used texts limit : ℕ} → Holds t cells slots starts found used texts limit → {k : ℕ} → k < texts → (k < 1024) × (getD starts (maxRows + k) 0 < 65536)
+row-inside : {t cells slots starts found : List ℕ} {used texts limit : ℕ} → Holds t cells slots starts found used texts limit → {k : ℕ} → k < texts → (k < 1024) × (getD starts (maxRows + k) 0 < 65536)
 row-inside {cells = cells} {starts = starts} {used = used} h {k} l =
     let inside = found-inside (leafRow textLeaf (Name k)) (rowsBelow cells used) (getD starts (maxRows + k) 0) (h .leaves k l) in
     (omega (arith, l, h .few, h .ready .built .few), omega (arith, inside, length-tab used (rowIn cells), h .ready .built .few))
+
+-- a text that the probe found
+module _ {t cells slots starts found : List ℕ} {used texts limit at next k : ℕ} (h : Holds t cells slots starts found used texts limit) (w : ProbedAt t starts found at next (KnownText k)) where
+  numbered-so : (k < texts) × (textAt t starts k ≡ w .bytes) × (findText (w .bytes) (textsIn t starts texts) ≡ some k)
+  numbered-so = probed-known (probe-text t cells slots starts found used texts limit h at (w .bytes) next (w .string) (textSlot (w .bytes)) refl) k (w .answer)
+
+  pub known-inside : (length starts ≡ 2048) × ((k < 1024) × (getD starts (maxRows + k) 0 < 65536))
+  known-inside = (h .size, row-inside h (numbered-so .0))
+
+  pub known-read : 0 < next → (row : number.Row) → row .0 ≡ getD starts (maxRows + k) 0 → Says t cells slots starts found starts texts limit (Read row next used texts) (afterText limit (builtIn t cells starts used texts) (stringAt t at))
+  known-read behind row e = known-says t cells starts used texts limit at (w .bytes) next (w .string) slots found h behind k (numbered-so .0) (numbered-so .2) row e

@@ -3,15 +3,25 @@ use crate::rows::Part;
 use crate::rows::STARTS;
 use crate::rows::finish;
 use crate::rows::leaf;
+use crate::rows::leaf_of;
+use crate::rows::settle;
+use crate::texts::TextProbed;
+use crate::texts::glance;
 use crate::texts::look_up;
+use crate::texts::new_text;
+use crate::texts::row_of;
 use crate::texts::text_leaf;
 use base::text::word_bytes;
 use document::Scalar;
 use document::index::SLOTS;
 use document::near::NEAR;
+use document::near::near_row;
+use document::scalar::RATE;
+use document::scalar::rate_payload;
 use document::words::CELLS;
 use jsontext::number::NumberRead;
 use jsontext::number::number;
+use jsontext::shorts::short;
 use jsontext::strings::StringRead;
 use jsontext::strings::read;
 ghost use mathlib.Core.Path.{_≡_};
@@ -95,7 +105,11 @@ pub(crate) fn number_leaf(
         NumberRead::Outside(_) => Part::Refused(73, at),
         NumberRead::Counted(value, next) => {
             let w = leaf(NUMBER, Scalar::Count(value));
-            finish(
+            let row = near_row(&*rows, &*near, used, w.a, w.b, w.c);
+            if row.0 < used {
+                return Part::Read(row, next, used, texts);
+            }
+            settle(
                 text,
                 starts,
                 found,
@@ -111,9 +125,13 @@ pub(crate) fn number_leaf(
                 w.c,
             )
         },
-        NumberRead::Is(scalar, next) => {
-            let w = leaf(NUMBER, scalar);
-            finish(
+        NumberRead::Rated(bits, next) => {
+            let w = leaf_of(NUMBER, RATE, rate_payload(bits));
+            let row = near_row(&*rows, &*near, used, w.a, w.b, w.c);
+            if row.0 < used {
+                return Part::Read(row, next, used, texts);
+            }
+            settle(
                 text,
                 starts,
                 found,
@@ -149,6 +167,27 @@ pub(crate) fn string_leaf(
     requires lent { ⌜ now classes ≡ classTable ⌝ }
     ensures { λ r. ⌜ Says (now (text .entry)) (now (rows .exit)) (now (slots .exit)) (now (starts .exit)) (now (found .exit)) (now (starts .entry)) texts limit r (afterText limit (builtIn (now (text .entry)) (now (rows .entry)) (now (starts .entry)) used texts) (stringAt (now (text .entry)) at)) ⌝ }
 {
+    let s = short(text, at);
+    if s.end != 0 {
+        let next = s.end + 1;
+        match glance(text, &*starts, &*found, s.slot, at, s.end) {
+            TextProbed::Known(k) => return Part::Read(row_of(&*starts, k), next, used, texts),
+            TextProbed::Free(free) => return new_text(
+                text,
+                rows,
+                slots,
+                starts,
+                found,
+                used,
+                texts,
+                limit,
+                at,
+                next,
+                free,
+            ),
+            TextProbed::Crowded => {},
+        }
+    }
     match read(text, classes, at) {
         StringRead::Fault(p) => Part::Refused(71, p),
         StringRead::Whole(slot, next) => {

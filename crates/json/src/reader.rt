@@ -378,6 +378,9 @@ fn head(
     ) {
         KeyPart::NoKey(w, p) => KeyPart::NoKey(w, p),
         KeyPart::Key(symbol, key, next, n, m) => {
+            if byte_at(text, next) == b':' {
+                return KeyPart::Key(symbol, key, space_end(text, classes, next + 1), n, m);
+            }
             let i = space_end(text, classes, next);
             if byte_at(text, i) != b':' {
                 return KeyPart::NoKey(71, i);

@@ -5,8 +5,10 @@ use base::text::byte_at;
 use document::Scalar;
 use document::builder::Placed;
 use document::fresh::add_new;
+use document::hash::node_hash;
 use document::index::SLOTS;
 use document::near::NEAR;
+use document::near::near_row;
 use document::near::place_row;
 use document::rows::Row;
 use document::scalar;
@@ -17,6 +19,10 @@ ghost use mathlib.Core.Path.{_≡_};
 ghost use mathlib.Core.List.{[], _∷_, _++_};
 ghost use Prim.Native.Nat.{_<_};
 ghost use Rattle.model.specs.Table as table;
+ghost use Rattle.document.specs.declared.scalar.Scalar.{Scalar};
+ghost use Rattle.document.specs.Scalars.{kindOf, payloadOf};
+ghost use Rattle.document.specs.Rows.{encodeRow};
+ghost use Rattle.document.specs.Hash.{rowHash};
 ghost use Rattle.document.specs.Words.{Words};
 ghost use Rattle.json.specs.Signature.{other, textLeaf};
 ghost use Rattle.json.specs.Grammar.{leafRow, nodeRow, finish, closeAt};
@@ -49,21 +55,22 @@ pub(crate) struct RowWords {
     pub(crate) c: u64,
 }
 
+// A row without children, by the kind and the payload of its scalar.
+pub(crate) fn leaf_of(symbol: u16, kind: u16, payload: u64) -> RowWords
+    ensures { λ r. ⌜ ((scalar : Scalar) → kind ≡ kindOf scalar → payload ≡ payloadOf scalar → Words (leafRow symbol scalar) (r .a) (r .b) (r .c)) ⌝ }
+{
+    RowWords {
+        a: word(symbol, UNUSED, UNUSED, UNUSED),
+        b: word(UNUSED, kind, low_cell(payload), low_cell(payload / CELL)),
+        c: payload / TWO_CELLS,
+    }
+}
+
 // A row without children.
 pub(crate) fn leaf(symbol: u16, scalar: Scalar) -> RowWords
     ensures { λ r. ⌜ Words (leafRow symbol scalar) (r .a) (r .b) (r .c) ⌝ }
 {
-    let x = scalar::payload(scalar);
-    RowWords {
-        a: word(symbol, UNUSED, UNUSED, UNUSED),
-        b: word(
-            UNUSED,
-            scalar::kind(scalar),
-            low_cell(x),
-            low_cell(x / CELL),
-        ),
-        c: x / TWO_CELLS,
-    }
+    leaf_of(symbol, scalar::kind(scalar), scalar::payload(scalar))
 }
 
 // The row of a member or an element: its value and its rest, behind the text of a key that is not listed.
@@ -85,6 +92,16 @@ fn node(symbol: u16, key: Row, value: Row, rest: Row) -> RowWords
     }
 }
 
+// The hash of that row.
+fn hash_of(symbol: u16, key: Row, value: Row, rest: Row) -> u32
+    ensures { λ r. ⌜ r ≡ rowHash (encodeRow (nodeRow symbol ((keyRows symbol (key .0) ++ value .0 ∷ []) ++ rest .0 ∷ []))) ⌝ }
+{
+    if symbol == OTHER {
+        return node_hash(symbol, key.0, value.0, rest.0);
+    }
+    node_hash(symbol, value.0, rest.0, UNUSED)
+}
+
 // What becomes of a row that ends before `next`, by the builder's answer.
 fn part_after(placed: Placed, next: usize, used: u16, texts: u16) -> Part
     requires { ⌜ (0 < next) × (used < 65535) ⌝ }
@@ -97,8 +114,8 @@ fn part_after(placed: Placed, next: usize, used: u16, texts: u16) -> Part
     }
 }
 
-// The row of the words, which is not that of a text still to come, is finished before `next`.
-pub(crate) fn finish(
+// The row of the words, which is not that of a text still to come, is finished before `next`: it is looked up.
+pub(crate) fn settle(
     text: &[u8],
     starts: &[usize; STARTS],
     found: &[u16; SLOTS],
@@ -119,6 +136,47 @@ pub(crate) fn finish(
 {
     let placed = place_row(rows, slots, near, used, limit, a, b, c);
     part_after(placed, next, used, texts)
+}
+
+// The row of the words, which is not that of a text still to come, is finished before `next`: it is near at hand, or looked up.
+pub(crate) fn finish(
+    text: &[u8],
+    starts: &[usize; STARTS],
+    found: &[u16; SLOTS],
+    rows: &mut [u16; CELLS],
+    slots: &mut [u16; SLOTS],
+    near: &mut [u16; NEAR],
+    used: u16,
+    texts: u16,
+    limit: u16,
+    next: usize,
+    a: u64,
+    b: u64,
+    c: u64,
+) -> Part
+    requires holds { ⌜ Holds (now text) (now rows) (now slots) (now starts) (now found) used texts limit ⌝ }
+    requires behind { ⌜ 0 < next ⌝ }
+    ensures { λ r. ⌜ ((x : table.Row) → Words x a b c → Old used texts x → Says (now (text .entry)) (now (rows .exit)) (now (slots .exit)) (now (starts .entry)) (now (found .entry)) (now (starts .entry)) texts limit r (finish limit x next (builtIn (now (text .entry)) (now (rows .entry)) (now (starts .entry)) used texts))) ⌝ }
+{
+    let row = near_row(&*rows, &*near, used, a, b, c);
+    if row.0 < used {
+        return Part::Read(row, next, used, texts);
+    }
+    settle(
+        text,
+        starts,
+        found,
+        rows,
+        slots,
+        near,
+        used,
+        texts,
+        limit,
+        next,
+        a,
+        b,
+        c,
+    )
 }
 
 // The row of a member or an element, whose value and rest are read. Over the last row it is new, since no row below has that one as a child.
@@ -147,7 +205,8 @@ pub(crate) fn join(
 {
     let w = node(symbol, key, value, rest);
     if (value.0 + 1 == used) | (rest.0 + 1 == used) {
-        let placed = add_new(rows, slots, used, limit, w.a, w.b, w.c);
+        let hash = hash_of(symbol, key, value, rest);
+        let placed = add_new(rows, slots, used, limit, hash, w.a, w.b, w.c);
         return part_after(placed, next, used, texts);
     }
     finish(

@@ -7,10 +7,12 @@ use base::numbers::size;
 use document::Scalar;
 use document::builder::Placed;
 use document::fresh::add_new;
+use document::hash::words_hash;
 use document::index::SLOTS;
 use document::rows::Row;
 use document::words::CELLS;
 use jsontext::decoded::same;
+use jsontext::shorts::same_bytes;
 ghost use mathlib.Core.Path.{_≡_};
 ghost use Prim.Native.Nat.{_+_, _<_};
 ghost use lib.ListN.{length, getD};
@@ -18,10 +20,11 @@ ghost use Rattle.classes.specs.Classes.{classTable};
 ghost use Rattle.document.specs.Index.{probe};
 ghost use Rattle.jsontext.specs.Strings.{stringAt};
 ghost use Rattle.jsontext.specs.Decoded.{sameText};
+ghost use Rattle.jsontext.specs.Shorts.{ShortAt};
 ghost use Rattle.json.specs.Grammar.{afterText};
 ghost use Rattle.json.specs.State.{builtIn, Holds, Says};
 ghost use Rattle.json.specs.Texts.{probedOf, ProbedAt};
-ghost use Rattle.json.specs.declared.texts.TextProbed.the-variants.{Free};
+ghost use Rattle.json.specs.declared.texts.TextProbed.the-variants.{Free, Crowded};
 
 // The symbol of a text's leaf.
 const TEXT: u16 = 7;
@@ -43,7 +46,7 @@ fn start_of(starts: &[usize; STARTS], k: u16) -> usize
 }
 
 // The row of a text's leaf.
-fn row_of(starts: &[usize; STARTS], k: u16) -> Row
+pub(crate) fn row_of(starts: &[usize; STARTS], k: u16) -> Row
     requires size { ⌜ length (now starts) ≡ 2048 ⌝ }
     requires numbered { ⌜ (k < 1024) × (getD (now starts) (1024 + k) 0 < 65536) ⌝ }
     ensures { λ r. ⌜ r .0 ≡ getD (now (starts .entry)) (1024 + k) 0 ⌝ }
@@ -79,8 +82,32 @@ pub(crate) fn look_up(
     TextProbed::Crowded
 }
 
+// What the first slot tells of the text of a short string: that it is this one, or that it is new. Crowded: neither, and it is to be looked up.
+pub(crate) fn glance(
+    text: &[u8],
+    starts: &[usize; STARTS],
+    found: &[u16; SLOTS],
+    slot: u16,
+    at: usize,
+    end: usize,
+) -> TextProbed
+    requires size { ⌜ length (now starts) ≡ 2048 ⌝ }
+    requires short { ⌜ ShortAt (now text) at slot end ⌝ }
+    ensures { λ r. ⌜ ((r ≡ Crowded → ⊥) → ProbedAt (now (text .entry)) (now (starts .entry)) (now (found .entry)) at (end + 1) r) ⌝ }
+{
+    let i = size(slot) % SLOTS;
+    let held = found[i];
+    if held == 0 {
+        return TextProbed::Free(i);
+    }
+    if same_bytes(text, at, start_of(starts, held - 1), end + 1 - at) {
+        return TextProbed::Known(held - 1);
+    }
+    TextProbed::Crowded
+}
+
 // The leaf of a text that is new: it gets the next number.
-fn new_text(
+pub(crate) fn new_text(
     text: &[u8],
     rows: &mut [u16; CELLS],
     slots: &mut [u16; SLOTS],
@@ -99,7 +126,16 @@ fn new_text(
     ensures { λ r. ⌜ Says (now (text .entry)) (now (rows .exit)) (now (slots .exit)) (now (starts .exit)) (now (found .exit)) (now (starts .entry)) texts limit r (afterText limit (builtIn (now (text .entry)) (now (rows .entry)) (now (starts .entry)) used texts) (stringAt (now (text .entry)) at)) ⌝ }
 {
     let w = leaf(TEXT, Scalar::Name(texts as u32));
-    match add_new(rows, slots, used, limit, w.a, w.b, w.c) {
+    match add_new(
+        rows,
+        slots,
+        used,
+        limit,
+        words_hash(w.a, w.b, w.c),
+        w.a,
+        w.b,
+        w.c,
+    ) {
         Placed::Known(_) => Part::Refused(67, next - 1),
         Placed::Added(i) => {
             let k = size(texts);

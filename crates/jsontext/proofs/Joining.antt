@@ -5,7 +5,7 @@ use Prim.Native.Nat.{ℕ, zero, suc, _+_, _-_, _*_, _/_, _%_, _^_, _<_, _≤_}
 use native.Mathlib.Nat.{pow-suc, one-le-pow, mul-assoc}
 use native.Mathlib.Omega.{arith}
 use lib.Arith.{digits-div, digits-mod}
-use lib.Pow.{pow-add, shl-exact}
+use lib.Pow.{pow-add, field, shl-shr}
 use lib.ListN.{length, take, drop, length-take, length-drop}
 use lib.Seq.{drop-cons, take-all, take-take, getD-take, getD-drop}
 use Rattle.base.specs.Text.{byteAt}
@@ -119,18 +119,17 @@ byte-anywhere (b ∷ bs) h zero = h 0 (omega arith)
 byte-anywhere (b ∷ bs) h (suc i) = byte-anywhere bs (bytes-tail b bs h) i
 
 -- ---- the lowest n bytes of a word
-module _ (n : ℕ) (h : n < 8) where
-  one-shifted : 1 * 2 ^ (8 * n) % 2 ^ 64 ≡ 256 ^ n
-  one-shifted = shl-exact 1 (8 * n) 64 (omega arith) (omega arith) ∙ rw (pow-256 n) (omega arith)
+-- the bytes shifted out leave the others
+pub shifted : (x n : ℕ) → n ≤ 8 → x * 2 ^ (64 - 8 * n) % 2 ^ 64 / 2 ^ (64 - 8 * n) ≡ x % 2 ^ (8 * n)
+shifted x n h =
+    let e : 64 ≡ 8 * n + (64 - 8 * n) = omega arith in
+    ap (λ (k : ℕ). x * 2 ^ (64 - 8 * n) % 2 ^ k / 2 ^ (64 - 8 * n)) e
+    ∙ field (x * 2 ^ (64 - 8 * n)) (8 * n) (64 - 8 * n)
+    ∙ ap (λ (k : ℕ). k % 2 ^ (8 * n)) (shl-shr x (64 - 8 * n))
 
-  pub cut-some : 0 < 1 * 2 ^ (8 * n) % 2 ^ 64
-  cut-some = rw one-shifted (one-le-pow n 256 (omega arith))
-
-pub word-front : (t : List ℕ) → Bytes t → (i n w : ℕ) → n ≤ 8 → w ≡ joinBytes (take 8 (drop i t)) → w % 2 ^ (8 * n) ≡ joinBytes (take n (drop i t))
-word-front t v i n w h e =
-    ap₂ (λ (x y : ℕ). x % y) e (pow-256 n)
+pub word-cut : (t : List ℕ) → Bytes t → (i n w : ℕ) → n ≤ 8 → w ≡ joinBytes (take 8 (drop i t)) → w * 2 ^ (64 - 8 * n) % 2 ^ 64 / 2 ^ (64 - 8 * n) ≡ joinBytes (take n (drop i t))
+word-cut t v i n w h e =
+    shifted w n h
+    ∙ ap₂ (λ (x y : ℕ). x % y) e (pow-256 n)
     ∙ sym (join-take n (take 8 (drop i t)) (bytes-take 8 (drop i t) (bytes-drop i t v)))
     ∙ ap joinBytes (take-take n 8 (drop i t) h)
-
-pub word-cut : (t : List ℕ) → Bytes t → (i n w : ℕ) → n < 8 → w ≡ joinBytes (take 8 (drop i t)) → w % (1 * 2 ^ (8 * n) % 2 ^ 64) ≡ joinBytes (take n (drop i t))
-word-cut t v i n w h e = ap (λ (m : ℕ). w % m) (one-shifted n h ∙ sym (pow-256 n)) ∙ word-front t v i n w (omega arith) e

@@ -34,3 +34,4 @@ pub mod Bytewise
 pub mod StringEnds
 pub mod Writing
 pub mod Quoting
+pub mod Shorting

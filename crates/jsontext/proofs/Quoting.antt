@@ -19,11 +19,11 @@ use Rattle.jsontext.specs.Compared.{Alike}
 use Rattle.jsontext.specs.Kept.{Bytes}
 use Rattle.jsontext.specs.Tokens.{quoted, TokenOf}
 use Rattle.jsontext.proofs.Places.{both}
-use Rattle.jsontext.proofs.Joining.{join-same, join-whole, pow-256, word-front, bytes-take, bytes-drop, bytes-none, bytes-cons, bytes-append}
+use Rattle.jsontext.proofs.Joining.{join-same, join-whole, pow-256, word-cut, bytes-take, bytes-drop, bytes-none, bytes-cons, bytes-append}
 use Rattle.jsontext.proofs.PlainRuns.{below-or-not, plains-none, plains-more}
 use Rattle.jsontext.proofs.Keeping.{drop-take}
 use Rattle.jsontext.proofs.Agreeing.{alike-none, alike-more}
-use Rattle.jsontext.proofs.Writing.{shifted, between-quotes}
+use Rattle.jsontext.proofs.Writing.{between-quotes}
 
 plain-byte : (b : ℕ) → plain? b ≡ true → b < 256
 unfolding plain?
@@ -34,10 +34,10 @@ module _ (key : List ℕ) where
   quoted-length : length (quoted key) ≡ length key + 2
   quoted-length = omega (arith, length-append key (34 ∷ []))
 
-  quoted-inner : (k : ℕ) → k < length key → byteAt (quoted key) (k + 1) ≡ byteAt key k
+  pub quoted-inner : (k : ℕ) → k < length key → byteAt (quoted key) (k + 1) ≡ byteAt key k
   quoted-inner k h = ap (byteAt (quoted key)) (add-one k) ∙ List·getD-append key (34 ∷ []) 0 k h
 
-  quoted-end : byteAt (quoted key) (length key + 1) ≡ 34
+  pub quoted-end : byteAt (quoted key) (length key + 1) ≡ 34
   quoted-end = ap (byteAt (quoted key)) (add-one (length key)) ∙ getD-append-seam key 34 [] 0
 
   quoted-bytes : Plains key 0 (length key) → Bytes (quoted key)
@@ -60,7 +60,7 @@ module _ (t key : List ℕ) (at : ℕ) (plain : Plains key 0 (length key)) (insi
       subst (Alike t (at + 1) key 0) (add-one n)
       (alike-more t (at + 1) key 0 n (byteAt t (at + 1 + n)) (byteAt key (0 + n)) (alike-up-to n (omega arith)) refl (ap plain? e ∙ plain .each n zero-le (omega arith)) refl (ap (byteAt key) z ∙ sym e))
 
-  quoted-string : (n : ℕ) → n ≡ length key + 2 → stringAt t at ≡ got key (at + n)
+  pub quoted-string : (n : ℕ) → n ≡ length key + 2 → stringAt t at ≡ got key (at + n)
   quoted-string n c =
       let a : at ≡ at + 0 = omega arith in
       let b : at + length key + 1 ≡ at + (length key + 1) = omega arith in
@@ -69,7 +69,7 @@ module _ (t key : List ℕ) (at : ℕ) (plain : Plains key 0 (length key)) (insi
       ∙ ap₂ (λ (bs : List ℕ) (m : ℕ). got bs m) (take-length key) d
 
 -- ---- words that agree
-bytes-agree : (t q : List ℕ) → Bytes t → Bytes q → (m i j : ℕ) → i + m ≤ length t → j + m ≤ length q → joinBytes (take m (drop i t)) ≡ joinBytes (take m (drop j q)) → (k : ℕ) → k < m → byteAt t (i + k) ≡ byteAt q (j + k)
+pub bytes-agree : (t q : List ℕ) → Bytes t → Bytes q → (m i j : ℕ) → i + m ≤ length t → j + m ≤ length q → joinBytes (take m (drop i t)) ≡ joinBytes (take m (drop j q)) → (k : ℕ) → k < m → byteAt t (i + k) ≡ byteAt q (j + k)
 bytes-agree t q b c m i j h l e k o =
     let p : length (take m (drop i t)) ≡ length (take m (drop j q)) = omega (arith, length-take m (drop i t), length-drop i t, length-take m (drop j q), length-drop j q) in
     let x = join-same (take m (drop i t)) (take m (drop j q)) (bytes-take m (drop i t) (bytes-drop i t b)) (bytes-take m (drop j q) (bytes-drop j q c)) p e in
@@ -89,7 +89,7 @@ module _ (t : List ℕ) (b : Bytes t) (at first last n : ℕ) (room : at + 16 �
   short-string h s =
       let all : take n (quoted key) ≡ quoted key = take-all n (quoted key) (omega (arith, quoted-length key, v .count)) in
       let q : joinBytes (take n (drop at t)) ≡ joinBytes (take n (quoted key)) =
-      sym (word-front t b at n w (omega arith) e) ∙ sym (shifted w n (omega arith)) ∙ ap (λ (x : ℕ). x / 2 ^ (64 - 8 * n)) (s ∙ v .short h) ∙ shl-shr (joinBytes (quoted key)) (64 - 8 * n) ∙ ap joinBytes (sym all) in
+      sym (word-cut t b at n w (omega arith) e) ∙ ap (λ (x : ℕ). x / 2 ^ (64 - 8 * n)) (s ∙ v .short h) ∙ shl-shr (joinBytes (quoted key)) (64 - 8 * n) ∙ ap joinBytes (sym all) in
       string-of (agree-first n (omega (arith, v .few)) (omega arith) q)
 
   pub long-string : (z : ℕ) → 8 ≤ n → w ≡ first → z ≡ joinBytes (take 8 (drop (at + n - 8) t)) → z ≡ last → stringAt t at ≡ got key (at + n)

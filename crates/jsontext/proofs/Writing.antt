@@ -5,7 +5,6 @@ use mathlib.Core.List.{List, _++_, map}
 use Prim.Native.Nat.{ℕ, _+_, _-_, _*_, _/_, _%_, _^_, _<_, _≤_}
 use native.Mathlib.Nat.{zero-div}
 use native.Mathlib.Omega.{arith}
-use lib.Pow.{field, shl-shr}
 use lib.ListN.{length, take, drop, length-take, length-drop}
 use lib.Seq.{getD-take, getD-drop}
 use Rattle.base.specs.Text.{byteAt, got}
@@ -19,7 +18,7 @@ use Rattle.jsontext.specs.Kept.{Bytes}
 use Rattle.jsontext.proofs.Ways.{piece-closed}
 use Rattle.jsontext.proofs.PlainRuns.{plains-join}
 use Rattle.jsontext.proofs.Scanning.{part-join, scan-start, scan-closed}
-use Rattle.jsontext.proofs.Joining.{join-same, word-front, bytes-take, bytes-drop}
+use Rattle.jsontext.proofs.Joining.{join-same, shifted, word-cut, bytes-take, bytes-drop}
 use Rattle.jsontext.proofs.Bytewise.{plain-below}
 use Rattle.jsontext.proofs.Comparing.{running-begin, running-alike}
 
@@ -43,14 +42,6 @@ module _ (s : List ℕ) (i : ℕ) (t : List ℕ) (n m o : ℕ) (e : o ≡ n + m)
       }
 
 -- ---- words
--- the bytes shifted out leave the others
-pub shifted : (x n : ℕ) → n ≤ 8 → x * 2 ^ (64 - 8 * n) % 2 ^ 64 / 2 ^ (64 - 8 * n) ≡ x % 2 ^ (8 * n)
-shifted x n h =
-    let e : 64 ≡ 8 * n + (64 - 8 * n) = omega arith in
-    ap (λ (k : ℕ). x * 2 ^ (64 - 8 * n) % 2 ^ k / 2 ^ (64 - 8 * n)) e
-    ∙ field (x * 2 ^ (64 - 8 * n)) (8 * n) (64 - 8 * n)
-    ∙ ap (λ (k : ℕ). k % 2 ^ (8 * n)) (shl-shr x (64 - 8 * n))
-
 -- the first n of eight bytes at two places
 module _ (s : List ℕ) (i : ℕ) (t : List ℕ) (j n : ℕ) (few : n ≤ 8) (first : i + 8 ≤ length s) (second : j + 8 ≤ length t) where
   eight : (l : List ℕ) (k : ℕ) → k + 8 ≤ length l → length (take n (drop k l)) ≡ n
@@ -61,7 +52,7 @@ module _ (s : List ℕ) (i : ℕ) (t : List ℕ) (j n : ℕ) (few : n ≤ 8) (fi
     agree : take n (drop i s) ≡ take n (drop j t)
     agree =
         join-same (take n (drop i s)) (take n (drop j t)) (bytes-take n (drop i s) (bytes-drop i s p)) (bytes-take n (drop j t) (bytes-drop j t q)) (eight s i first ∙ sym (eight t j second))
-        (sym (word-front s p i n v few e) ∙ sym (shifted v n few) ∙ ap (λ (k : ℕ). k / 2 ^ (64 - 8 * n)) same ∙ shifted w n few ∙ word-front t q j n w few f)
+        (sym (word-cut s p i n v few e) ∙ ap (λ (k : ℕ). k / 2 ^ (64 - 8 * n)) same ∙ word-cut t q j n w few f)
 
     module _ (m : ℕ) (g : m ≡ joinBytes (map mark (take 8 (drop j t)))) (none : m * 2 ^ (64 - 8 * n) % 2 ^ 64 ≡ 0) where
       plain-there : (k : ℕ) → k < n → plain? (byteAt (drop j t) k) ≡ true

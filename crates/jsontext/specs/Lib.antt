@@ -13,3 +13,4 @@ pub mod Compared
 pub mod Chars
 pub mod Kept
 pub mod Tokens
+pub mod Shorts

@@ -10,13 +10,14 @@ use Rattle.base.specs.Text.{byteAt, Got, got, fault}
 use Rattle.classes.specs.Classes.{digit?}
 use Rattle.document.specs.declared.scalar.Scalar.{Scalar}
 use Rattle.document.specs.declared.scalar.Scalar.the-variants.{Count}
+use Rattle.document.specs.Scalars.{rowRate}
 use Rattle.jsontext.specs.Number.{Digits, digitsOf, digitsFrom, fractionAt, numberAt}
 use Rattle.jsontext.specs.declared.digits.ShortRun.{ShortRun}
 use Rattle.jsontext.specs.declared.number.DigitRun.{DigitRun}
 use Rattle.jsontext.specs.declared.number.DigitsRead.{DigitsRead}
 use Rattle.jsontext.specs.declared.number.DigitsRead.the-variants.{Digits as Run, Fault as NoDigits}
 use Rattle.jsontext.specs.declared.number.NumberRead.{NumberRead}
-use Rattle.jsontext.specs.declared.number.NumberRead.the-variants.{Counted, Is, Outside, Fault}
+use Rattle.jsontext.specs.declared.number.NumberRead.the-variants.{Counted, Rated, Outside, Fault}
 
 -- digits as they are carried: a value of 2^64 or more is not, and 2^64 - 1 stands for it
 abbrev pub carried : Digits → DigitRun
@@ -71,6 +72,6 @@ Begins t at r = numberAt t at ≡ fractionAt t false (digitsOf (r .value) (r .en
 -- a number: its scalar, or none where it is outside the forms that become one
 abbrev pub numberOf : NumberRead → Got (Option Scalar)
 numberOf (Counted v n) = got (some (Count v)) n
-numberOf (Is s n) = got (some s) n
+numberOf (Rated bits n) = got (some (rowRate bits)) n
 numberOf (Outside n) = got none n
 numberOf (Fault p) = fault p

@@ -13,3 +13,4 @@ pub mod slots; // slots.rt: where a text is looked for first
 pub mod written; // written.rt: a string that is written just as it is
 pub mod tokens; // tokens.rt: short strings that are known beforehand
 pub mod strings; // strings.rt: a string's slot and end
+pub mod shorts; // shorts.rt: the same of a short string, and one compared with another

@@ -6,9 +6,7 @@ use crate::digits::few_digits;
 use crate::rate::rate;
 use base::text::byte_at;
 use classes::is_digit;
-use document::Scalar;
 use document::scalar::bits_of;
-use document::scalar::row_rate;
 ghost use mathlib.Core.Path.{_≡_};
 ghost use mathlib.Core.Bool.{true};
 ghost use Prim.Native.Nat.{_+_, _-_, _/_, _<_, _≤_, _^_};
@@ -40,10 +38,10 @@ pub(crate) enum DigitsRead {
     Fault(usize),
 }
 
-// A number's scalar and the place after it, a count told as it is where it was read in the short way; the place after a number that becomes none; or the place of the byte that no rule allows.
+// A count or a rate's bits, of which a row takes minus zero for zero, and the place after the number; the place after one that becomes none; or the place of the byte that no rule allows.
 pub enum NumberRead {
     Counted(u64, usize),
-    Is(Scalar, usize),
+    Rated(u64, usize),
     Outside(usize),
     Fault(usize),
 }
@@ -167,15 +165,12 @@ fn as_scalar(
     ensures { λ r. ⌜ ((d : Digits) → digits ≡ carried d → numberOf r ≡ got (numberScalar (plainNumber negative d places fraction)) next) ⌝ }
 {
     if !negative & !fraction & digits.fits {
-        return NumberRead::Is(Scalar::Count(digits.value), next);
+        return NumberRead::Counted(digits.value, next);
     }
     if digits.count > MAX_DIGITS {
         return NumberRead::Outside(next);
     }
-    NumberRead::Is(
-        row_rate(bits_of(rate(negative, digits.value, places))),
-        next,
-    )
+    NumberRead::Rated(bits_of(rate(negative, digits.value, places)), next)
 }
 
 // The exponent's sign and digits. A number that has one becomes no scalar.
@@ -306,7 +301,7 @@ fn short_fraction(text: &[u8], classes: &[u8; 256], at: usize, whole: ShortRun) 
     behind_digits(text, classes, false, all, next - first, true, next)
 }
 
-// The number at a place, the longest one, as a scalar. A short one is read in a shorter way, and a short count is told as it is.
+// The number at a place, the longest one, as a scalar. A short one is read in a shorter way.
 pub fn number(text: &[u8], classes: &[u8; 256], at: usize) -> NumberRead
     ensures { λ r. ⌜ (now (classes .entry) ≡ classTable → numberOf r ≡ asScalar (numberAt (now (text .entry)) at)) ⌝ }
 {

@@ -70,7 +70,7 @@ fn plain_rest(text: &[u8], at: usize) -> usize
 }
 
 // A place up to which the eight bytes at a place stand for themselves; behind them where all do.
-fn plain_word(text: &[u8], i: usize) -> usize
+pub(crate) fn plain_word(text: &[u8], i: usize) -> usize
     requires { ⌜ i + 8 ≤ length (now text) ⌝ }
     ensures { λ r. ⌜ Plains (now (text .entry)) i r ⌝ }
 {

@@ -43,13 +43,14 @@ fn short_word(bytes: &[u8]) -> u64
     w
 }
 
-// The n bytes at a place, fewer than eight: most often eight can be read, and the others are cut off.
+// The n bytes at a place, one to seven: most often eight can be read, and the others are shifted out.
 pub(crate) fn few_bytes(bytes: &[u8], at: usize, n: usize) -> u64
-    requires { ⌜ (n < 8) × (at + n ≤ length (now bytes)) ⌝ }
+    requires { ⌜ (0 < n) × (n < 8) × (at + n ≤ length (now bytes)) ⌝ }
     ensures { λ r. ⌜ r ≡ joinBytes (take n (drop at (now (bytes .entry)))) ⌝ }
 {
     if bytes.len() - at >= WORD {
-        return word(bytes, at) % (1u64 << (8 * n));
+        let others = 64 - 8 * n;
+        return word(bytes, at) << others >> others;
     }
     short_word(&bytes[at..at + n])
 }

@@ -18,15 +18,15 @@ add-rest : tie.Need-add-if1-2
 add-rest c = let (h, (b, (plain, (inside, own)))) = c .before .before .before .before .pre in omega (arith, few-rows h, inside .2)
 
 part-after-requires : tie.Need-part-after-requires
-part-after-requires c κs = let (h, (b, (plain, (inside, own)))) = c .before .before .before .before .before .before .before .before .pre in (b, few-rows h)
+part-after-requires c κs = let (h, (b, (plain, (inside, own)))) = c .before .before .before .before .before .before .before .before .before .pre in (b, few-rows h)
 
 returns : tie.Need-returns
 returns c =
-    let a = c .before .before .before .before .before .before .before .before .before .args in
-    let (h, (b, (plain, (inside, own)))) = c .before .before .before .before .before .before .before .before .before .pre in
-    let words = c .before .before .before .before .before .before .before .node .ensures in
+    let a = c .before .before .before .before .before .before .before .before .before .before .args in
+    let (h, (b, (plain, (inside, own)))) = c .before .before .before .before .before .before .before .before .before .before .pre in
+    let words = c .before .before .before .before .before .before .before .before .node .ensures in
     finish-answers _ _ _ _ _ _ _ _ h _ (no-text _ _ refl plain (node-below _ (a .symbol) own (inside .1) (inside .2))) _ b (words .kept) _ _ _
-    (c .before .add-new .ensures _ words (h .ready) (node-new (now (a .rows)) (a .used) (h .lower) (a .symbol) _ _ _ (c .before .before .before .before .if1 .taken)))
+    (c .before .add-new .ensures _ words (c .before .before .before .before .hash-of .ensures) (h .ready) (node-new (now (a .rows)) (a .used) (h .lower) (a .symbol) _ _ _ (c .before .before .before .before .before .if1 .taken)))
     (c .part-after .ensures)
 
 finish-requires : tie.Need-finish-requires
@@ -45,6 +45,7 @@ join-spec =
     node-requires
     add-value
     add-rest
+    (λ c κs. search needs)
     (λ c κs. search needs)
     part-after-requires
     returns

@@ -2,22 +2,20 @@
 use mathlib.Core.Path.{refl, sym, ap, subst, _∙_}
 use borrow.Author.Needs.{needs}
 use Rattle.json.specs.Texts.{probedOf, ProbedAt}
-use Rattle.json.proofs.Texting.{probe-text, probed-known, probed-some}
-use Rattle.json.proofs.TextLeaves.{known-says, row-inside}
+use Rattle.json.proofs.Texting.{probe-text, probed-some}
+use Rattle.json.proofs.TextLeaves.{known-inside, known-read}
 use Rattle.json.proofs.texts.text_leaf.Statement.{statement}
 use Rattle.json.proofs.texts.text_leaf.Tie as tie
 
 row-of-requires : tie.Need-row-of-requires
 row-of-requires c κs =
     let (h, (b, w)) = c .before .before .before .before .before .pre in
-    let k = probed-known (probe-text _ _ _ _ _ _ _ _ h _ _ _ (w .string) _ refl) _ (ap probedOf (sym (c .before .before .probed .given .1)) ∙ w .answer) in
-    (h .size, row-inside h (k .0))
+    known-inside h (subst (ProbedAt _ _ _ _ _) (c .before .before .probed .given .1) w)
 
 returns : tie.Need-returns
 returns c =
     let (h, (b, w)) = c .before .before .before .before .before .before .pre in
-    let k = probed-known (probe-text _ _ _ _ _ _ _ _ h _ _ _ (w .string) _ refl) _ (ap probedOf (sym (c .before .before .before .probed .given .1)) ∙ w .answer) in
-    known-says _ _ _ _ _ _ _ _ _ (w .string) _ _ h b _ (k .0) (k .2) _ (c .row-of .ensures)
+    known-read h (subst (ProbedAt _ _ _ _ _) (c .before .before .before .probed .given .1) w) b _ (c .row-of .ensures)
 
 new-text-requires : tie.Need-new-text-requires
 new-text-requires c κs =

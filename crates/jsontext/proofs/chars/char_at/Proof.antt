@@ -33,7 +33,7 @@ char-at-spec =
     (λ c. search needs)
     (λ c. search needs)
     (λ c. omega (arith, short c .0 .forward))
-    (λ c κs. (omega (arith, short c .1), omega (arith, short c .0 .forward, short c .0 .inside)))
+    (λ c κs. (omega (arith, short c .0 .forward), omega (arith, short c .1), omega (arith, short c .0 .forward, short c .0 .inside)))
     (λ c. omega (arith, short (c .before) .0 .forward))
     (λ c. search needs)
     (λ c κs. search needs)

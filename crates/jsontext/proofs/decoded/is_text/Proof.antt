@@ -54,7 +54,7 @@ is-text-spec =
     (λ c. search needs)
     (λ c. c .before .before .before .before .before .before .alike .ensures .second .inside)
     (λ c l. running-short _ _ _ _ _ (behind (c .before .before .before .before .before .before .before) l) _ _ _ (there (c .before) l) (c .if3 .taken))
-    (λ c κs. (omega (arith, ahead (c .before) .2), omega (arith, c .before .before .before .before .before .before .before .alike .ensures .second .inside, c .if3 .left)))
+    (λ c κs. (omega (arith, ahead (c .before) .1), omega (arith, ahead (c .before) .2), omega (arith, c .before .before .before .before .before .before .before .alike .ensures .second .inside, c .if3 .left)))
     (λ c l. running-differ _ _ _ _ _ (behind (c .before .before .before .before .before .before .before .before .before) l) _ _ _ (there (c .before .before .before) l) (c .before .before .if3 .left) _ (c .before .few-bytes .ensures) (c .if4 .taken))
     (λ c. omega (arith, c .before .before .before .before .before .before .before .before .before .alike .ensures .second .inside, c .before .before .if3 .left))
     (λ c. omega (arith, ahead (c .before .before .before) .0 .forward, ahead (c .before .before .before) .0 .inside))

@@ -17,8 +17,8 @@ rate-requires c κs = (omega (arith, short-up _ _ (c .before .before .before .be
 
 returns-3 : tie.Need-returns-3
 returns-3 c = λ d e.
-    as-rate _ _ _ _ d e _ (c .before .before .before .before .before .if1 .left) (c .before .before .before .if2 .left) (c .before .before .before .before .before .before .before .pre .0) _ _ _
-    (c .before .before .rate .ensures) (c .before .bits-of .ensures) (c .row-rate .ensures)
+    as-rate _ _ _ _ d e _ (c .before .before .before .before .if1 .left) (c .before .before .if2 .left) (c .before .before .before .before .before .before .pre .0) _ _
+    (c .before .rate .ensures) (c .bits-of .ensures)
 
 pub as-scalar-spec : {M : Type 1} → statement M
-as-scalar-spec = tie.close (tie.spec returns returns-2 rate-requires (λ c κs. search needs) (λ c κs. search needs) returns-3)
+as-scalar-spec = tie.close (tie.spec returns returns-2 rate-requires (λ c κs. search needs) returns-3)
