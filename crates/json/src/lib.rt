@@ -52,6 +52,15 @@ fn row_limit(rows: &[u16]) -> u16
     smaller(size(MAX_ROWS), count(rows)) as u16
 }
 
+// Behind each key the next on the list is guessed first: lists often have the keys in the order of the texts.
+fn guess_next(after: &mut [u16; SYMBOLS]) {
+    let mut i: u16 = 0;
+    while size(i) < SYMBOLS {
+        after[size(i)] = i + 1;
+        i += 1;
+    }
+}
+
 // A text by a key list that fits. The rows are built in local cells, and copied where the text is whole.
 fn read_text(
     text: &[u8],
@@ -73,6 +82,7 @@ fn read_text(
     let mut pending = [0u16; LEVELS];
     let mut frames = [0u16; LEVELS * FRAME];
     let mut after = [0u16; SYMBOLS];
+    guess_next(&mut after);
     let limit = row_limit(&*rows);
     let first = space_end(text, classes, 0);
     match items(

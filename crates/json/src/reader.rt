@@ -455,64 +455,66 @@ pub(crate) fn items(
             KeyPart::NoKey(w, p) => {
                 return Part::Refused(w, p);
             },
-            KeyPart::Key(symbol, key, first, x, y) => match value(
-                text,
-                classes,
-                list,
-                places,
-                key_slots,
-                limit,
-                &mut *rows,
-                &mut *slots,
-                &mut *near,
-                &mut *starts,
-                &mut *found,
-                &mut *pending,
-                &mut *frames,
-                &mut *after,
-                x,
-                y,
-                l,
-                first,
-            ) {
-                Part::Refused(w, p) => {
-                    return Part::Refused(w, p);
-                },
-                Part::Read(v, next, a, b) => {
-                    if alone {
-                        return Part::Read(v, next, a, b);
-                    }
-                    put_frame(&mut *frames, l, symbol, key, v);
-                    let e = space_end(text, classes, next);
-                    if byte_at(text, e) != b',' {
-                        return close_items(
-                            text,
-                            &*starts,
-                            &*found,
-                            rows,
-                            slots,
-                            near,
-                            &*frames,
-                            a,
-                            b,
-                            limit,
-                            e,
-                            mark(object),
-                            closing(object),
-                            l,
-                            level + 1,
-                        );
-                    }
-                    i = space_end(text, classes, e + 1);
-                    if l == 0 {
-                        return Part::Refused(64, i);
-                    }
-                    after[size(last) % SYMBOLS] = symbol;
-                    last = symbol;
-                    l -= 1;
-                    n = a;
-                    m = b;
-                },
+            KeyPart::Key(symbol, key, first, x, y) => {
+                after[size(last) % SYMBOLS] = symbol;
+                match value(
+                    text,
+                    classes,
+                    list,
+                    places,
+                    key_slots,
+                    limit,
+                    &mut *rows,
+                    &mut *slots,
+                    &mut *near,
+                    &mut *starts,
+                    &mut *found,
+                    &mut *pending,
+                    &mut *frames,
+                    &mut *after,
+                    x,
+                    y,
+                    l,
+                    first,
+                ) {
+                    Part::Refused(w, p) => {
+                        return Part::Refused(w, p);
+                    },
+                    Part::Read(v, next, a, b) => {
+                        if alone {
+                            return Part::Read(v, next, a, b);
+                        }
+                        put_frame(&mut *frames, l, symbol, key, v);
+                        let e = space_end(text, classes, next);
+                        if byte_at(text, e) != b',' {
+                            return close_items(
+                                text,
+                                &*starts,
+                                &*found,
+                                rows,
+                                slots,
+                                near,
+                                &*frames,
+                                a,
+                                b,
+                                limit,
+                                e,
+                                mark(object),
+                                closing(object),
+                                l,
+                                level + 1,
+                            );
+                        }
+                        i = space_end(text, classes, e + 1);
+                        if l == 0 {
+                            return Part::Refused(64, i);
+                        }
+                        last = symbol;
+                        l -= 1;
+                        n = a;
+                        m = b;
+                    },
+                }
             },
         }
     }
