@@ -5,6 +5,7 @@ use Prim.Native.Nat.{ℕ, zero, suc, _+_, _*_, _/_, _%_, _^_, _<_, _≤_, zero-l
 use native.Mathlib.Nat.{mul-comm, mul-assoc, add-mul, pow-succ', mod-lt, mod-add-div, add-mul-mod-self-left}
 use native.Mathlib.Omega.{arith}
 use lib.Bits.{xor-zero-r}
+use lib.Pow.{field, mod-mod-pow}
 use native.Mathlib.Numerals.{add-one, add-one-le}
 use lib.ListN.{length, getD, drop, replicate, drop-of-length-le}
 use lib.Seq.{drop-cons}
@@ -70,52 +71,63 @@ front-hashed a x y s t r ex es et ey er =
     ∙ sym (one-cell (fnv1a (cellBytes (a % 65536 ∷ splitCells 2 (a / 65536)))) (a / 65536 / 65536 / 65536 % 65536))
     ∙ sym (cells-append 2166136261 (a % 65536 ∷ splitCells 2 (a / 65536)) (a / 65536 / 65536 / 65536 % 65536 ∷ []))
 
--- the fronts of the leaves of symbols 6 and 7, whose hash is kept
-pub number-front : 4032523765 ≡ fnv1a (cellBytes (splitCells 4 18446744073709486086))
+-- a place and the kind behind the front
+pub middle-hashed : (a m f x y g r : ℕ) → f ≡ fnv1a (cellBytes (splitCells 4 a)) → x ≡ m % 65536 → g ≡ fnvCell f x → y ≡ m / 65536 % 65536 → r ≡ fnvCell g y → r ≡ fnv1a (cellBytes (splitCells 4 a ++ splitCells 2 m))
+middle-hashed a m f x y g r ef ex eg ey er =
+    two-hashed f m x y g r ex eg ey er
+    ∙ ap (λ k. fnvFrom k (cellBytes (splitCells 2 m))) ef
+    ∙ sym (cells-append 2166136261 (splitCells 4 a) (splitCells 2 m))
+
+-- the first six cells of leaves of symbol 6, counts and rates, and of symbol 7, names, whose hash is kept
+pub count-middle : 1358246713 ≡ fnv1a (cellBytes (splitCells 4 18446744073709486086 ++ splitCells 2 196607))
 unfolding fnvFrom
-number-front = refl
+count-middle = refl
 
-pub text-front : 4089710292 ≡ fnv1a (cellBytes (splitCells 4 18446744073709486087))
+pub rate-middle : 720550096 ≡ fnv1a (cellBytes (splitCells 4 18446744073709486086 ++ splitCells 2 262143))
 unfolding fnvFrom
-text-front = refl
+rate-middle = refl
 
--- after the front: the place x, and nothing but zeros
-module _ (h b c x g : ℕ) (ex : x ≡ b % 65536) (eg : g ≡ fnvCell h x) where
-  pub bare-hashed : (r : ℕ) → g < 2 ^ 32 → b < 65536 → c ≡ 0 → r ≡ g * 1485291145 % 2 ^ 32 → r ≡ fnvFrom h (cellBytes (splitCells 4 b ++ splitCells 2 c))
-  bare-hashed r l m z e =
-      let q : b / 65536 ≡ 0 = omega arith in
-      let cells : splitCells 4 b ++ splitCells 2 c ≡ b % 65536 ∷ replicate 5 0 = rw (q, z) in
-      e
-      ∙ sym (zeros-at-once 10 1485291145 g refl l)
-      ∙ ap (λ k. fnvFrom k (replicate 10 0)) (eg ∙ ap (fnvCell h) ex ∙ sym (one-cell h (b % 65536)))
-      ∙ sym (cells-append h (b % 65536 ∷ []) (replicate 5 0))
-      ∙ ap (λ l. fnvFrom h (cellBytes l)) (sym cells)
+pub name-middle : 834638206 ≡ fnv1a (cellBytes (splitCells 4 18446744073709486087 ++ splitCells 2 327679))
+unfolding fnvFrom
+name-middle = refl
 
-  -- or the kind y and half the payload
-  module _ (y k m : ℕ) (ey : y ≡ b / 65536 % 65536) (ek : k ≡ fnvCell g y) (em : m ≡ fnvFrom k (cellBytes (splitCells 2 (b / 4294967296)))) where
-    half-hashed : m ≡ fnvFrom h (cellBytes (splitCells 4 b))
-    half-hashed =
-        let q : b / 4294967296 ≡ b / 65536 / 65536 = omega arith in
-        em
-        ∙ ap (λ t. fnvFrom k (cellBytes (splitCells 2 t))) q
-        ∙ ap (λ t. fnvFrom t (cellBytes (splitCells 2 (b / 65536 / 65536)))) (ek ∙ ap (fnvCell g) ey ∙ ap (λ t. fnvCell t (b / 65536 % 65536)) (eg ∙ ap (fnvCell h) ex) ∙ sym (pair-hashed h (b % 65536) (b / 65536 % 65536)))
-        ∙ sym (cells-append h (b % 65536 ∷ b / 65536 % 65536 ∷ []) (splitCells 2 (b / 65536 / 65536)))
+-- the payload: both halves, or only zeros behind the first cells
+module _ (h x c : ℕ) where
+  pub both-hashed : (g r : ℕ) → g ≡ fnvFrom h (cellBytes (splitCells 2 x)) → r ≡ fnvFrom g (cellBytes (splitCells 2 c)) → r ≡ fnvFrom h (cellBytes (splitCells 2 x ++ splitCells 2 c))
+  both-hashed g r eg er = er ∙ ap (λ k. fnvFrom k (cellBytes (splitCells 2 c))) eg ∙ sym (cells-append h (splitCells 2 x) (splitCells 2 c))
 
-    -- and no other half, or that too
-    pub low-hashed : (r : ℕ) → m < 2 ^ 32 → c ≡ 0 → r ≡ m * 1345077009 % 2 ^ 32 → r ≡ fnvFrom h (cellBytes (splitCells 4 b ++ splitCells 2 c))
-    low-hashed r l z e =
+  module _ (z : c ≡ 0) (r : ℕ) where
+    pub no-payload : h < 2 ^ 32 → x ≡ 0 → r ≡ h * 1566662433 % 2 ^ 32 → r ≡ fnvFrom h (cellBytes (splitCells 2 x ++ splitCells 2 c))
+    no-payload l e er =
+        let cells : splitCells 2 x ++ splitCells 2 c ≡ replicate 4 0 = rw (e, z) in
+        er ∙ sym (zeros-at-once 8 1566662433 h refl l) ∙ ap (λ k. fnvFrom h (cellBytes k)) (sym cells)
+
+    pub one-payload : (y g : ℕ) → y ≡ x % 65536 → g ≡ fnvCell h y → g < 2 ^ 32 → x < 65536 → r ≡ g * 4233492473 % 2 ^ 32 → r ≡ fnvFrom h (cellBytes (splitCells 2 x ++ splitCells 2 c))
+    one-payload y g ey eg l m er =
+        let q : x / 65536 ≡ 0 = omega arith in
+        let cells : splitCells 2 x ++ splitCells 2 c ≡ x % 65536 ∷ replicate 3 0 = rw (q, z) in
+        er
+        ∙ sym (zeros-at-once 6 4233492473 g refl l)
+        ∙ ap (λ k. fnvFrom k (replicate 6 0)) (eg ∙ ap (fnvCell h) ey ∙ sym (one-cell h (x % 65536)))
+        ∙ sym (cells-append h (x % 65536 ∷ []) (replicate 3 0))
+        ∙ ap (λ k. fnvFrom h (cellBytes k)) (sym cells)
+
+    pub half-payload : (g : ℕ) → g ≡ fnvFrom h (cellBytes (splitCells 2 x)) → g < 2 ^ 32 → r ≡ g * 1345077009 % 2 ^ 32 → r ≡ fnvFrom h (cellBytes (splitCells 2 x ++ splitCells 2 c))
+    half-payload g eg l er =
         let cells : splitCells 2 c ≡ replicate 2 0 = rw z in
-        e
-        ∙ sym (zeros-at-once 4 1345077009 m refl l)
-        ∙ ap (λ t. fnvFrom t (replicate 4 0)) half-hashed
-        ∙ sym (cells-append h (splitCells 4 b) (replicate 2 0))
-        ∙ ap (λ l. fnvFrom h (cellBytes (splitCells 4 b ++ l))) (sym cells)
+        both-hashed g r eg (er ∙ sym (zeros-at-once 4 1345077009 g refl l) ∙ ap (λ k. fnvFrom g (cellBytes k)) (sym cells))
 
-    pub rest-hashed : (r : ℕ) → r ≡ fnvFrom m (cellBytes (splitCells 2 c)) → r ≡ fnvFrom h (cellBytes (splitCells 4 b ++ splitCells 2 c))
-    rest-hashed r e = e ∙ ap (λ t. fnvFrom t (cellBytes (splitCells 2 c))) half-hashed ∙ sym (cells-append h (splitCells 4 b) (splitCells 2 c))
-
-pub words-hashed : (a b c f r : ℕ) → f ≡ fnv1a (cellBytes (splitCells 4 a)) → r ≡ fnvFrom f (cellBytes (splitCells 4 b ++ splitCells 2 c)) → r ≡ rowHash (wordsCells a b c)
-words-hashed a b c f r e q = q ∙ ap (λ t. fnvFrom t (cellBytes (splitCells 4 b ++ splitCells 2 c))) e ∙ sym (cells-append 2166136261 (splitCells 4 a) (splitCells 4 b ++ splitCells 2 c))
+-- the words of a row
+pub words-hashed : (a b c f r : ℕ) → f ≡ fnv1a (cellBytes (splitCells 4 a ++ splitCells 2 (b % 4294967296))) → r ≡ fnvFrom f (cellBytes (splitCells 2 (b / 4294967296) ++ splitCells 2 c)) → r ≡ rowHash (wordsCells a b c)
+words-hashed a b c f r e q =
+    let x : b % 4294967296 % 65536 ≡ b % 65536 = omega arith in
+    let y : b % 4294967296 / 65536 % 65536 ≡ b / 65536 % 65536 = ap (λ t. t % 65536) (field b 16 16) ∙ mod-mod-pow (b / 65536) 0 16 in
+    let u : b / 4294967296 ≡ b / 65536 / 65536 = omega arith in
+    let cells : (splitCells 4 a ++ splitCells 2 (b % 4294967296)) ++ (splitCells 2 (b / 4294967296) ++ splitCells 2 c) ≡ wordsCells a b c = rw (x, y, u) in
+    q
+    ∙ ap (λ t. fnvFrom t (cellBytes (splitCells 2 (b / 4294967296) ++ splitCells 2 c))) e
+    ∙ sym (cells-append 2166136261 (splitCells 4 a ++ splitCells 2 (b % 4294967296)) (splitCells 2 (b / 4294967296) ++ splitCells 2 c))
+    ∙ ap rowHash cells
 
 -- five cells one by one, and nothing but zeros
 module _ (s x y z u f g h i j : ℕ) (ef : f ≡ fnvCell 2166136261 s) (eg : g ≡ fnvCell f x) (eh : h ≡ fnvCell g y) (ei : i ≡ fnvCell h z) (ej : j ≡ fnvCell i u) where

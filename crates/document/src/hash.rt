@@ -15,23 +15,35 @@ pub const FNV_START: u32 = 2166136261;
 
 const FNV_FACTOR: u32 = 16777619;
 
-// What two, four and ten zero bytes multiply by.
+// What two to ten zero bytes multiply by.
 const FACTOR_2: u32 = 637696617;
 
 const FACTOR_4: u32 = 1345077009;
+
+const FACTOR_6: u32 = 4233492473;
+
+const FACTOR_8: u32 = 1566662433;
 
 const FACTOR_10: u32 = 1485291145;
 
 const MODULUS: u64 = 4294967296;
 
-// The front of a leaf of symbol 6, which JSON's numbers are, and of symbol 7, its texts: three unused places above the symbol. Most leaves are these, so the hash of each is kept.
+// The first six cells of JSON's leaves, the most of which are of symbol 6, a count or a rate, or of symbol 7, a name: three unused places above the symbol, then one more and the kind. The hash of each is kept.
 const NUMBER_FRONT: u64 = 0xffff_ffff_ffff_0006;
 
-const NUMBER_HASH: u32 = 4032523765;
+const COUNT_MIDDLE: u64 = 0x0002_ffff;
+
+const COUNT_HASH: u32 = 1358246713;
+
+const RATE_MIDDLE: u64 = 0x0003_ffff;
+
+const RATE_HASH: u32 = 720550096;
 
 const TEXT_FRONT: u64 = 0xffff_ffff_ffff_0007;
 
-const TEXT_HASH: u32 = 4089710292;
+const NAME_MIDDLE: u64 = 0x0004_ffff;
+
+const NAME_HASH: u32 = 834638206;
 
 // The product wraps modulo 2^32.
 fn times(h: u32, factor: u32) -> u32
@@ -75,37 +87,50 @@ fn add_two(h: u32, x: u64) -> u32
 fn front_hash(a: u64) -> u32
     ensures { λ r. ⌜ r ≡ fnv1a (cellBytes (splitCells 4 a)) ⌝ }
 {
-    if a == NUMBER_FRONT {
-        return NUMBER_HASH;
-    }
-    if a == TEXT_FRONT {
-        return TEXT_HASH;
-    }
     let h = add_small(FNV_START, low_cell(a));
     add_cell(add_two(h, a / 65536), low_cell(a / 281474976710656))
 }
 
-// The other six: a place, the kind and the payload. All zero after the place, as in a row with children, they only multiply, and so does the upper half of a payload.
-fn add_rest(h: u32, b: u64, c: u64) -> u32
-    ensures { λ r. ⌜ r ≡ fnvFrom h (cellBytes (splitCells 4 b ++ splitCells 2 c)) ⌝ }
+// The first six: behind those a place and the kind.
+fn middle_hash(a: u64, m: u64) -> u32
+    ensures { λ r. ⌜ r ≡ fnv1a (cellBytes (splitCells 4 a ++ splitCells 2 m)) ⌝ }
 {
-    let placed = add_cell(h, low_cell(b));
-    if (b < 65536) & (c == 0) {
-        return times(placed, FACTOR_10);
+    if a == NUMBER_FRONT {
+        if m == COUNT_MIDDLE {
+            return COUNT_HASH;
+        }
+        if m == RATE_MIDDLE {
+            return RATE_HASH;
+        }
     }
-    let kind = add_small(placed, low_cell(b / 65536));
-    let half = add_two(kind, b / TWO_CELLS);
-    if c == 0 {
-        return times(half, FACTOR_4);
+    if (a == TEXT_FRONT) & (m == NAME_MIDDLE) {
+        return NAME_HASH;
     }
-    add_two(half, c)
+    let placed = add_cell(front_hash(a), low_cell(m));
+    add_small(placed, low_cell(m / 65536))
+}
+
+// The other four, the payload in two numbers. Zeros behind the first cells only multiply.
+fn add_rest(h: u32, x: u64, c: u64) -> u32
+    ensures { λ r. ⌜ r ≡ fnvFrom h (cellBytes (splitCells 2 x ++ splitCells 2 c)) ⌝ }
+{
+    if c != 0 {
+        return add_two(add_two(h, x), c);
+    }
+    if x == 0 {
+        return times(h, FACTOR_8);
+    }
+    if x < 65536 {
+        return times(add_cell(h, low_cell(x)), FACTOR_6);
+    }
+    times(add_two(h, x), FACTOR_4)
 }
 
 // The hash of a row's words.
 pub fn words_hash(a: u64, b: u64, c: u64) -> u32
     ensures { λ r. ⌜ r ≡ rowHash (wordsCells a b c) ⌝ }
 {
-    add_rest(front_hash(a), b, c)
+    add_rest(middle_hash(a, b % TWO_CELLS), b / TWO_CELLS, c)
 }
 
 // The hash of a row of up to three children and no scalar, by its first four cells: for a row that is not there as words.

@@ -1,18 +1,12 @@
--- A front whose hash is kept; or the symbol, two places, and one more. Assumes nothing.
+-- The symbol, two places, and one more. Assumes nothing.
 use borrow.Author.Needs.{needs}
-use Rattle.document.proofs.Hashing.{number-front, text-front, front-hashed}
+use Rattle.document.proofs.Hashing.{front-hashed}
 use Rattle.document.proofs.hash.front_hash.Statement.{statement}
 use Rattle.document.proofs.hash.front_hash.Tie as tie
 
-number : tie.Need-returns
-number c = rw (c .if1 .taken) number-front
-
-text : tie.Need-returns-2
-text c = rw (c .if2 .taken) text-front
-
-others : tie.Need-returns-3
-others c =
-    let a = c .before .before .before .before .before .before .before .args in
+returns : tie.Need-returns
+returns c =
+    let a = c .before .before .before .before .before .args in
     let x = c .before .before .before .before .low-cell in
     let s = c .before .before .before .add-small in
     let t = c .before .before .add-two in
@@ -23,11 +17,9 @@ pub front-hash-spec : {M : Type 1} → statement M
 front-hash-spec =
     tie.close
     (tie.spec
-    number
-    text
     (λ c κs. search needs)
     (λ c κs. search needs)
     (λ c κs. search needs)
     (λ c κs. search needs)
     (λ c κs. search needs)
-    others)
+    returns)
