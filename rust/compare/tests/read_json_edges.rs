@@ -73,6 +73,46 @@ const EDGES: [u8; 20] = [
     0xf1, 0xf4, 0xf5,
 ];
 
+/// Words of eight bytes are read where that many stand behind a place, so that a string's end and the text's end matter.
+#[test]
+fn short_strings_by_length_and_distance_from_the_end() {
+    let mut tally = Tally::of("read_json, short strings");
+    for length in 0..=18 {
+        let plain: Vec<u8> = (0..length).map(|k| b'a' + k as u8).collect();
+        let mut others = vec![plain.clone(), [&plain[..], b"z"].concat(), [b"z", &plain[..]].concat()];
+        for at in 0..length {
+            for byte in [&b"!"[..], b"", b"\\n", b"\xc3\xa9", b"\x7f", b"\x1f"] {
+                others.push([&plain[..at], byte, &plain[at + 1..]].concat());
+            }
+        }
+        for other in &others {
+            let strings = [b"[\"", &plain[..], b"\",\"", &other[..], b"\",\"", &plain[..], b"\"]"].concat();
+            for behind in 0..=28 {
+                let text = [&strings[..], &vec![b' '; behind][..]].concat();
+                tally.count(compare(b"ab\nabc", &text, SPACE), |_| "read");
+            }
+        }
+    }
+    tally.must_reach(20_000, 20, &[71], &["read"]);
+}
+
+/// Some of so many texts are looked for first where another stands.
+#[test]
+fn many_short_strings_stand_twice() {
+    let strings: Vec<String> = (0..400).map(|number| format!("\"s{number}\"")).collect();
+    let arrays: Vec<String> = strings.chunks(40).map(|chunk| format!("[{}]", chunk.join(","))).collect();
+    let once = format!("[{}]", arrays.join(","));
+    let twice = format!("[{0},{0}]", arrays.join(","));
+    let backwards = format!(
+        "[{},[{}]]",
+        arrays.join(","),
+        strings.iter().rev().take(200).cloned().collect::<Vec<_>>().join(",")
+    );
+    for text in [once, twice, backwards] {
+        assert!(matches!(compare(b"", text.as_bytes(), SPACE), Answer::Value(_)));
+    }
+}
+
 #[test]
 fn every_four_bytes_at_the_edges_of_utf_8() {
     let mut tally = Tally::of("read_json, UTF-8");
