@@ -28,7 +28,7 @@ const FACTOR_10: u32 = 1485291145;
 
 const MODULUS: u64 = 4294967296;
 
-// The first six cells of JSON's leaves, the most of which are of symbol 6, a count or a rate, or of symbol 7, a name: three unused places above the symbol, then one more and the kind. The hash of each is kept.
+// The first six cells of three leaves: of symbol 6 with a count or a rate, JSON's numbers, and of symbol 7 with a name, its texts. Three unused places stand above the symbol, then one more and the kind. Most leaves are these, so the hash of each is kept.
 const NUMBER_FRONT: u64 = 0xffff_ffff_ffff_0006;
 
 const COUNT_MIDDLE: u64 = 0x0002_ffff;
@@ -133,7 +133,7 @@ pub fn words_hash(a: u64, b: u64, c: u64) -> u32
     add_rest(middle_hash(a, b % TWO_CELLS), b / TWO_CELLS, c)
 }
 
-// The hash of a row of up to three children and no scalar, by its first four cells: for a row that is not there as words.
+// The hash of a row of up to three children and no scalar, by its first four cells, which then need not be taken out of words.
 pub fn node_hash(symbol: u16, x: u16, y: u16, z: u16) -> u32
     ensures { λ r. ⌜ r ≡ rowHash (symbol ∷ x ∷ y ∷ z ∷ 65535 ∷ replicate 5 0) ⌝ }
 {

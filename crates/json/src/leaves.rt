@@ -82,7 +82,7 @@ pub(crate) fn word(
     )
 }
 
-// A number: a count, a rate, or one that has no form.
+// A number: a count, a rate, or one that has no form. Its row is tried near at hand in place, twice: so most numbers need no call.
 pub(crate) fn number_leaf(
     text: &[u8],
     classes: &[u8; 256],

@@ -324,7 +324,7 @@ fn value(
     )
 }
 
-// The key of a member and its colon; nothing of an element.
+// The key of a member and its colon, which most often stands at once; nothing of an element.
 fn head(
     text: &[u8],
     classes: &[u8; 256],
