@@ -14,7 +14,7 @@ use Rattle.model.specs.Order.{place}
 use Rattle.model.specs.Written.{noRule, ruleAt}
 use Rattle.model.proofs.Tab.{tab-at, tab-past, length-tab}
 use Rattle.automaton.proofs.Parts.{tab-same}
-use Rattle.automaton.specs.Stored.{symbolCount, stateCount, tagCount, ruleCount, symbolByte, stateByte, ruleWord, placeWord, placeOf, stateOf, ruleOf, decode}
+use Rattle.automaton.specs.Stored.{symbolCount, stateCount, tagCount, ruleCount, symbolByte, finalByte, tagsOf, ruleWord, placeWord, placeOf, stateOf, ruleOf, decode}
 
 module _ (s : List ℕ) where
   pub symbols-are : length ((decode s) .arities) ≡ symbolCount s
@@ -73,10 +73,10 @@ module _ (s : List ℕ) (n x : ℕ) where
   pub read-arity : (f : ℕ) → n ≡ symbolCount s → f < n → x ≡ symbolByte s f → x ≡ arityOf (decode s) f
   read-arity f e l h = h ∙ sym (arity-known s f (rw e at l))
 
-  pub read-mask : (q : ℕ) → n ≡ stateCount s → q < n → x ≡ stateByte s q 1 → x ≡ (stateAt (decode s) q) .mask
+  pub read-mask : (q : ℕ) → n ≡ stateCount s → q < n → x ≡ tagsOf s q → x ≡ (stateAt (decode s) q) .mask
   read-mask q e l h = h ∙ sym (ap (λ (z : State). z .mask) (state-known s q (rw e at l)))
 
-  pub read-final : (q : ℕ) → n ≡ stateCount s → q < n → x ≡ stateByte s q 0 → eqb x 1 ≡ final? (decode s) q
+  pub read-final : (q : ℕ) → n ≡ stateCount s → q < n → x ≡ finalByte s q → eqb x 1 ≡ final? (decode s) q
   read-final q e l h = rw h (sym (ap (λ (z : State). z .final) (state-known s q (rw e at l))))
 
   pub read-symbol : (i : ℕ) → n ≡ length ((decode s) .rules) → i < n → x ≡ ruleWord s i 0 → x ≡ (ruleAt (decode s) i) .symbol

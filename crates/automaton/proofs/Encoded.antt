@@ -1,11 +1,11 @@
--- What stands where in the stored form of a sound automaton. Assumes nothing.
+-- What stands where in a stored form of a sound automaton. Assumes nothing.
 use mathlib.Core.Path.{_≡_, refl, sym, ap, _∙_}
 use mathlib.Core.Bool.{cond}
 use mathlib.Core.Logic.{⊎-elim}
 use mathlib.Core.List.{List, _∷_, _++_, append-assoc, List·Memᴰ as In}
-use Prim.Native.Nat.{ℕ, zero, suc, _+_, _*_, _/_, _%_, _≤_, _<_}
-use native.Mathlib.Nat.{mod-eq-of-lt, add-assoc, lt-of-lt-of-le}
-use native.Mathlib.Numerals.{add-two}
+use Prim.Native.Nat.{ℕ, zero, suc, _+_, _*_, _/_, _%_, _^_, _≤_, _<_}
+use native.Mathlib.Nat.{mod-eq-of-lt, add-zero, add-assoc, add-comm, lt-of-lt-of-le}
+use native.Mathlib.Numerals.{add-one, add-two}
 use native.Mathlib.Omega.{arith}
 use lib.ListN.{length, getD, length-append, List·getD-append, List·getD-eq-default}
 use lib.Pow.{pow-mono}
@@ -18,185 +18,205 @@ use Rattle.model.specs.Sound.{Sound}
 use Rattle.model.specs.Written.{noRule, ruleAt}
 use Rattle.model.proofs.Rows.{in-getD}
 use Rattle.model.proofs.Tab.{tab-at, length-tab}
-use Rattle.automaton.specs.Form.{headerWidth, stateWidth, ruleWidth, statesOffset, rulesOffset}
-use Rattle.automaton.specs.Stored.{word, symbolCount, stateCount, tagCount, ruleCount, symbolsAt, statesAt, rulesAt, statedTotal, symbolByte, stateByte, ruleWord, placeWord}
+use Rattle.automaton.specs.Form.{headerWidth, tagsWidth, stateWidth, ruleWidth, tagBits, statesOffset, rulesOffset}
+use Rattle.automaton.specs.declared.Form.{Form}
+use Rattle.automaton.specs.declared.Form.the-variants.{Wide}
+use Rattle.automaton.specs.Stored.{word, symbolCount, stateCount, tagCount, ruleCount, symbolsAt, statesAt, rulesAt, statedTotal, formOf, symbolByte, statePlace, finalByte, tagsAt, tagsOf, ruleWord, placeWord}
 use Rattle.automaton.specs.Encode.{encodeHeader, encodeSymbol, encodeState, encodePlaces, encodeRule, encode, encodedLength}
-use Rattle.automaton.proofs.Parts.{below-or, length-concat, concat-at}
+use Rattle.automaton.proofs.Parts.{below-or, inside, length-concat, concat-at}
+use Rattle.automaton.proofs.Widths.{width-some, width-tags, states-most, form-told, tags-read}
+use Rattle.automaton.proofs.Put.{state-length}
 use Rattle.automaton.proofs.Words.{length-words, low-at, high-at, word-back}
 
-abbrev pub header : Automaton → List ℕ
-header A = encodeHeader (length (A .arities)) (length (A .states)) (A .tags) (length (A .rules))
+abbrev pub header : Form → Automaton → List ℕ
+header F A = encodeHeader F (length (A .arities)) (length (A .states)) (A .tags) (length (A .rules))
 
-abbrev pub encodeOf : State → List ℕ
-encodeOf q = encodeState (q .final) (q .mask)
+abbrev pub encodeOf : Form → State → List ℕ
+encodeOf F q = encodeState F (q .final) (q .mask)
 
-header-width : (A : Automaton) → length (header A) ≡ headerWidth
+header-width : (F : Form) (A : Automaton) → length (header F A) ≡ headerWidth
 unfolding encodeHeader
-header-width A = refl
+header-width F A = refl
 
 pub symbol-width : (a : ℕ) → length (encodeSymbol a) ≡ 1
 unfolding encodeSymbol
 symbol-width a = refl
 
-pub state-width : (q : State) → length (encodeOf q) ≡ stateWidth
-unfolding encodeState
-state-width q = refl
+pub state-width : (F : Form) (q : State) → length (encodeOf F q) ≡ stateWidth F
+state-width F q = state-length F (q .final) (q .mask)
 
-pub rule-width : (r : Rule) → length (encodeRule r) ≡ ruleWidth
+pub rule-width : (r : Rule) → length (encodeRule r) ≡ 2 * (maxChildren + 2)
 unfolding encodePlaces
 rule-width r = length-words (r .symbol ∷ r .target ∷ tab maxChildren (place r)) ∙ ap (λ (n : ℕ). 2 * (suc (suc n))) (length-tab maxChildren (place r))
 
-module _ (A : Automaton) where
-  symbols-end : length (header A ++ concatMap encodeSymbol (A .arities)) ≡ statesOffset (length (A .arities))
+module _ (F : Form) (A : Automaton) where
+  symbols-end : length (header F A ++ concatMap encodeSymbol (A .arities)) ≡ statesOffset (length (A .arities))
   symbols-end =
-      let h = header-width A in let l = length-concat encodeSymbol 1 symbol-width (A .arities) in
-      let a = length-append (header A) (concatMap encodeSymbol (A .arities)) in omega arith
+      let h = header-width F A in let l = length-concat encodeSymbol 1 symbol-width (A .arities) in
+      let a = length-append (header F A) (concatMap encodeSymbol (A .arities)) in omega arith
 
-  states-end : length (header A ++ concatMap encodeSymbol (A .arities) ++ concatMap encodeOf (A .states)) ≡ rulesOffset (length (A .arities)) (length (A .states))
+  states-end : length (header F A ++ concatMap encodeSymbol (A .arities) ++ concatMap (encodeOf F) (A .states)) ≡ rulesOffset F (length (A .arities)) (length (A .states))
   states-end =
-      let h = symbols-end in let l = length-concat encodeOf stateWidth state-width (A .states) in
-      let a = length-append (header A ++ concatMap encodeSymbol (A .arities)) (concatMap encodeOf (A .states)) in omega arith
+      let h = symbols-end in let l = length-concat (encodeOf F) (stateWidth F) (state-width F) (A .states) in
+      let a = length-append (header F A ++ concatMap encodeSymbol (A .arities)) (concatMap (encodeOf F) (A .states)) in omega arith
 
   -- The stored form has the length that the header states.
-  pub encode-length : length (encode A) ≡ encodedLength A
+  pub encode-length : length (encode F A) ≡ encodedLength F A
   unfolding encode
   encode-length =
-      let h = states-end in let l = length-concat encodeRule ruleWidth rule-width (A .rules) in
-      let a = length-append (header A ++ concatMap encodeSymbol (A .arities) ++ concatMap encodeOf (A .states)) (concatMap encodeRule (A .rules)) in omega arith
+      let h = states-end in let l = length-concat encodeRule (ruleWidth F) rule-width (A .rules) in
+      let a = length-append (header F A ++ concatMap encodeSymbol (A .arities) ++ concatMap (encodeOf F) (A .states)) (concatMap encodeRule (A .rules)) in omega arith
 
   -- the stored form, part after part
-  pub encode-parts : encode A ≡ header A ++ (concatMap encodeSymbol (A .arities) ++ (concatMap encodeOf (A .states) ++ concatMap encodeRule (A .rules)))
+  pub encode-parts : encode F A ≡ header F A ++ (concatMap encodeSymbol (A .arities) ++ (concatMap (encodeOf F) (A .states) ++ concatMap encodeRule (A .rules)))
   unfolding encode
   encode-parts =
-      append-assoc (header A ++ concatMap encodeSymbol (A .arities)) (concatMap encodeOf (A .states)) (concatMap encodeRule (A .rules))
-      ∙ append-assoc (header A) (concatMap encodeSymbol (A .arities)) (concatMap encodeOf (A .states) ++ concatMap encodeRule (A .rules))
+      append-assoc (header F A ++ concatMap encodeSymbol (A .arities)) (concatMap (encodeOf F) (A .states)) (concatMap encodeRule (A .rules))
+      ∙ append-assoc (header F A) (concatMap encodeSymbol (A .arities)) (concatMap (encodeOf F) (A .states) ++ concatMap encodeRule (A .rules))
 
   -- the byte of a symbol, a byte of a state, a byte of a rule, wherever the tables begin
-  symbol-at : (i : ℕ) → i < length (A .arities) → getD (encode A) (headerWidth + i) 0 ≡ getD (A .arities) i 0 % 256
+  symbol-at : (i : ℕ) → i < length (A .arities) → getD (encode F A) (headerWidth + i) 0 ≡ getD (A .arities) i 0 % 256
   unfolding encode encodeSymbol
   symbol-at i l =
-      let e = symbols-end in let e′ = states-end in let h = header-width A in
-      let one : headerWidth + i ≡ length (header A) + (1 * i + 0) = omega arith in
-      List·getD-append (header A ++ concatMap encodeSymbol (A .arities) ++ concatMap encodeOf (A .states)) (concatMap encodeRule (A .rules)) 0 (headerWidth + i) (omega arith)
-      ∙ List·getD-append (header A ++ concatMap encodeSymbol (A .arities)) (concatMap encodeOf (A .states)) 0 (headerWidth + i) (omega arith)
-      ∙ ap (λ (n : ℕ). getD (header A ++ concatMap encodeSymbol (A .arities)) n 0) one
-      ∙ getD-append-add (header A) (concatMap encodeSymbol (A .arities)) (1 * i + 0) 0
+      let e = symbols-end in let e′ = states-end in let h = header-width F A in
+      let one : headerWidth + i ≡ length (header F A) + (1 * i + 0) = omega arith in
+      List·getD-append (header F A ++ concatMap encodeSymbol (A .arities) ++ concatMap (encodeOf F) (A .states)) (concatMap encodeRule (A .rules)) 0 (headerWidth + i) (omega arith)
+      ∙ List·getD-append (header F A ++ concatMap encodeSymbol (A .arities)) (concatMap (encodeOf F) (A .states)) 0 (headerWidth + i) (omega arith)
+      ∙ ap (λ (n : ℕ). getD (header F A ++ concatMap encodeSymbol (A .arities)) n 0) one
+      ∙ getD-append-add (header F A) (concatMap encodeSymbol (A .arities)) (1 * i + 0) 0
       ∙ concat-at encodeSymbol 1 symbol-width 0 (A .arities) i 0 l (omega arith)
 
-  state-at : (q b : ℕ) → q < length (A .states) → b < stateWidth → getD (encode A) (statesOffset (length (A .arities)) + (stateWidth * q + b)) 0 ≡ getD (encodeOf (stateAt A q)) b 0
+  state-at : (q b : ℕ) → q < length (A .states) → b < stateWidth F → getD (encode F A) (statesOffset (length (A .arities)) + (stateWidth F * q + b)) 0 ≡ getD (encodeOf F (stateAt A q)) b 0
   unfolding encode
   state-at q b l m =
-      let e = symbols-end in let e′ = states-end in
-      List·getD-append (header A ++ concatMap encodeSymbol (A .arities) ++ concatMap encodeOf (A .states)) (concatMap encodeRule (A .rules)) 0 (statesOffset (length (A .arities)) + (stateWidth * q + b)) (omega arith)
-      ∙ ap (λ (n : ℕ). getD (header A ++ concatMap encodeSymbol (A .arities) ++ concatMap encodeOf (A .states)) (n + (stateWidth * q + b)) 0) (sym e)
-      ∙ getD-append-add (header A ++ concatMap encodeSymbol (A .arities)) (concatMap encodeOf (A .states)) (stateWidth * q + b) 0
-      ∙ concat-at encodeOf stateWidth state-width noState (A .states) q b l m
+      let e = symbols-end in let e′ = states-end in let i = inside (stateWidth F) q (length (A .states)) l in
+      List·getD-append (header F A ++ concatMap encodeSymbol (A .arities) ++ concatMap (encodeOf F) (A .states)) (concatMap encodeRule (A .rules)) 0 (statesOffset (length (A .arities)) + (stateWidth F * q + b)) (omega arith)
+      ∙ ap (λ (n : ℕ). getD (header F A ++ concatMap encodeSymbol (A .arities) ++ concatMap (encodeOf F) (A .states)) (n + (stateWidth F * q + b)) 0) (sym e)
+      ∙ getD-append-add (header F A ++ concatMap encodeSymbol (A .arities)) (concatMap (encodeOf F) (A .states)) (stateWidth F * q + b) 0
+      ∙ concat-at (encodeOf F) (stateWidth F) (state-width F) noState (A .states) q b l m
 
-  rule-at : (i b : ℕ) → i < length (A .rules) → b < ruleWidth → getD (encode A) (rulesOffset (length (A .arities)) (length (A .states)) + (ruleWidth * i + b)) 0 ≡ getD (encodeRule (ruleAt A i)) b 0
+  rule-at : (i b : ℕ) → i < length (A .rules) → b < ruleWidth F → getD (encode F A) (rulesOffset F (length (A .arities)) (length (A .states)) + (ruleWidth F * i + b)) 0 ≡ getD (encodeRule (ruleAt A i)) b 0
   unfolding encode
   rule-at i b l m =
       let e′ = states-end in
-      ap (λ (n : ℕ). getD (header A ++ concatMap encodeSymbol (A .arities) ++ concatMap encodeOf (A .states) ++ concatMap encodeRule (A .rules)) (n + (ruleWidth * i + b)) 0) (sym e′)
-      ∙ getD-append-add (header A ++ concatMap encodeSymbol (A .arities) ++ concatMap encodeOf (A .states)) (concatMap encodeRule (A .rules)) (ruleWidth * i + b) 0
-      ∙ concat-at encodeRule ruleWidth rule-width noRule (A .rules) i b l m
+      ap (λ (n : ℕ). getD (header F A ++ concatMap encodeSymbol (A .arities) ++ concatMap (encodeOf F) (A .states) ++ concatMap encodeRule (A .rules)) (n + (ruleWidth F * i + b)) 0) (sym e′)
+      ∙ getD-append-add (header F A ++ concatMap encodeSymbol (A .arities) ++ concatMap (encodeOf F) (A .states)) (concatMap encodeRule (A .rules)) (ruleWidth F * i + b) 0
+      ∙ concat-at encodeRule (ruleWidth F) rule-width noRule (A .rules) i b l m
 
-module _ (A : Automaton) (h : Sound A) where
+-- the wide form has bits for every sound set's tags
+pub wide-bits : (A : Automaton) → Sound A → A .tags ≤ tagBits Wide
+unfolding tagsWidth
+wide-bits A h = h .few-tags
+
+-- the numbers of a rule, in either form
+module _ (A : Automaton) (h : Sound A) (i : ℕ) (l : i < length (A .rules)) where
+  listed : In (ruleAt A i) (A .rules)
+  listed = in-getD noRule (A .rules) i l
+
+  pub few-places : length ((ruleAt A i) .children) ≤ maxChildren
+  few-places = rw (h .wellformed .as-many (ruleAt A i) listed) (h .few-children ((ruleAt A i) .symbol))
+
+  pub place-child : (k : ℕ) → k < length ((ruleAt A i) .children) → place (ruleAt A i) k < length (A .states)
+  place-child k m = h .wellformed .children (ruleAt A i) listed (place (ruleAt A i) k) (in-getD unused ((ruleAt A i) .children) k m)
+
+  pub place-none : (k : ℕ) → length ((ruleAt A i) .children) ≤ k → place (ruleAt A i) k ≡ unused
+  place-none k m = List·getD-eq-default ((ruleAt A i) .children) unused m
+
+  place-small : (k : ℕ) → place (ruleAt A i) k < 65536
+  place-small k =
+      ⊎-elim (λ m. let z = place-child k m in let y = h .few-states in omega arith) (λ m. rw (place-none k m) (omega arith))
+      (below-or k (length ((ruleAt A i) .children)))
+
+  abbrev words : List ℕ
+  words = (ruleAt A i) .symbol ∷ (ruleAt A i) .target ∷ tab maxChildren (place (ruleAt A i))
+
+  words-small : (k : ℕ) → k < maxChildren + 2 → getD words k 0 < 65536
+  words-small zero m = let z = h .wellformed .symbols (ruleAt A i) listed in let y = h .few-symbols in omega arith
+  words-small (suc zero) m = let z = h .wellformed .targets (ruleAt A i) listed in let y = h .few-states in omega arith
+  words-small (suc (suc k)) m = rw (tab-at 0 maxChildren (place (ruleAt A i)) k (omega arith)) (place-small k)
+
+module _ (F : Form) (A : Automaton) (h : Sound A) (bits : A .tags ≤ tagBits F) where
   -- the header's eight numbers
-  pub symbol-count : symbolCount (encode A) ≡ length (A .arities)
+  pub symbol-count : symbolCount (encode F A) ≡ length (A .arities)
   unfolding word encode encodeHeader
   symbol-count = let z = h .few-symbols in word-back (length (A .arities)) (omega arith)
 
-  pub state-count : stateCount (encode A) ≡ length (A .states)
+  pub state-count : stateCount (encode F A) ≡ length (A .states)
   unfolding word encode encodeHeader
   state-count = let z = h .few-states in word-back (length (A .states)) (omega arith)
 
-  pub tag-count : tagCount (encode A) ≡ A .tags
+  pub tag-count : tagCount (encode F A) ≡ A .tags
   unfolding word encode encodeHeader
   tag-count = let z = h .few-tags in word-back (A .tags) (omega arith)
 
-  pub rule-count : ruleCount (encode A) ≡ length (A .rules)
+  pub rule-count : ruleCount (encode F A) ≡ length (A .rules)
   unfolding word encode encodeHeader
   rule-count = let z = h .few-rules in word-back (length (A .rules)) (omega arith)
 
-  pub symbols-place : symbolsAt (encode A) ≡ headerWidth
+  pub symbols-place : symbolsAt (encode F A) ≡ headerWidth
   unfolding word encode encodeHeader
   symbols-place = refl
 
-  pub states-place : statesAt (encode A) ≡ statesOffset (length (A .arities))
+  pub states-place : statesAt (encode F A) ≡ statesOffset (length (A .arities))
   unfolding word encode encodeHeader
   states-place = let z = h .few-symbols in word-back (statesOffset (length (A .arities))) (omega arith)
 
-  pub rules-place : rulesAt (encode A) ≡ rulesOffset (length (A .arities)) (length (A .states))
+  pub rules-place : rulesAt (encode F A) ≡ rulesOffset F (length (A .arities)) (length (A .states))
   unfolding word encode encodeHeader
-  rules-place = let z = h .few-symbols in let y = h .few-states in word-back (rulesOffset (length (A .arities)) (length (A .states))) (omega arith)
+  rules-place = let z = h .few-symbols in let y = h .few-states in let w = states-most F (length (A .states)) in word-back (rulesOffset F (length (A .arities)) (length (A .states))) (omega arith)
 
-  pub total-place : statedTotal (encode A) ≡ encodedLength A
+  pub total-place : statedTotal (encode F A) ≡ encodedLength F A
   unfolding word encode encodeHeader
-  total-place = let z = h .few-symbols in let y = h .few-states in let x = h .few-rules in word-back (encodedLength A) (omega arith)
+  total-place = let z = h .few-symbols in let y = h .few-states in let x = h .few-rules in let w = states-most F (length (A .states)) in word-back (encodedLength F A) (omega arith)
+
+  -- The form that the header tells is the one that was asked for.
+  pub form-place : formOf (encode F A) ≡ F
+  unfolding formOf
+  form-place = form-told F (length (A .arities)) (length (A .states)) _ _ _ (h .some-state) state-count states-place rules-place
 
   -- symbols and states
-  pub symbol-byte : (i : ℕ) → i < length (A .arities) → symbolByte (encode A) i ≡ arityOf A i
+  pub symbol-byte : (i : ℕ) → i < length (A .arities) → symbolByte (encode F A) i ≡ arityOf A i
   unfolding symbolByte
-  symbol-byte i l = let z = h .few-children i in rw symbols-place (symbol-at A i l ∙ mod-eq-of-lt (omega arith))
+  symbol-byte i l = let z = h .few-children i in rw symbols-place (symbol-at F A i l ∙ mod-eq-of-lt (omega arith))
 
-  state-byte : (q b : ℕ) → q < length (A .states) → b < stateWidth → stateByte (encode A) q b ≡ getD (encodeOf (stateAt A q)) b 0
-  unfolding stateByte
-  state-byte q b l m = rw (states-place, add-assoc) (state-at A q b l m)
+  state-byte : (q b : ℕ) → q < length (A .states) → b < stateWidth F → getD (encode F A) (statePlace (encode F A) q + b) 0 ≡ getD (encodeOf F (stateAt A q)) b 0
+  state-byte q b l m = rw (form-place, states-place, add-assoc) (state-at F A q b l m)
 
-  mask-small : (q : ℕ) → (stateAt A q) .mask < 256
-  mask-small q = lt-of-lt-of-le (h .wellformed .masks q) (pow-mono (h .few-tags))
+  mask-small : (q : ℕ) → (stateAt A q) .mask < 2 ^ tagBits F
+  mask-small q = lt-of-lt-of-le (h .wellformed .masks q) (pow-mono bits)
 
-  pub final-byte : (q : ℕ) → q < length (A .states) → stateByte (encode A) q 0 ≡ cond ((stateAt A q) .final) 1 0
-  unfolding encodeState
-  final-byte q l = state-byte q 0 l (omega arith)
+  pub final-back : (q : ℕ) → q < length (A .states) → finalByte (encode F A) q ≡ cond ((stateAt A q) .final) 1 0
+  unfolding finalByte encodeState
+  final-back q l = ap (λ (k : ℕ). getD (encode F A) k 0) (sym (add-zero _)) ∙ state-byte q 0 l (width-some F)
 
-  pub mask-byte : (q : ℕ) → q < length (A .states) → stateByte (encode A) q 1 ≡ (stateAt A q) .mask
-  unfolding encodeState
-  mask-byte q l = state-byte q 1 l (omega arith) ∙ mod-eq-of-lt (mask-small q)
+  pub tags-back : (q : ℕ) → q < length (A .states) → tagsOf (encode F A) q ≡ (stateAt A q) .mask
+  unfolding tagsOf encodeState
+  tags-back q l =
+      ap (λ (form : Form). tagsAt form (encode F A) (statePlace (encode F A) q + 1)) form-place
+      ∙ tags-read F (encode F A) (statePlace (encode F A) q + 1) ((stateAt A q) .mask) (mask-small q)
+      (λ b m. ap (λ (k : ℕ). getD (encode F A) k 0) (add-assoc (statePlace (encode F A) q) 1 b) ∙ state-byte q (1 + b) l (width-tags F b m) ∙ ap (λ (k : ℕ). getD (encodeOf F (stateAt A q)) k 0) (add-comm 1 b ∙ add-one b))
 
   -- rules
   module _ (i : ℕ) (l : i < length (A .rules)) where
-    listed : In (ruleAt A i) (A .rules)
-    listed = in-getD noRule (A .rules) i l
+    abbrev numbers : List ℕ
+    numbers = words A h i l
 
-    pub few-places : length ((ruleAt A i) .children) ≤ maxChildren
-    few-places = rw (h .wellformed .as-many (ruleAt A i) listed) (h .few-children ((ruleAt A i) .symbol))
-
-    pub place-child : (k : ℕ) → k < length ((ruleAt A i) .children) → place (ruleAt A i) k < length (A .states)
-    place-child k m = h .wellformed .children (ruleAt A i) listed (place (ruleAt A i) k) (in-getD unused ((ruleAt A i) .children) k m)
-
-    pub place-none : (k : ℕ) → length ((ruleAt A i) .children) ≤ k → place (ruleAt A i) k ≡ unused
-    place-none k m = List·getD-eq-default ((ruleAt A i) .children) unused m
-
-    place-small : (k : ℕ) → place (ruleAt A i) k < 65536
-    place-small k =
-        ⊎-elim (λ m. let z = place-child k m in let y = h .few-states in omega arith) (λ m. rw (place-none k m) (omega arith))
-        (below-or k (length ((ruleAt A i) .children)))
-
-    abbrev words : List ℕ
-    words = (ruleAt A i) .symbol ∷ (ruleAt A i) .target ∷ tab maxChildren (place (ruleAt A i))
-
-    words-small : (k : ℕ) → k < maxChildren + 2 → getD words k 0 < 65536
-    words-small zero m = let z = h .wellformed .symbols (ruleAt A i) listed in let y = h .few-symbols in omega arith
-    words-small (suc zero) m = let z = h .wellformed .targets (ruleAt A i) listed in let y = h .few-states in omega arith
-    words-small (suc (suc k)) m = rw (tab-at 0 maxChildren (place (ruleAt A i)) k (omega arith)) (place-small k)
-
-    rule-word : (k : ℕ) → k < maxChildren + 2 → ruleWord (encode A) i k ≡ getD words k 0
+    rule-word : (k : ℕ) → k < maxChildren + 2 → ruleWord (encode F A) i k ≡ getD numbers k 0
     unfolding ruleWord word encodePlaces
     rule-word k m =
-        let n : k < length words = m in
-        let o = rulesOffset (length (A .arities)) (length (A .states)) in
-        let e : rulesAt (encode A) + ruleWidth * i + 2 * k ≡ o + (ruleWidth * i + 2 * k) = omega (arith, rules-place) in
-        let e′ : o + (ruleWidth * i + 2 * k) + 1 ≡ o + (ruleWidth * i + (2 * k + 1)) = omega arith in
-        let low : getD (encode A) (o + (ruleWidth * i + 2 * k)) 0 ≡ getD words k 0 % 256 = rule-at A i (2 * k) l (omega arith) ∙ low-at words k n in
-        let high : getD (encode A) (o + (ruleWidth * i + (2 * k + 1))) 0 ≡ getD words k 0 / 256 % 256 = rule-at A i (2 * k + 1) l (omega arith) ∙ high-at words k n in
-        rw (e, e′, low, high) (word-back (getD words k 0) (words-small k m))
+        let n : k < length numbers = m in
+        let o = rulesOffset F (length (A .arities)) (length (A .states)) in
+        let e : rulesAt (encode F A) + ruleWidth F * i + 2 * k ≡ o + (ruleWidth F * i + 2 * k) = omega (arith, rules-place) in
+        let e′ : o + (ruleWidth F * i + 2 * k) + 1 ≡ o + (ruleWidth F * i + (2 * k + 1)) = omega arith in
+        let low : getD (encode F A) (o + (ruleWidth F * i + 2 * k)) 0 ≡ getD numbers k 0 % 256 = rule-at F A i (2 * k) l (omega arith) ∙ low-at numbers k n in
+        let high : getD (encode F A) (o + (ruleWidth F * i + (2 * k + 1))) 0 ≡ getD numbers k 0 / 256 % 256 = rule-at F A i (2 * k + 1) l (omega arith) ∙ high-at numbers k n in
+        rw (e, e′, low, high) (word-back (getD numbers k 0) (words-small A h i l k m))
 
-    pub rule-symbol-word : ruleWord (encode A) i 0 ≡ (ruleAt A i) .symbol
+    pub rule-symbol-word : ruleWord (encode F A) i 0 ≡ (ruleAt A i) .symbol
     rule-symbol-word = rule-word 0 (omega arith)
 
-    pub rule-target-word : ruleWord (encode A) i 1 ≡ (ruleAt A i) .target
+    pub rule-target-word : ruleWord (encode F A) i 1 ≡ (ruleAt A i) .target
     rule-target-word = rule-word 1 (omega arith)
 
-    pub rule-place-word : (k : ℕ) → k < maxChildren → placeWord (encode A) i k ≡ place (ruleAt A i) k
+    pub rule-place-word : (k : ℕ) → k < maxChildren → placeWord (encode F A) i k ≡ place (ruleAt A i) k
     rule-place-word k m = rw add-two (rule-word (suc (suc k)) (omega arith) ∙ tab-at 0 maxChildren (place (ruleAt A i)) k m)

@@ -2,15 +2,15 @@
 use mathlib.Core.Path.{_≡_, refl, sym, ap, _∙_}
 use mathlib.Core.Bool.{Bool, true, false}
 use mathlib.Core.Logic.{_⊎_, inl, inr}
-use mathlib.Core.List.{List, [], _∷_, _++_, map}
+use mathlib.Core.List.{List, [], _∷_, _++_, map, append-assoc, append-nil}
 use Prim.Native.Nat.{ℕ, zero, suc, _+_, _*_, _≤_, _<_}
-use native.Mathlib.Nat.{mul-suc, mul-zero}
+use native.Mathlib.Nat.{mul-suc, mul-zero, mul-le-mul-left}
 use native.Mathlib.Numerals.{add-one}
 use native.Mathlib.Omega.{arith}
 use borrow.Author.Tests.{ltb-true, ltb-false}
 use lib.Dec.{ltb}
 use lib.ListN.{length, getD, take, drop, length-append, length-drop, length-map, List·getD-append}
-use lib.Seq.{getD-append-add, take-add, drop-drop, ext-getD, getD-take, getD-drop, length-take-le, drop-cons}
+use lib.Seq.{getD-append-add, take-add, take-suc, drop-drop, ext-getD, getD-take, getD-drop, length-take-le, drop-cons}
 use Rattle.model.specs.Lists.{concatMap, tab, allBelow}
 use Rattle.model.proofs.Tab.{tab-at, length-tab}
 
@@ -20,6 +20,10 @@ below-or a b = go (ltb a b) refl
     go : (t : Bool) → ltb a b ≡ t → (a < b) ⊎ (b ≤ a)
     go true e = inl (ltb-true a b e)
     go false e = inr (ltb-false a b e)
+
+-- index i of n parts of width w lies before their end
+pub inside : (w i n : ℕ) → i < n → w * i + w ≤ w * n
+inside w i n l = omega (arith, mul-le-mul-left w l)
 
 pub all-of : (n : ℕ) (p : ℕ → Bool) → ((i : ℕ) → i < n → p i ≡ true) → allBelow n p ≡ true
 unfolding allBelow
@@ -91,3 +95,14 @@ part-tab w q s h =
 -- the parts from i on: part i, then those from i + 1 on
 pub concat-drop : {A : Type 0} (f : A → List ℕ) (d : A) (xs : List A) (i : ℕ) → i < length xs → concatMap f (drop i xs) ≡ f (getD xs i d) ++ concatMap f (drop (i + 1) xs)
 concat-drop f d xs i l = ap (concatMap f) (drop-cons xs i d l) ∙ ap (λ (n : ℕ). f (getD xs i d) ++ concatMap f (drop n xs)) (sym (add-one i))
+
+module _ {X Y : Type 0} (f : X → List Y) where
+  pub concatMap-append : (xs ys : List X) → concatMap f (xs ++ ys) ≡ concatMap f xs ++ concatMap f ys
+  concatMap-append [] ys = refl
+  concatMap-append (x ∷ xs) ys = ap (f x ++_) (concatMap-append xs ys) ∙ sym (append-assoc (f x) (concatMap f xs) (concatMap f ys))
+
+  pub concatMap-more : (d : X) (xs : List X) (i : ℕ) → i < length xs → concatMap f (take (suc i) xs) ≡ concatMap f (take i xs) ++ f (getD xs i d)
+  concatMap-more d xs i l =
+      ap (concatMap f) (take-suc xs i d l)
+      ∙ concatMap-append (take i xs) (getD xs i d ∷ [])
+      ∙ ap (concatMap f (take i xs) ++_) (append-nil (f (getD xs i d)))

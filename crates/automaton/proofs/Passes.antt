@@ -13,8 +13,8 @@ use Rattle.model.specs.Lists.{allBelow}
 use Rattle.model.specs.Refusal.{demand}
 use Rattle.model.proofs.Below.{at}
 use Rattle.automaton.proofs.Parts.{all-of}
-use Rattle.automaton.specs.Form.{headerWidth, statesOffset, rulesOffset, totalLength}
-use Rattle.automaton.specs.Stored.{symbolCount, stateCount, tagCount, ruleCount, symbolsAt, statesAt, rulesAt, statedTotal, symbolByte, stateByte, ruleWord, placeWord}
+use Rattle.automaton.specs.Form.{headerWidth, tagBits, statesOffset, rulesOffset, totalLength}
+use Rattle.automaton.specs.Stored.{symbolCount, stateCount, tagCount, ruleCount, symbolsAt, statesAt, rulesAt, statedTotal, formOf, symbolByte, finalByte, tagsOf, ruleWord, placeWord}
 use Rattle.automaton.specs.Check.{countsOk, offsetsOk, symbolOk, stateOk, placeOk, ruleOk, ascendsAt, checkOf}
 
 pub split : (a b : Bool) → (a && b) ≡ true → (a ≡ true) × (b ≡ true)
@@ -50,23 +50,26 @@ counted s h =
 pub record Placed (s : List ℕ) : Type 0 where
   pub symbols-at : symbolsAt s ≡ headerWidth
   pub states-at : statesAt s ≡ statesOffset (symbolCount s)
-  pub rules-at : rulesAt s ≡ rulesOffset (symbolCount s) (stateCount s)
-  pub total : statedTotal s ≡ totalLength (symbolCount s) (stateCount s) (ruleCount s)
-  pub whole : length s ≡ totalLength (symbolCount s) (stateCount s) (ruleCount s)
+  pub rules-at : rulesAt s ≡ rulesOffset (formOf s) (symbolCount s) (stateCount s)
+  pub total : statedTotal s ≡ totalLength (formOf s) (symbolCount s) (stateCount s) (ruleCount s)
+  pub whole : length s ≡ totalLength (formOf s) (symbolCount s) (stateCount s) (ruleCount s)
+  pub bits : tagCount s ≤ tagBits (formOf s)
 
 pub placed : (s : List ℕ) → offsetsOk s ≡ true → Placed s
 unfolding offsetsOk
 placed s h =
-    let four = split _ _ h in
+    let five = split _ _ h in
+    let four = split _ _ (five .0) in
     let three = split _ _ (four .0) in
     let two = split _ _ (three .0) in
     let one = split _ _ (two .0) in
     record {
       symbols-at = eqb-true (symbolsAt s) headerWidth (one .0);
       states-at = eqb-true (statesAt s) (statesOffset (symbolCount s)) (one .1);
-      rules-at = eqb-true (rulesAt s) (rulesOffset (symbolCount s) (stateCount s)) (two .1);
-      total = eqb-true (statedTotal s) (totalLength (symbolCount s) (stateCount s) (ruleCount s)) (three .1);
-      whole = eqb-true (length s) (totalLength (symbolCount s) (stateCount s) (ruleCount s)) (four .1);
+      rules-at = eqb-true (rulesAt s) (rulesOffset (formOf s) (symbolCount s) (stateCount s)) (two .1);
+      total = eqb-true (statedTotal s) (totalLength (formOf s) (symbolCount s) (stateCount s) (ruleCount s)) (three .1);
+      whole = eqb-true (length s) (totalLength (formOf s) (symbolCount s) (stateCount s) (ruleCount s)) (four .1);
+      bits = leb-true (tagCount s) (tagBits (formOf s)) (five .1);
     }
 
 rule-parts : (s : List ℕ) (i : ℕ) → ruleOk s i ≡ true → (ruleWord s i 0 < symbolCount s) × (ruleWord s i 1 < stateCount s) × (allBelow maxChildren (placeOk s i) ≡ true)
@@ -76,7 +79,7 @@ rule-parts s i h =
     let q = split (ltb (ruleWord s i 0) (symbolCount s)) (ltb (ruleWord s i 1) (stateCount s)) (p .0) in
     (ltb-true (ruleWord s i 0) (symbolCount s) (q .0), ltb-true (ruleWord s i 1) (stateCount s) (q .1), p .1)
 
-met : (t : Bool) (n rest : ℕ) → demand t (suc n) rest ≡ 0 → (t ≡ true) × (rest ≡ 0)
+pub met : (t : Bool) (n rest : ℕ) → demand t (suc n) rest ≡ 0 → (t ≡ true) × (rest ≡ 0)
 unfolding demand
 met true n rest h = (refl, h)
 met false n rest h = absurd (omega arith)
@@ -87,7 +90,7 @@ pub record Passes (s : List ℕ) : Type 0 where
   pub counts : Counted s
   pub offsets : Placed s
   pub symbols : (i : ℕ) → i < symbolCount s → symbolByte s i ≤ maxChildren
-  pub states : (q : ℕ) → q < stateCount s → (stateByte s q 0 ≤ 1) × (stateByte s q 1 < 2 ^ tagCount s)
+  pub states : (q : ℕ) → q < stateCount s → (finalByte s q ≤ 1) × (tagsOf s q < 2 ^ tagCount s)
   pub rules : (i : ℕ) → i < ruleCount s → (ruleWord s i 0 < symbolCount s) × (ruleWord s i 1 < stateCount s)
   pub places : (i : ℕ) → i < ruleCount s → (k : ℕ) → k < maxChildren → placeOk s i k ≡ true
   pub ascends : (i : ℕ) → i + 1 < ruleCount s → ascendsAt s i ≡ true
@@ -108,14 +111,14 @@ passes s h =
       offsets = placed s (three .0);
       symbols = λ i l. leb-true (symbolByte s i) maxChildren (at (symbolOk s) (symbolCount s) i (four .0) l);
       states = λ q l.
-          let p = split (leb (stateByte s q 0) 1) _ (at (stateOk s) (stateCount s) q (five .0) l) in
-          (leb-true (stateByte s q 0) 1 (p .0), ltb-true (stateByte s q 1) (2 ^ tagCount s) (p .1));
+          let p = split (leb (finalByte s q) 1) _ (at (stateOk s) (stateCount s) q (five .0) l) in
+          (leb-true (finalByte s q) 1 (p .0), ltb-true (tagsOf s q) (2 ^ tagCount s) (p .1));
       rules = λ i l. let p = rule-parts s i (at (ruleOk s) (ruleCount s) i (six .0) l) in (p .0, p .1);
       places = λ i l k lk. at (placeOk s i) maxChildren k (rule-parts s i (at (ruleOk s) (ruleCount s) i (six .0) l) .2) lk;
       ascends = λ i l. at (ascendsAt s) (ruleCount s - 1) i (seven .0) (omega arith);
     }
 
-meets : (t : Bool) (n rest : ℕ) → t ≡ true → rest ≡ 0 → demand t n rest ≡ 0
+pub meets : (t : Bool) (n rest : ℕ) → t ≡ true → rest ≡ 0 → demand t n rest ≡ 0
 unfolding demand
 meets t n rest y h = rw y h
 
@@ -139,14 +142,15 @@ passing s p =
     (rw (
       eq-eqb (symbolsAt s) headerWidth (o .symbols-at),
       eq-eqb (statesAt s) (statesOffset (symbolCount s)) (o .states-at),
-      eq-eqb (rulesAt s) (rulesOffset (symbolCount s) (stateCount s)) (o .rules-at),
-      eq-eqb (statedTotal s) (totalLength (symbolCount s) (stateCount s) (ruleCount s)) (o .total),
-      eq-eqb (length s) (totalLength (symbolCount s) (stateCount s) (ruleCount s)) (o .whole),
+      eq-eqb (rulesAt s) (rulesOffset (formOf s) (symbolCount s) (stateCount s)) (o .rules-at),
+      eq-eqb (statedTotal s) (totalLength (formOf s) (symbolCount s) (stateCount s) (ruleCount s)) (o .total),
+      eq-eqb (length s) (totalLength (formOf s) (symbolCount s) (stateCount s) (ruleCount s)) (o .whole),
+      le-leb (tagCount s) (tagBits (formOf s)) (o .bits),
     ))
     (meets (allBelow (symbolCount s) (symbolOk s)) 4 _
     (all-of (symbolCount s) (symbolOk s) (λ i l. le-leb (symbolByte s i) maxChildren (p .symbols i l)))
     (meets (allBelow (stateCount s) (stateOk s)) 5 _
-    (all-of (stateCount s) (stateOk s) (λ q l. rw (le-leb (stateByte s q 0) 1 (p .states q l .0), lt-ltb (stateByte s q 1) (2 ^ tagCount s) (p .states q l .1))))
+    (all-of (stateCount s) (stateOk s) (λ q l. rw (le-leb (finalByte s q) 1 (p .states q l .0), lt-ltb (tagsOf s q) (2 ^ tagCount s) (p .states q l .1))))
     (meets (allBelow (ruleCount s) (ruleOk s)) 6 _
     (all-of (ruleCount s) (ruleOk s) (λ i l. rw (lt-ltb (ruleWord s i 0) (symbolCount s) (p .rules i l .0), lt-ltb (ruleWord s i 1) (stateCount s) (p .rules i l .1)) (all-of maxChildren (placeOk s i) (p .places i l))))
     (meets (allBelow (ruleCount s - 1) (ascendsAt s)) 7 0

@@ -1,7 +1,7 @@
 -- Bytes put into a lent space, part after part: what the front holds afterwards. Assumes nothing.
 use mathlib.Core.Path.{_≡_, refl, sym, ap, _∙_}
-use mathlib.Core.Bool.{Bool, true, false}
-use mathlib.Core.List.{List, [], _++_, append-assoc, append-nil}
+use mathlib.Core.Bool.{Bool, true, false, cond}
+use mathlib.Core.List.{List, [], _∷_, _++_, append-assoc, append-nil}
 use Prim.Native.Nat.{ℕ, suc, _+_, _-_, _*_, _/_, _%_, _≤_, _<_}
 use native.Mathlib.Nat.{le-antisymm, le-of-eq}
 use native.Mathlib.Numerals.{add-one, add-one-le}
@@ -12,8 +12,12 @@ use lib.Dec.{leb}
 use lib.ListN.{length, take, drop, getD, set, length-append, length-set, take-append-drop}
 use lib.Seq.{length-take-le, paste, paste-zero, paste-suc, take-all, drop-drop}
 use Rattle.model.specs.Lists.{concatMap}
+use Rattle.model.specs.Space.{putAt}
 use Rattle.model.proofs.Space.{put-fits, put-not, put-length, put-up-to, put-behind}
-use Rattle.automaton.specs.Encode.{encodeWord, placeAfter, Put}
+use Rattle.automaton.specs.Form.{tagsWidth, stateWidth}
+use Rattle.automaton.specs.declared.Form.{Form}
+use Rattle.automaton.specs.declared.Form.the-variants.{Narrow, Wide}
+use Rattle.automaton.specs.Encode.{encodeWord, encodeTags, encodeState, placeAfter, Put}
 use Rattle.automaton.proofs.Words.{length-words, low-at, high-at}
 
 -- bytes fit where the space has them left
@@ -49,6 +53,21 @@ module _ (out : List ℕ) (at : ℕ) (bytes : List ℕ) where
 
     pub put-stays : Put out at bytes out at
     put-stays = record { space = sym (put-not out at bytes h); place = sym after-not }
+
+-- bytes put whole, n of them
+pub put-whole : (out : List ℕ) (at : ℕ) (bytes : List ℕ) (n : ℕ) (out′ : List ℕ) → n ≡ length bytes → at + n ≤ length out → out′ ≡ putAt out at bytes → Put out at bytes out′ (at + n)
+put-whole out at bytes n out′ e h d = record { space = d; place = rw (after-fits out at bytes (rw (← e) h), e) }
+
+pub state-length : (form : Form) (final : Bool) (mask : ℕ) → length (encodeState form final mask) ≡ stateWidth form
+unfolding stateWidth tagsWidth encodeState encodeTags
+state-length Narrow final mask = refl
+state-length Wide final mask = refl
+
+-- the bytes of a state are the first of three
+pub state-bytes : (form : Form) (final : Bool) (mask n f l h : ℕ) → n ≡ stateWidth form → f ≡ cond final 1 0 → l ≡ mask % 256 → h ≡ mask / 256 % 256 → take n (f ∷ l ∷ h ∷ []) ≡ encodeState form final mask
+unfolding stateWidth tagsWidth encodeState encodeTags
+state-bytes Narrow final mask n f l h en ef el eh = rw (en, ef, el)
+state-bytes Wide final mask n f l h en ef el eh = rw (en, ef, el, eh)
 
 -- words pasted by a loop: at its head the first i stand in the space
 pub record Pasted (d : List ℕ) (at : ℕ) (ws out : List ℕ) (i : ℕ) : Type 0 where

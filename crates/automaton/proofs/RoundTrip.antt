@@ -17,12 +17,14 @@ use Rattle.model.specs.Sound.{Sound}
 use Rattle.model.specs.Written.{noRule, ruleAt}
 use Rattle.model.proofs.Members.{T-true}
 use Rattle.model.proofs.Rows.{in-getD}
-use Rattle.automaton.specs.Stored.{symbolCount, stateCount, ruleCount, symbolByte, stateByte, ruleWord, placeWord, aritiesOf, stateOf, ruleOf, decode}
+use Rattle.automaton.specs.Stored.{symbolCount, stateCount, ruleCount, symbolByte, finalByte, ruleWord, placeWord, aritiesOf, stateOf, ruleOf, decode}
+use Rattle.automaton.specs.Form.{tagBits}
+use Rattle.automaton.specs.declared.Form.{Form}
 use Rattle.automaton.specs.Encode.{encode}
 use Rattle.automaton.specs.Check.{placeOk, keyWord, ascendsAt, checkOf}
 use Rattle.automaton.proofs.Parts.{below-or, tab-same, tab-is}
 use Rattle.automaton.proofs.Passes.{Counted, Placed, passing}
-use Rattle.automaton.proofs.Encoded.{encode-length, symbol-count, state-count, tag-count, rule-count, symbols-place, states-place, rules-place, total-place, symbol-byte, final-byte, mask-byte, few-places, place-child, place-none, rule-symbol-word, rule-target-word, rule-place-word}
+use Rattle.automaton.proofs.Encoded.{encode-length, symbol-count, state-count, tag-count, rule-count, symbols-place, states-place, rules-place, total-place, form-place, symbol-byte, final-back, tags-back, few-places, place-child, place-none, rule-symbol-word, rule-target-word, rule-place-word}
 
 one-bit : (b : Bool) → eqb (cond b 1 0) 1 ≡ b
 one-bit true = refl
@@ -38,94 +40,95 @@ ascending-at (r ∷ []) h i l = absurd (omega arith)
 ascending-at (r ∷ s ∷ rs) h zero l = h .0
 ascending-at (r ∷ s ∷ rs) h (suc i) l = ascending-at (s ∷ rs) (h .1) i (omega arith)
 
-module _ (A : Automaton) (h : Sound A) where
-  arities-back : aritiesOf (encode A) ≡ A .arities
-  arities-back = tab-is 0 (A .arities) (symbolCount (encode A)) (symbolByte (encode A)) (symbol-count A h) (symbol-byte A h)
+module _ (F : Form) (A : Automaton) (h : Sound A) (bits : A .tags ≤ tagBits F) where
+  arities-back : aritiesOf (encode F A) ≡ A .arities
+  arities-back = tab-is 0 (A .arities) (symbolCount (encode F A)) (symbolByte (encode F A)) (symbol-count F A h bits) (symbol-byte F A h bits)
 
-  state-back : (q : ℕ) → q < length (A .states) → stateOf (encode A) q ≡ stateAt A q
+  state-back : (q : ℕ) → q < length (A .states) → stateOf (encode F A) q ≡ stateAt A q
   state-back q l =
-      let final : eqb (stateByte (encode A) q 0) 1 ≡ (stateAt A q) .final = ap (λ (x : ℕ). eqb x 1) (final-byte A h q l) ∙ one-bit ((stateAt A q) .final) in
-      λ i. record { final = final i; mask = mask-byte A h q l i }
+      let final : eqb (finalByte (encode F A) q) 1 ≡ (stateAt A q) .final = ap (λ (x : ℕ). eqb x 1) (final-back F A h bits q l) ∙ one-bit ((stateAt A q) .final) in
+      λ i. record { final = final i; mask = tags-back F A h bits q l i }
 
   as-many : (i : ℕ) → i < length (A .rules) → length ((ruleAt A i) .children) ≡ arityOf A ((ruleAt A i) .symbol)
   as-many i l = h .wellformed .as-many (ruleAt A i) (in-getD noRule (A .rules) i l)
 
-  rule-back : (i : ℕ) → i < length (A .rules) → ruleOf (encode A) i ≡ ruleAt A i
+  rule-back : (i : ℕ) → i < length (A .rules) → ruleOf (encode F A) i ≡ ruleAt A i
   rule-back i l =
-      let n : getD (aritiesOf (encode A)) (ruleWord (encode A) i 0) 0 ≡ length ((ruleAt A i) .children) =
-      ap (λ (as′ : List ℕ). getD as′ (ruleWord (encode A) i 0) 0) arities-back ∙ ap (λ (f : ℕ). arityOf A f) (rule-symbol-word A h i l) ∙ sym (as-many i l) in
-      let kids : tab (getD (aritiesOf (encode A)) (ruleWord (encode A) i 0) 0) (placeWord (encode A) i) ≡ (ruleAt A i) .children =
-      tab-is unused ((ruleAt A i) .children) _ (placeWord (encode A) i) n (λ k m. let z = few-places A h i l in rule-place-word A h i l k (omega arith)) in
-      λ j. record { symbol = rule-symbol-word A h i l j; children = kids j; target = rule-target-word A h i l j }
+      let n : getD (aritiesOf (encode F A)) (ruleWord (encode F A) i 0) 0 ≡ length ((ruleAt A i) .children) =
+      ap (λ (as′ : List ℕ). getD as′ (ruleWord (encode F A) i 0) 0) arities-back ∙ ap (λ (f : ℕ). arityOf A f) (rule-symbol-word F A h bits i l) ∙ sym (as-many i l) in
+      let kids : tab (getD (aritiesOf (encode F A)) (ruleWord (encode F A) i 0) 0) (placeWord (encode F A) i) ≡ (ruleAt A i) .children =
+      tab-is unused ((ruleAt A i) .children) _ (placeWord (encode F A) i) n (λ k m. let z = few-places A h i l in rule-place-word F A h bits i l k (omega arith)) in
+      λ j. record { symbol = rule-symbol-word F A h bits i l j; children = kids j; target = rule-target-word F A h bits i l j }
 
   -- Decoding undoes encoding.
-  pub decode-encode : decode (encode A) ≡ A
+  pub decode-encode : decode (encode F A) ≡ A
   unfolding decode
   decode-encode =
-      let states : tab (stateCount (encode A)) (stateOf (encode A)) ≡ A .states = tab-is noState (A .states) (stateCount (encode A)) (stateOf (encode A)) (state-count A h) state-back in
-      let rules : tab (ruleCount (encode A)) (ruleOf (encode A)) ≡ A .rules = tab-is noRule (A .rules) (ruleCount (encode A)) (ruleOf (encode A)) (rule-count A h) rule-back in
-      λ i. record { arities = arities-back i; states = states i; tags = tag-count A h i; rules = rules i }
+      let states : tab (stateCount (encode F A)) (stateOf (encode F A)) ≡ A .states = tab-is noState (A .states) (stateCount (encode F A)) (stateOf (encode F A)) (state-count F A h bits) state-back in
+      let rules : tab (ruleCount (encode F A)) (ruleOf (encode F A)) ≡ A .rules = tab-is noRule (A .rules) (ruleCount (encode F A)) (ruleOf (encode F A)) (rule-count F A h bits) rule-back in
+      λ i. record { arities = arities-back i; states = states i; tags = tag-count F A h bits i; rules = rules i }
 
-  counted : Counted (encode A)
+  counted : Counted (encode F A)
   counted = record {
-    some-symbol = rw (symbol-count A h) (h .some-symbol);
-    few-symbols = rw (symbol-count A h) (h .few-symbols);
-    some-state = rw (state-count A h) (h .some-state);
-    few-states = rw (state-count A h) (h .few-states);
-    few-tags = rw (tag-count A h) (h .few-tags);
-    few-rules = rw (rule-count A h) (h .few-rules);
+    some-symbol = rw (symbol-count F A h bits) (h .some-symbol);
+    few-symbols = rw (symbol-count F A h bits) (h .few-symbols);
+    some-state = rw (state-count F A h bits) (h .some-state);
+    few-states = rw (state-count F A h bits) (h .few-states);
+    few-tags = rw (tag-count F A h bits) (h .few-tags);
+    few-rules = rw (rule-count F A h bits) (h .few-rules);
   }
 
-  placed : Placed (encode A)
+  placed : Placed (encode F A)
   placed = record {
-    symbols-at = symbols-place A h;
-    states-at = rw (symbol-count A h) (states-place A h);
-    rules-at = rw (symbol-count A h, state-count A h) (rules-place A h);
-    total = rw (symbol-count A h, state-count A h, rule-count A h) (total-place A h);
-    whole = rw (symbol-count A h, state-count A h, rule-count A h) (encode-length A);
+    symbols-at = symbols-place F A h bits;
+    states-at = rw (symbol-count F A h bits) (states-place F A h bits);
+    rules-at = rw (symbol-count F A h bits, state-count F A h bits, form-place F A h bits) (rules-place F A h bits);
+    total = rw (symbol-count F A h bits, state-count F A h bits, rule-count F A h bits, form-place F A h bits) (total-place F A h bits);
+    whole = rw (symbol-count F A h bits, state-count F A h bits, rule-count F A h bits, form-place F A h bits) (encode-length F A);
+    bits = rw (tag-count F A h bits, form-place F A h bits) bits;
   }
 
   module _ (i : ℕ) (l : i < length (A .rules)) where
     known : (ruleAt A i) .symbol < length (A .arities)
     known = h .wellformed .symbols (ruleAt A i) (in-getD noRule (A .rules) i l)
 
-    places-pass : (k : ℕ) → k < maxChildren → placeOk (encode A) i k ≡ true
+    places-pass : (k : ℕ) → k < maxChildren → placeOk (encode F A) i k ≡ true
     unfolding placeOk
     places-pass k m =
-        let n : symbolByte (encode A) (ruleWord (encode A) i 0) ≡ length ((ruleAt A i) .children) =
-        ap (symbolByte (encode A)) (rule-symbol-word A h i l) ∙ symbol-byte A h ((ruleAt A i) .symbol) known ∙ sym (as-many i l) in
+        let n : symbolByte (encode F A) (ruleWord (encode F A) i 0) ≡ length ((ruleAt A i) .children) =
+        ap (symbolByte (encode F A)) (rule-symbol-word F A h bits i l) ∙ symbol-byte F A h bits ((ruleAt A i) .symbol) known ∙ sym (as-many i l) in
         ⊎-elim
-        (λ lk. rw (n, lt-ltb k _ lk, rule-place-word A h i l k m, state-count A h) (lt-ltb _ _ (place-child A h i l k lk)))
-        (λ lk. rw (n, le-ltb k _ lk, rule-place-word A h i l k m) (eq-eqb _ _ (place-none A h i l k lk)))
+        (λ lk. rw (n, lt-ltb k _ lk, rule-place-word F A h bits i l k m, state-count F A h bits) (lt-ltb _ _ (place-child A h i l k lk)))
+        (λ lk. rw (n, le-ltb k _ lk, rule-place-word F A h bits i l k m) (eq-eqb _ _ (place-none A h i l k lk)))
         (below-or k (length ((ruleAt A i) .children)))
 
-    key-back : tab (maxChildren + 2) (keyWord (encode A) i) ≡ key (ruleAt A i)
+    key-back : tab (maxChildren + 2) (keyWord (encode F A) i) ≡ key (ruleAt A i)
     unfolding keyWord
     key-back =
-        let places : tab maxChildren (placeWord (encode A) i) ≡ tab maxChildren (place (ruleAt A i)) = tab-same maxChildren (placeWord (encode A) i) (place (ruleAt A i)) (rule-place-word A h i l) in
-        ap (λ (ps : List ℕ). ruleWord (encode A) i 0 ∷ ps ++ ruleWord (encode A) i 1 ∷ []) places
-        ∙ ap (λ (f : ℕ). f ∷ tab maxChildren (place (ruleAt A i)) ++ ruleWord (encode A) i 1 ∷ []) (rule-symbol-word A h i l)
-        ∙ ap (λ (t : ℕ). (ruleAt A i) .symbol ∷ tab maxChildren (place (ruleAt A i)) ++ t ∷ []) (rule-target-word A h i l)
+        let places : tab maxChildren (placeWord (encode F A) i) ≡ tab maxChildren (place (ruleAt A i)) = tab-same maxChildren (placeWord (encode F A) i) (place (ruleAt A i)) (rule-place-word F A h bits i l) in
+        ap (λ (ps : List ℕ). ruleWord (encode F A) i 0 ∷ ps ++ ruleWord (encode F A) i 1 ∷ []) places
+        ∙ ap (λ (f : ℕ). f ∷ tab maxChildren (place (ruleAt A i)) ++ ruleWord (encode F A) i 1 ∷ []) (rule-symbol-word F A h bits i l)
+        ∙ ap (λ (t : ℕ). (ruleAt A i) .symbol ∷ tab maxChildren (place (ruleAt A i)) ++ t ∷ []) (rule-target-word F A h bits i l)
 
-  ascends : (i : ℕ) → suc i < length (A .rules) → ascendsAt (encode A) i ≡ true
+  ascends : (i : ℕ) → suc i < length (A .rules) → ascendsAt (encode F A) i ≡ true
   unfolding ascendsAt
   ascends i l =
-      ap (λ (n : ℕ). lower? (tab (maxChildren + 2) (keyWord (encode A) i)) (tab (maxChildren + 2) (keyWord (encode A) n))) (add-one i)
-      ∙ ap (λ (a : List ℕ). lower? a (tab (maxChildren + 2) (keyWord (encode A) (suc i)))) (key-back i (omega arith))
+      ap (λ (n : ℕ). lower? (tab (maxChildren + 2) (keyWord (encode F A) i)) (tab (maxChildren + 2) (keyWord (encode F A) n))) (add-one i)
+      ∙ ap (λ (a : List ℕ). lower? a (tab (maxChildren + 2) (keyWord (encode F A) (suc i)))) (key-back i (omega arith))
       ∙ ap (λ (b : List ℕ). lower? (key (ruleAt A i)) b) (key-back (suc i) l)
       ∙ T-true (before? (ruleAt A i) (ruleAt A (suc i))) .0 (ascending-at (A .rules) (h .ascending) i l)
 
   -- The stored form of a sound automaton passes the check.
-  pub encode-sound : checkOf (encode A) ≡ 0
+  pub encode-sound : checkOf (encode F A) ≡ 0
   encode-sound =
-      let S = symbol-count A h in let Q = state-count A h in let R = rule-count A h in let n = encode-length A in
-      passing (encode A) (record {
+      let S = symbol-count F A h bits in let Q = state-count F A h bits in let R = rule-count F A h bits in let n = encode-length F A in
+      passing (encode F A) (record {
         header = omega arith;
         counts = counted;
         offsets = placed;
-        symbols = λ i l. rw (symbol-byte A h i (omega arith)) (h .few-children i);
-        states = λ q l. (rw (final-byte A h q (omega arith)) (at-most-one ((stateAt A q) .final)), rw (mask-byte A h q (omega arith), tag-count A h) (h .wellformed .masks q));
-        rules = λ i l. (rw (rule-symbol-word A h i (omega arith), S) (known i (omega arith)), rw (rule-target-word A h i (omega arith), Q) (h .wellformed .targets (ruleAt A i) (in-getD noRule (A .rules) i (omega arith))));
+        symbols = λ i l. rw (symbol-byte F A h bits i (omega arith)) (h .few-children i);
+        states = λ q l. (rw (final-back F A h bits q (omega arith)) (at-most-one ((stateAt A q) .final)), rw (tags-back F A h bits q (omega arith), tag-count F A h bits) (h .wellformed .masks q));
+        rules = λ i l. (rw (rule-symbol-word F A h bits i (omega arith), S) (known i (omega arith)), rw (rule-target-word F A h bits i (omega arith), Q) (h .wellformed .targets (ruleAt A i) (in-getD noRule (A .rules) i (omega arith))));
         places = λ i l. places-pass i (omega arith);
         ascends = λ i l. ascends i (omega arith);
       })

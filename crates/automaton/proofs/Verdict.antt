@@ -6,6 +6,7 @@ use Prim.Native.Nat.{ℕ, zero, suc, _≤_, _<_}
 use native.Mathlib.Omega.{arith}
 use lib.Dec.{leb}
 use borrow.Author.Tests.{le-leb, lt-leb, not-true, not-false}
+use Rattle.model.specs.Limits.{maxTags}
 use Rattle.model.specs.Refusal.{demand, andAfter, unless}
 use Rattle.automaton.specs.declared.Checked.{Checked}
 use Rattle.automaton.specs.declared.Checked.the-variants.{Passed, Refused}
@@ -59,8 +60,8 @@ pub answered : (n m : ℕ) → n ≡ m → checkAnswer (checkedOf n) ≡ unless 
 answered n m e = is-answer (checkedOf n) m (ap checkedOf e)
 
 -- a set that passed 2 has few tags
-pub tags-below : (s : List ℕ) (f : Bool) → f ≡ countsOk s → f ≡ true → tagCount s < 16
-tags-below s f e y = let c = counted s (sym e ∙ y) .few-tags in omega arith
+pub tags-few : (s : List ℕ) (f : Bool) → f ≡ countsOk s → f ≡ true → tagCount s ≤ maxTags
+tags-few s f e y = counted s (sym e ∙ y) .few-tags
 
 -- What a caller learns: of an answer that passed the number is 0, and a later place decides; of a refusal it is the answer's own.
 module _ (r : Checked) (n : ℕ) (e : checkAnswer r ≡ unless n tt) where

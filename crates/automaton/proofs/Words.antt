@@ -8,6 +8,7 @@ use lib.ListN.{length, getD, List·getD-eq-default}
 use Rattle.model.specs.Lists.{concatMap, tab}
 use Rattle.automaton.proofs.Parts.{tab-map}
 use Rattle.automaton.specs.Form.{headerWidth, statesOffset, rulesOffset, totalLength}
+use Rattle.automaton.specs.declared.Form.{Form}
 use Rattle.automaton.specs.Stored.{word}
 use Rattle.automaton.specs.Number.{NumberAt}
 use Rattle.automaton.specs.Encode.{encodeWord, encodeHeader, encodePlaces}
@@ -27,7 +28,7 @@ high-at (w ∷ ws) zero l = refl
 high-at (w ∷ ws) (suc i) l = let e : 2 * suc i + 1 ≡ suc (suc (2 * i + 1)) = omega arith in rw e (high-at ws i (omega arith))
 
 -- what is cut to 16 bits is the same word
-low-cut : (x : ℕ) → x % 65536 % 256 ≡ x % 256
+pub low-cut : (x : ℕ) → x % 65536 % 256 ≡ x % 256
 low-cut x = omega arith
 
 high-cut : (x : ℕ) → x % 65536 / 256 % 256 ≡ x / 256 % 256
@@ -37,9 +38,9 @@ pub word-cut : (x y : ℕ) → x ≡ y % 65536 → encodeWord x ≡ encodeWord y
 word-cut x y e = cc (e, low-cut y, high-cut y)
 
 -- the words of a header, the offsets a, b and the total c cut to 16 bits; those of a rule with m places, each with its number g
-pub header-words : (S Q T R a b c x y z : ℕ) → x ≡ statesOffset S → y ≡ rulesOffset S Q → z ≡ totalLength S Q R → a ≡ x % 65536 → b ≡ y % 65536 → c ≡ z % 65536 → concatMap encodeWord (S ∷ Q ∷ T ∷ R ∷ headerWidth ∷ a ∷ b ∷ c ∷ []) ≡ encodeHeader S Q T R
+pub header-words : (form : Form) (S Q T R a b c x y z : ℕ) → x ≡ statesOffset S → y ≡ rulesOffset form S Q → z ≡ totalLength form S Q R → a ≡ x % 65536 → b ≡ y % 65536 → c ≡ z % 65536 → concatMap encodeWord (S ∷ Q ∷ T ∷ R ∷ headerWidth ∷ a ∷ b ∷ c ∷ []) ≡ encodeHeader form S Q T R
 unfolding encodeHeader
-header-words S Q T R a b c x y z ex ey ez ea eb ec =
+header-words form S Q T R a b c x y z ex ey ez ea eb ec =
     ap (λ (w : List ℕ). concatMap encodeWord (S ∷ Q ∷ T ∷ R ∷ headerWidth ∷ []) ++ w)
     (cc (ex, ey, ez, word-cut a x ea, word-cut b y eb, word-cut c z ec))
 

@@ -1,4 +1,4 @@
--- Which number refuses stored bytes (document 01, section "Turned away, by place", place "set"); 0 for none. Assumes nothing.
+-- Which number refuses stored bytes (document 01, section "Turned away, by place", place "set"; document 02, Wish 2); 0 for none. Assumes nothing.
 use mathlib.Core.List.{List}
 use mathlib.Core.Bool.{Bool, _&&_, cond}
 use Prim.Native.Nat.{ℕ, _+_, _-_, _^_}
@@ -8,8 +8,8 @@ use Rattle.model.specs.Limits.{maxSymbols, maxChildren, maxStates, maxTags, max
 use Rattle.model.specs.Lists.{tab, allBelow}
 use Rattle.model.specs.Order.{lower?}
 use Rattle.model.specs.Refusal.{demand}
-use Rattle.automaton.specs.Form.{headerWidth, statesOffset, rulesOffset, totalLength}
-use Rattle.automaton.specs.Stored.{symbolCount, stateCount, tagCount, ruleCount, symbolsAt, statesAt, rulesAt, statedTotal, symbolByte, stateByte, ruleWord, placeWord}
+use Rattle.automaton.specs.Form.{headerWidth, tagBits, statesOffset, rulesOffset, totalLength}
+use Rattle.automaton.specs.Stored.{symbolCount, stateCount, tagCount, ruleCount, symbolsAt, statesAt, rulesAt, statedTotal, formOf, symbolByte, finalByte, tagsOf, ruleWord, placeWord}
 
 -- 2: each count in its range
 unfoldable pub countsOk : List ℕ → Bool
@@ -21,14 +21,15 @@ countsOk s =
     && leb (tagCount s) maxTags
     && leb (ruleCount s) maxRules
 
--- 3: each offset, the total and the length as the counts ask
+-- 3: each offset, the total and the length as the counts and the form ask, and no more tags than the form has bits for
 unfoldable pub offsetsOk : List ℕ → Bool
 offsetsOk s =
     eqb (symbolsAt s) headerWidth
     && eqb (statesAt s) (statesOffset (symbolCount s))
-    && eqb (rulesAt s) (rulesOffset (symbolCount s) (stateCount s))
-    && eqb (statedTotal s) (totalLength (symbolCount s) (stateCount s) (ruleCount s))
-    && eqb (length s) (totalLength (symbolCount s) (stateCount s) (ruleCount s))
+    && eqb (rulesAt s) (rulesOffset (formOf s) (symbolCount s) (stateCount s))
+    && eqb (statedTotal s) (totalLength (formOf s) (symbolCount s) (stateCount s) (ruleCount s))
+    && eqb (length s) (totalLength (formOf s) (symbolCount s) (stateCount s) (ruleCount s))
+    && leb (tagCount s) (tagBits (formOf s))
 
 -- 4: symbol i has few children
 unfoldable pub symbolOk : List ℕ → ℕ → Bool
@@ -36,7 +37,7 @@ symbolOk s i = leb (symbolByte s i) maxChildren
 
 -- 5: state q is final or not, and its tags are below the number of tags
 unfoldable pub stateOk : List ℕ → ℕ → Bool
-stateOk s q = leb (stateByte s q 0) 1 && ltb (stateByte s q 1) (2 ^ tagCount s)
+stateOk s q = leb (finalByte s q) 1 && ltb (tagsOf s q) (2 ^ tagCount s)
 
 -- 6: child place k of rule i holds a state where the symbol has that child, else 65535
 unfoldable pub placeOk : List ℕ → ℕ → ℕ → Bool

@@ -1,23 +1,36 @@
--- The stored form's widths and places, each stated once (document 01, section "Sets"). Assumes nothing.
+-- The two stored forms: their widths and places, each stated once (document 01, section "Sets"; document 02, Wish 2). Assumes nothing.
 use Prim.Native.Nat.{ℕ, _+_, _*_}
+use Rattle.automaton.specs.declared.Form.{Form}
+use Rattle.automaton.specs.declared.Form.the-variants.{Narrow, Wide}
 
--- the bytes of the header, of a state and of a rule
+-- the bytes of the header, in either form
 abbrev pub headerWidth : ℕ
 headerWidth = 16
 
-abbrev pub stateWidth : ℕ
-stateWidth = 2
+-- the bytes of a state's tags
+unfoldable pub tagsWidth : Form → ℕ
+tagsWidth Narrow = 1
+tagsWidth Wide = 2
 
-abbrev pub ruleWidth : ℕ
-ruleWidth = 12
+-- a state: whether it is final, then its tags
+unfoldable pub stateWidth : Form → ℕ
+stateWidth form = 1 + tagsWidth form
+
+-- a rule, the same in both
+abbrev pub ruleWidth : Form → ℕ
+ruleWidth form = 12
+
+-- how many tags there are bits for
+abbrev pub tagBits : Form → ℕ
+tagBits form = 8 * tagsWidth form
 
 -- where the states and the rules of S symbols and Q states begin
 abbrev pub statesOffset : ℕ → ℕ
 statesOffset S = headerWidth + S
 
-abbrev pub rulesOffset : ℕ → ℕ → ℕ
-rulesOffset S Q = statesOffset S + stateWidth * Q
+abbrev pub rulesOffset : Form → ℕ → ℕ → ℕ
+rulesOffset form S Q = statesOffset S + stateWidth form * Q
 
 -- the bytes of S symbols, Q states and R rules in all
-abbrev pub totalLength : ℕ → ℕ → ℕ → ℕ
-totalLength S Q R = rulesOffset S Q + ruleWidth * R
+abbrev pub totalLength : Form → ℕ → ℕ → ℕ → ℕ
+totalLength form S Q R = rulesOffset form S Q + ruleWidth form * R

@@ -2,6 +2,7 @@ pub mod Form
 pub mod Stored
 pub mod Number
 pub mod Encode
+pub mod Laid
 pub mod Check
 pub mod Window
 pub mod Answer

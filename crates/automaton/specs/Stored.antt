@@ -1,4 +1,4 @@
--- What stored bytes stand for (document 01, section "Sets"): a byte past the end counts as 0. Assumes nothing.
+-- What stored bytes stand for, in whichever form they are (document 01, section "Sets"; document 02, Wish 2): a byte past the end counts as 0. Assumes nothing.
 use mathlib.Core.List.{List}
 use Prim.Native.Nat.{ℕ, _+_, _*_}
 use mathlib.Core.Bool.{cond}
@@ -8,6 +8,8 @@ use Rattle.model.specs.Limits.{unused}
 use Rattle.model.specs.Lists.{tab}
 use Rattle.model.specs.Automaton.{Rule, State, Automaton}
 use Rattle.automaton.specs.Form.{stateWidth, ruleWidth}
+use Rattle.automaton.specs.declared.Form.{Form}
+use Rattle.automaton.specs.declared.Form.the-variants.{Narrow, Wide}
 
 -- the 16-bit number at byte k, low byte first
 unfoldable pub word : List ℕ → ℕ → ℕ
@@ -38,15 +40,34 @@ rulesAt s = word s 12
 abbrev pub statedTotal : List ℕ → ℕ
 statedTotal s = word s 14
 
--- the byte of symbol i, byte b of state q, the 16-bit number k of rule i
+-- Which form the bytes are in: the distance from the states to the rules tells.
+unfoldable pub formOf : List ℕ → Form
+formOf s = cond (eqb (rulesAt s) (statesAt s + stateWidth Wide * stateCount s)) Wide Narrow
+
+-- the byte of symbol i
 unfoldable pub symbolByte : List ℕ → ℕ → ℕ
 symbolByte s i = getD s (symbolsAt s + i) 0
 
-unfoldable pub stateByte : List ℕ → ℕ → ℕ → ℕ
-stateByte s q b = getD s (statesAt s + stateWidth * q + b) 0
+-- where state q stands
+abbrev pub statePlace : List ℕ → ℕ → ℕ
+statePlace s q = statesAt s + stateWidth (formOf s) * q
 
+-- its first byte, which tells whether it is final
+unfoldable pub finalByte : List ℕ → ℕ → ℕ
+finalByte s q = getD s (statePlace s q) 0
+
+-- the tags at byte k, as a form has them
+unfoldable pub tagsAt : Form → List ℕ → ℕ → ℕ
+tagsAt Narrow s k = getD s k 0
+tagsAt Wide s k = word s k
+
+-- the tags of state q
+unfoldable pub tagsOf : List ℕ → ℕ → ℕ
+tagsOf s q = tagsAt (formOf s) s (statePlace s q + 1)
+
+-- the 16-bit number k of rule i
 unfoldable pub ruleWord : List ℕ → ℕ → ℕ → ℕ
-ruleWord s i k = word s (rulesAt s + ruleWidth * i + 2 * k)
+ruleWord s i k = word s (rulesAt s + ruleWidth (formOf s) * i + 2 * k)
 
 -- what stands in child place k of rule i
 abbrev pub placeWord : List ℕ → ℕ → ℕ → ℕ
@@ -60,9 +81,9 @@ placeOf s i n k = cond (ltb k n) (placeWord s i k) unused
 abbrev pub aritiesOf : List ℕ → List ℕ
 aritiesOf s = tab (symbolCount s) (symbolByte s)
 
--- state q: final is byte 1, the tags its second byte
+-- state q: final is byte 1
 abbrev pub stateOf : List ℕ → ℕ → State
-stateOf s q = record { final = eqb (stateByte s q 0) 1; mask = stateByte s q 1 }
+stateOf s q = record { final = eqb (finalByte s q) 1; mask = tagsOf s q }
 
 -- rule i: a child for each that its symbol has
 abbrev pub ruleOf : List ℕ → ℕ → Rule
@@ -72,7 +93,7 @@ ruleOf s i = record {
   target = ruleWord s i 1;
 }
 
--- The automaton that bytes stand for, sound or not.
+-- The automaton that bytes stand for, in either form, sound or not.
 unfoldable pub decode : List ℕ → Automaton
 decode s = record {
   arities = aritiesOf s;

@@ -1,4 +1,4 @@
-// The stored form of an automaton: its check, what it says by index, and its writing (`write`).
+// The stored forms of an automaton: their check, what they say by index, and their writing (`write`).
 ghost use mathlib.Core.Path.{_≡_};
 ghost use mathlib.Core.List.{map};
 ghost use lib.ListN.{length};
@@ -8,11 +8,13 @@ ghost use Rattle.model.specs.Lists.{tab};
 ghost use Rattle.model.specs.Order.{place};
 ghost use Rattle.model.specs.Refusal.{unless};
 ghost use Rattle.model.specs.Written.{ruleAt};
-ghost use Rattle.automaton.specs.Stored.{rulesAt, placeOf, decode};
+ghost use Rattle.automaton.specs.Stored.{rulesAt, formOf, placeOf, decode};
 ghost use Rattle.automaton.specs.Check.{checkOf};
 ghost use Rattle.automaton.specs.Window.{rulesFrom};
 ghost use Rattle.automaton.specs.Answer.{checkAnswer, Counts, IsRule};
 
+pub mod copy;
+pub mod layout;
 mod raw;
 pub mod reader;
 mod slice;
@@ -21,21 +23,23 @@ pub mod write;
 
 use base::limits::MAX_CHILDREN;
 use base::limits::UNUSED;
+use layout::HEADER_WIDTH;
+use raw::final_byte;
+use raw::form_at;
 use raw::header_word;
 use raw::place_word;
 use raw::rule_word;
 use raw::rules_at;
-use raw::state_byte;
 use raw::states_at;
 use raw::symbol_byte;
 use raw::symbols_at;
+use raw::tags_word;
 
-// The widths of the form.
-const HEADER_WIDTH: usize = 16;
-
-const STATE_WIDTH: usize = 2;
-
-const RULE_WIDTH: usize = 12;
+// A stored form: one byte for a state's tags, or two.
+pub enum Form {
+    Narrow,
+    Wide,
+}
 
 // A state's number.
 pub struct State(pub u16);
@@ -59,6 +63,12 @@ pub struct StoredRule {
 // The check's answer: passed, or refused with a number of document 01.
 pub enum Checked {
     Passed,
+    Refused(u16),
+}
+
+// The answer of what writes a set: how many bytes were written, or a refusal's number.
+pub enum Written {
+    Length(usize),
     Refused(u16),
 }
 
@@ -87,6 +97,13 @@ pub fn check(set: &[u8]) -> Checked
         return Checked::Refused(7);
     }
     Checked::Passed
+}
+
+// The form that the bytes are in.
+pub fn form_of(set: &[u8]) -> Form
+    ensures { λ r. ⌜ r ≡ formOf (now (set .entry)) ⌝ }
+{
+    form_at(set)
 }
 
 pub fn header(set: &[u8]) -> StoredHeader
@@ -122,7 +139,7 @@ pub fn is_final(set: &[u8], q: State) -> bool
     ensures { λ r. ⌜ r ≡ final? (decode (now (set .entry))) (q .0) ⌝ }
 {
     if q.0 < header_word(set, 2) {
-        state_byte(set, states_at(set), q, 0) == 1
+        final_byte(set, form_at(set), states_at(set), q) == 1
     } else {
         false
     }
@@ -133,7 +150,7 @@ pub fn tags_of(set: &[u8], q: State) -> u16
     ensures { λ r. ⌜ r ≡ stateAt (decode (now (set .entry))) (q .0) .mask ⌝ }
 {
     if q.0 < header_word(set, 2) {
-        state_byte(set, states_at(set), q, 1)
+        tags_word(set, form_at(set), states_at(set), q)
     } else {
         0
     }
@@ -143,7 +160,7 @@ pub fn rule_symbol(set: &[u8], i: u16) -> u16
     ensures { λ r. ⌜ r ≡ ruleAt (decode (now (set .entry))) i .symbol ⌝ }
 {
     if i < rules(set) {
-        rule_word(set, rules_at(set), i, 0)
+        rule_word(set, form_at(set), rules_at(set), i, 0)
     } else {
         0
     }
@@ -153,19 +170,19 @@ pub fn rule_target(set: &[u8], i: u16) -> State
     ensures { λ r. ⌜ r .0 ≡ ruleAt (decode (now (set .entry))) i .target ⌝ }
 {
     if i < rules(set) {
-        State(rule_word(set, rules_at(set), i, 1))
+        State(rule_word(set, form_at(set), rules_at(set), i, 1))
     } else {
         State(0)
     }
 }
 
 // The state in child place k of rule i, whose symbol has n children, where the rules start at byte `first`; UNUSED where there is no such child.
-fn place_of(set: &[u8], first: u16, i: u16, n: u16, k: u16) -> State
-    requires { ⌜ first ≡ rulesAt (now set) ⌝ }
+fn place_of(set: &[u8], form: Form, first: u16, i: u16, n: u16, k: u16) -> State
+    requires { ⌜ (form ≡ formOf (now set)) × (first ≡ rulesAt (now set)) ⌝ }
     ensures { λ r. ⌜ r .0 ≡ placeOf (now (set .entry)) i n k ⌝ }
 {
     if k < n {
-        State(place_word(set, first, i, k))
+        State(place_word(set, form, first, i, k))
     } else {
         State(UNUSED)
     }
@@ -176,24 +193,25 @@ pub fn rule_child(set: &[u8], i: u16, k: u16) -> State
     ensures { λ r. ⌜ r .0 ≡ place (ruleAt (decode (now (set .entry))) i) k ⌝ }
 {
     if i < rules(set) {
+        let form = form_at(set);
         let first = rules_at(set);
-        let n = arity(set, rule_word(set, first, i, 0));
-        place_of(set, first, i, n, k)
+        let n = arity(set, rule_word(set, form, first, i, 0));
+        place_of(set, form, first, i, n, k)
     } else {
         State(UNUSED)
     }
 }
 
 // The child places of rule i, whose symbol has n children, where the rules start at byte `first`.
-fn places_of(set: &[u8], first: u16, i: u16, n: u16) -> [State; 4]
-    requires { ⌜ first ≡ rulesAt (now set) ⌝ }
+fn places_of(set: &[u8], form: Form, first: u16, i: u16, n: u16) -> [State; 4]
+    requires { ⌜ (form ≡ formOf (now set)) × (first ≡ rulesAt (now set)) ⌝ }
     ensures { λ r. ⌜ map (λ q. q .0) r ≡ tab maxChildren (placeOf (now (set .entry)) i n) ⌝ }
 {
     let mut places = [State(UNUSED); 4];
     let mut k = 0;
     while k < MAX_CHILDREN {
         let at = k as usize;
-        places[at] = place_of(set, first, i, n, k);
+        places[at] = place_of(set, form, first, i, n, k);
         k += 1;
     }
     places
@@ -203,12 +221,13 @@ pub fn rule(set: &[u8], i: u16) -> StoredRule
     ensures { λ r. ⌜ IsRule r (ruleAt (decode (now (set .entry))) i) ⌝ }
 {
     if i < rules(set) {
+        let form = form_at(set);
         let first = rules_at(set);
-        let symbol = rule_word(set, first, i, 0);
-        let places = places_of(set, first, i, arity(set, symbol));
+        let symbol = rule_word(set, form, first, i, 0);
+        let places = places_of(set, form, first, i, arity(set, symbol));
         StoredRule {
             symbol: symbol,
-            target: State(rule_word(set, first, i, 1)),
+            target: State(rule_word(set, form, first, i, 1)),
             places: places,
         }
     } else {
@@ -224,12 +243,13 @@ pub fn rule(set: &[u8], i: u16) -> StoredRule
 pub fn rules_from(set: &[u8], symbol: u16) -> u16
     ensures { λ r. ⌜ r ≡ rulesFrom (decode (now (set .entry))) symbol ⌝ }
 {
+    let form = form_at(set);
     let first = rules_at(set);
     let mut low = 0;
     let mut high = rules(set);
     while low < high {
         let middle = low + (high - low) / 2;
-        if rule_word(set, first, middle, 0) < symbol {
+        if rule_word(set, form, first, middle, 0) < symbol {
             low = middle + 1;
         } else {
             high = middle;

@@ -1,13 +1,14 @@
-// What stands in the stored form, by index, read through a reader of the set. Whoever reads several symbols, states or rules reads the header's
-// offset of them once, and hands it over.
+// What stands in the stored forms, by index, read through a reader of the set. Whoever reads several symbols, states or rules reads the form and the
+// header's offset of them once, and hands them over.
 ghost use mathlib.Core.Path.{_≡_};
-ghost use Prim.Native.Nat.{_+_, _*_, _<_};
+ghost use Prim.Native.Nat.{_<_};
 ghost use lib.ListN.{getD};
-ghost use Rattle.automaton.specs.Form.{ruleWidth};
-ghost use Rattle.automaton.specs.Stored.{word, symbolsAt, statesAt, rulesAt, symbolByte, stateByte, ruleWord, placeWord};
-use super::RULE_WIDTH;
-use super::STATE_WIDTH;
+ghost use Rattle.automaton.specs.Stored.{word, symbolsAt, statesAt, rulesAt, formOf, symbolByte, finalByte, tagsAt, tagsOf, ruleWord, placeWord};
+use super::Form;
 use super::State;
+use super::layout::rule_place;
+use super::layout::state_place;
+use super::layout::states_length;
 use super::reader::number_at;
 use base::numbers::size;
 
@@ -40,6 +41,18 @@ pub(crate) fn rules_at(s: &[u8]) -> u16
     header_word(s, 12)
 }
 
+// The form that the header tells: in the wide one the rules stand as far behind the states as wide states are long.
+pub(crate) fn form_at(s: &[u8]) -> Form
+    ensures { λ r. ⌜ r ≡ formOf (now (s .entry)) ⌝ }
+{
+    let end = size(states_at(s)) + states_length(Form::Wide, header_word(s, 2));
+    if size(rules_at(s)) == end {
+        Form::Wide
+    } else {
+        Form::Narrow
+    }
+}
+
 // The byte at `at`: the low half of the number there.
 fn byte_at(s: &[u8], at: usize) -> u16
     ensures { λ r. ⌜ (r ≡ getD (now (s .entry)) at 0) × (r < 256) ⌝ }
@@ -55,33 +68,44 @@ pub(crate) fn symbol_byte(s: &[u8], first: u16, i: u16) -> u16
     byte_at(s, size(first) + size(i))
 }
 
-// Byte b of state q, where the states start at byte `first`.
-pub(crate) fn state_byte(s: &[u8], first: u16, q: State, b: u16) -> u16
-    requires { ⌜ first ≡ statesAt (now s) ⌝ }
-    ensures { λ r. ⌜ (r ≡ stateByte (now (s .entry)) (q .0) b) × (r < 256) ⌝ }
+// The first byte of state q, where the states start at byte `first`.
+pub(crate) fn final_byte(s: &[u8], form: Form, first: u16, q: State) -> u16
+    requires { ⌜ (form ≡ formOf (now s)) × (first ≡ statesAt (now s)) ⌝ }
+    ensures { λ r. ⌜ r ≡ finalByte (now (s .entry)) (q .0) ⌝ }
 {
-    byte_at(s, size(first) + STATE_WIDTH * size(q.0) + size(b))
+    byte_at(s, state_place(form, first, q))
 }
 
-// The byte at which rule i starts, where the rules start at byte `first`.
-fn rule_place(first: u16, i: u16) -> usize
-    ensures { λ r. ⌜ (r ≡ first + ruleWidth * i) × (r < 851956) ⌝ }
+// The tags at byte `at`: a byte in the narrow form, a number in the wide one.
+fn tags_at(s: &[u8], form: Form, at: usize) -> u16
+    ensures { λ r. ⌜ r ≡ tagsAt form (now (s .entry)) at ⌝ }
 {
-    size(first) + RULE_WIDTH * size(i)
+    match form {
+        Form::Narrow => byte_at(s, at),
+        Form::Wide => header_word(s, at),
+    }
+}
+
+// The tags of state q, where the states start at byte `first`.
+pub(crate) fn tags_word(s: &[u8], form: Form, first: u16, q: State) -> u16
+    requires { ⌜ (form ≡ formOf (now s)) × (first ≡ statesAt (now s)) ⌝ }
+    ensures { λ r. ⌜ r ≡ tagsOf (now (s .entry)) (q .0) ⌝ }
+{
+    tags_at(s, form, state_place(form, first, q) + 1)
 }
 
 // Number k of rule i, where the rules start at byte `first`.
-pub(crate) fn rule_word(s: &[u8], first: u16, i: u16, k: u16) -> u16
-    requires { ⌜ first ≡ rulesAt (now s) ⌝ }
+pub(crate) fn rule_word(s: &[u8], form: Form, first: u16, i: u16, k: u16) -> u16
+    requires { ⌜ (form ≡ formOf (now s)) × (first ≡ rulesAt (now s)) ⌝ }
     ensures { λ r. ⌜ r ≡ ruleWord (now (s .entry)) i k ⌝ }
 {
-    number_at(s, rule_place(first, i), k)
+    number_at(s, rule_place(form, first, i), k)
 }
 
 // What stands in child place k of rule i, where the rules start at byte `first`.
-pub(crate) fn place_word(s: &[u8], first: u16, i: u16, k: u16) -> u16
-    requires { ⌜ first ≡ rulesAt (now s) ⌝ }
+pub(crate) fn place_word(s: &[u8], form: Form, first: u16, i: u16, k: u16) -> u16
+    requires { ⌜ (form ≡ formOf (now s)) × (first ≡ rulesAt (now s)) ⌝ }
     ensures { λ r. ⌜ r ≡ placeWord (now (s .entry)) i k ⌝ }
 {
-    number_at(s, rule_place(first, i) + PLACES_AT, k)
+    number_at(s, rule_place(form, first, i) + PLACES_AT, k)
 }

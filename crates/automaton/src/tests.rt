@@ -1,25 +1,29 @@
 // The check's tests 2 to 7, each over the whole input.
 ghost use mathlib.Core.Path.{_≡_};
-ghost use Prim.Native.Nat.{_+_, _-_, _^_, _<_};
+ghost use Prim.Native.Nat.{_+_, _-_, _^_, _≤_, _<_};
 ghost use lib.Dec.{eqb};
-ghost use Rattle.model.specs.Limits.{maxChildren};
+ghost use Rattle.model.specs.Limits.{maxChildren, maxTags};
 ghost use Rattle.model.specs.Lists.{allBelow};
-ghost use Rattle.automaton.specs.Stored.{word, symbolCount, stateCount, tagCount, ruleCount, symbolsAt, statesAt, rulesAt, symbolByte, ruleWord};
+ghost use Rattle.automaton.specs.Stored.{word, symbolCount, stateCount, tagCount, ruleCount, symbolsAt, statesAt, rulesAt, formOf, symbolByte, ruleWord};
 ghost use Rattle.automaton.specs.Check.{countsOk, offsetsOk, symbolOk, stateOk, placeOk, ruleOk, keyWord, ascendsAt};
 ghost use Rattle.automaton.specs.Frame.{Framed};
-use super::HEADER_WIDTH;
+use super::Form;
 use super::State;
+use super::layout::HEADER_WIDTH;
+use super::layout::rules_offset;
+use super::layout::states_offset;
+use super::layout::tag_bits;
+use super::layout::total_length;
+use super::raw::final_byte;
+use super::raw::form_at;
 use super::raw::header_word;
 use super::raw::place_word;
 use super::raw::rule_word;
 use super::raw::rules_at;
-use super::raw::state_byte;
 use super::raw::states_at;
 use super::raw::symbol_byte;
 use super::raw::symbols_at;
-use super::write::rules_offset;
-use super::write::states_offset;
-use super::write::total_length;
+use super::raw::tags_word;
 use base::limits::MAX_CHILDREN;
 use base::limits::MAX_RULES;
 use base::limits::MAX_STATES;
@@ -53,12 +57,14 @@ pub(crate) fn offsets(set: &[u8]) -> bool
 {
     let s = header_word(set, 0);
     let q = header_word(set, 2);
-    let end = total_length(s, q, header_word(set, 6));
+    let form = form_at(set);
+    let end = total_length(form, s, q, header_word(set, 6));
     holds(set, 8, HEADER_WIDTH)
         & holds(set, 10, states_offset(s))
-        & holds(set, 12, rules_offset(s, q))
+        & holds(set, 12, rules_offset(form, s, q))
         & holds(set, 14, end)
         & (set.len() == end)
+        & (header_word(set, 4) <= tag_bits(form))
 }
 
 // Symbol i, where the symbols start at byte `first`.
@@ -85,31 +91,33 @@ pub(crate) fn symbols(set: &[u8]) -> bool
     true
 }
 
-fn power(t: u16) -> u16
-    requires { ⌜ t < 16 ⌝ }
+// The masks of t tags are below this.
+fn power(t: u16) -> usize
+    requires { ⌜ t ≤ maxTags ⌝ }
     ensures { λ r. ⌜ r ≡ 2 ^ t ⌝ }
 {
     1 << t
 }
 
 // State q, where the states start at byte `first` and a mask is below `bound`.
-fn state(set: &[u8], first: u16, q: State, bound: u16) -> bool
-    requires { ⌜ (first ≡ statesAt (now set)) × (bound ≡ 2 ^ tagCount (now set)) ⌝ }
+fn state(set: &[u8], form: Form, first: u16, q: State, bound: usize) -> bool
+    requires { ⌜ (form ≡ formOf (now set)) × (first ≡ statesAt (now set)) × (bound ≡ 2 ^ tagCount (now set)) ⌝ }
     ensures { λ r. ⌜ r ≡ stateOk (now (set .entry)) (q .0) ⌝ }
 {
-    (state_byte(set, first, q, 0) <= 1) & (state_byte(set, first, q, 1) < bound)
+    (final_byte(set, form, first, q) <= 1) & (size(tags_word(set, form, first, q)) < bound)
 }
 
 pub(crate) fn states(set: &[u8]) -> bool
-    requires { ⌜ tagCount (now set) < 16 ⌝ }
+    requires { ⌜ tagCount (now set) ≤ maxTags ⌝ }
     ensures { λ r. ⌜ r ≡ allBelow (stateCount (now (set .entry))) (stateOk (now (set .entry))) ⌝ }
 {
     let n = header_word(set, 2);
+    let form = form_at(set);
     let first = states_at(set);
     let bound = power(header_word(set, 4));
     let mut i = 0;
     while i < n {
-        if state(set, first, State(i), bound) {
+        if state(set, form, first, State(i), bound) {
             i += 1;
         } else {
             return false;
@@ -122,6 +130,7 @@ pub(crate) fn states(set: &[u8]) -> bool
 struct Frame {
     symbols: u16,
     states: u16,
+    form: Form,
     // Where the symbols and the rules start.
     arities: u16,
     rules: u16,
@@ -133,6 +142,7 @@ fn read_frame(set: &[u8]) -> Frame
     Frame {
         symbols: header_word(set, 0),
         states: header_word(set, 2),
+        form: form_at(set),
         arities: symbols_at(set),
         rules: rules_at(set),
     }
@@ -143,7 +153,8 @@ fn place(set: &[u8], f: Frame, i: u16, n: u16, k: u16) -> bool
     requires { ⌜ Framed f (now set) × (n ≡ symbolByte (now set) (ruleWord (now set) i 0)) ⌝ }
     ensures { λ r. ⌜ r ≡ placeOk (now (set .entry)) i k ⌝ }
 {
-    let x = place_word(set, f.rules, i, k);
+    let form = f.form;
+    let x = place_word(set, form, f.rules, i, k);
     if k < n { x < f.states } else { x == UNUSED }
 }
 
@@ -167,8 +178,9 @@ fn rule(set: &[u8], f: Frame, i: u16) -> bool
     requires { ⌜ Framed f (now set) ⌝ }
     ensures { λ r. ⌜ r ≡ ruleOk (now (set .entry)) i ⌝ }
 {
-    let symbol = rule_word(set, f.rules, i, 0);
-    let target = rule_word(set, f.rules, i, 1);
+    let form = f.form;
+    let symbol = rule_word(set, form, f.rules, i, 0);
+    let target = rule_word(set, form, f.rules, i, 1);
     let n = symbol_byte(set, f.arities, symbol);
     (symbol < f.symbols) & (target < f.states) & places(set, f, i, n)
 }
@@ -190,29 +202,29 @@ pub(crate) fn rules(set: &[u8]) -> bool
 }
 
 // Number k of what rules are sorted by, where the rules start at byte `first`.
-fn key(set: &[u8], first: u16, i: u16, k: u16) -> u16
-    requires { ⌜ first ≡ rulesAt (now set) ⌝ }
+fn key(set: &[u8], form: Form, first: u16, i: u16, k: u16) -> u16
+    requires { ⌜ (form ≡ formOf (now set)) × (first ≡ rulesAt (now set)) ⌝ }
     ensures { λ r. ⌜ r ≡ keyWord (now (set .entry)) i k ⌝ }
 {
     if k == 0 {
-        return rule_word(set, first, i, 0);
+        return rule_word(set, form, first, i, 0);
     }
     if k <= MAX_CHILDREN {
-        return place_word(set, first, i, k - 1);
+        return place_word(set, form, first, i, k - 1);
     }
-    rule_word(set, first, i, 1)
+    rule_word(set, form, first, i, 1)
 }
 
 // Whether rule i stands before the next, where the rules start at byte `first`.
-fn ascends(set: &[u8], first: u16, i: u16) -> bool
-    requires { ⌜ (first ≡ rulesAt (now set)) × (i < 65535) ⌝ }
+fn ascends(set: &[u8], form: Form, first: u16, i: u16) -> bool
+    requires { ⌜ (form ≡ formOf (now set)) × (first ≡ rulesAt (now set)) × (i < 65535) ⌝ }
     ensures { λ r. ⌜ r ≡ ascendsAt (now (set .entry)) i ⌝ }
 {
     let n = MAX_CHILDREN + 2;
     let mut k = 0;
     while k < n {
-        let x = key(set, first, i, k);
-        let y = key(set, first, i + 1, k);
+        let x = key(set, form, first, i, k);
+        let y = key(set, form, first, i + 1, k);
         if x < y {
             return true;
         }
@@ -236,10 +248,11 @@ pub(crate) fn ascending(set: &[u8]) -> bool
     ensures { λ r. ⌜ r ≡ allBelow (ruleCount (now (set .entry)) - 1) (ascendsAt (now (set .entry))) ⌝ }
 {
     let n = steps(set);
+    let form = form_at(set);
     let first = rules_at(set);
     let mut i = 0;
     while i < n {
-        if ascends(set, first, i) {
+        if ascends(set, form, first, i) {
             i += 1;
         } else {
             return false;

@@ -1,4 +1,4 @@
-// Writing the stored form from front to back: each function puts a part at a place and answers the place after it; where the part does not fit whole, nothing
+// Writing a stored form from front to back: each function puts a part at a place and answers the place after it; where the part does not fit whole, nothing
 // is written and the place itself is the answer.
 ghost use mathlib.Core.Path.{_≡_};
 ghost use mathlib.Core.Bool.{cond};
@@ -7,35 +7,18 @@ ghost use Prim.Native.Nat.{_+_, _*_, _/_, _%_, _≤_, _<_};
 ghost use lib.Dec.{leb};
 ghost use lib.ListN.{length, take, drop};
 ghost use Rattle.model.specs.Lists.{concatMap};
-ghost use Rattle.automaton.specs.Form.{statesOffset, rulesOffset, totalLength};
 ghost use Rattle.automaton.specs.Encode.{encodeWord, encodeHeader, encodeSymbol, encodeState, encodePlaces, Put};
-use super::HEADER_WIDTH;
-use super::RULE_WIDTH;
-use super::STATE_WIDTH;
+use super::Form;
 use super::StoredRule;
-use base::numbers::size;
-
-pub(crate) fn states_offset(symbols: u16) -> usize
-    ensures { λ r. ⌜ (r ≡ statesOffset symbols) × (r < 65552) ⌝ }
-{
-    HEADER_WIDTH + size(symbols)
-}
-
-pub(crate) fn rules_offset(symbols: u16, states: u16) -> usize
-    ensures { λ r. ⌜ (r ≡ rulesOffset symbols states) × (r < 196624) ⌝ }
-{
-    states_offset(symbols) + STATE_WIDTH * size(states)
-}
-
-// The bytes of a whole stored automaton.
-pub fn total_length(symbols: u16, states: u16, rules: u16) -> usize
-    ensures { λ r. ⌜ r ≡ totalLength symbols states rules ⌝ }
-{
-    rules_offset(symbols, states) + RULE_WIDTH * size(rules)
-}
+use super::layout::HEADER_WIDTH;
+use super::layout::rules_offset;
+use super::layout::state_width;
+use super::layout::states_offset;
+use super::layout::total_length;
+use base::space::put;
 
 // Whether n bytes fit at a place of a space of so many bytes.
-fn fits(space: usize, at: usize, n: usize) -> bool
+pub(crate) fn fits(space: usize, at: usize, n: usize) -> bool
     ensures { λ r. ⌜ r ≡ leb (at + n) space ⌝ }
 {
     if n <= space { at <= space - n } else { false }
@@ -92,12 +75,19 @@ fn put_words(out: &mut [u8], at: usize, words: &[u16]) -> usize
     at
 }
 
-pub fn put_header(out: &mut [u8], symbols: u16, states: u16, tags: u16, rules: u16) -> usize
-    ensures { λ r. ⌜ Put (now (out .entry)) 0 (encodeHeader symbols states tags rules) (now (out .exit)) r ⌝ }
+pub fn put_header(
+    out: &mut [u8],
+    form: Form,
+    symbols: u16,
+    states: u16,
+    tags: u16,
+    rules: u16,
+) -> usize
+    ensures { λ r. ⌜ Put (now (out .entry)) 0 (encodeHeader form symbols states tags rules) (now (out .exit)) r ⌝ }
 {
     let states_at = cut(states_offset(symbols));
-    let rules_at = cut(rules_offset(symbols, states));
-    let total = cut(total_length(symbols, states, rules));
+    let rules_at = cut(rules_offset(form, symbols, states));
+    let total = cut(total_length(form, symbols, states, rules));
     let words = [
         symbols,
         states,
@@ -121,13 +111,14 @@ pub fn put_symbol(out: &mut [u8], at: usize, arity: u16) -> usize
     at
 }
 
-pub fn put_state(out: &mut [u8], at: usize, accepting: bool, mask: u16) -> usize
-    ensures { λ r. ⌜ Put (now (out .entry)) at (encodeState accepting mask) (now (out .exit)) r ⌝ }
+pub fn put_state(out: &mut [u8], at: usize, form: Form, accepting: bool, mask: u16) -> usize
+    ensures { λ r. ⌜ Put (now (out .entry)) at (encodeState form accepting mask) (now (out .exit)) r ⌝ }
 {
-    if fits(out.len(), at, STATE_WIDTH) {
-        out[at] = flag(accepting);
-        out[at + 1] = low(mask);
-        return at + STATE_WIDTH;
+    let n = state_width(form);
+    if fits(out.len(), at, n) {
+        let bytes = [flag(accepting), low(mask), high(mask)];
+        put(out, at, &bytes[..n]);
+        return at + n;
     }
     at
 }

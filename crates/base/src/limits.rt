@@ -1,4 +1,4 @@
-// The limits of document 01, sections "Sets", "Documents" and "Runs", each stated once in code.
+// The limits of document 01, sections "Sets", "Documents" and "Runs", and of document 02, Wish 2, for tags, each stated once in code.
 ghost use Rattle.base.specs.Limits.{AsInModel};
 
 pub const MAX_SYMBOLS: u16 = 64;
@@ -7,7 +7,7 @@ pub const MAX_CHILDREN: u16 = 4;
 
 pub const MAX_STATES: u16 = 256;
 
-pub const MAX_TAGS: u16 = 8;
+pub const MAX_TAGS: u16 = 16;
 
 pub const MAX_RULES: u16 = 1024;
 

@@ -14,10 +14,10 @@ use Rattle.model.proofs.SoundProduct.{product-rules}
 use Rattle.automaton.specs.Stored.{decode}
 use Rattle.automaton.proofs.Sound.{sound-decode}
 use Rattle.boolean.specs.Key.{packed}
-use Rattle.boolean.specs.Laid.{Laid}
+use Rattle.automaton.specs.Laid.{Laid}
 use Rattle.boolean.specs.Merge.{ordered, merged, mergedAt}
 use Rattle.boolean.specs.Ready.{Ready, Keyed}
-use Rattle.boolean.proofs.Laying.{laid-front, laid-length}
+use Rattle.automaton.proofs.Laying.{laid-front, laid-length}
 use Rattle.boolean.proofs.Refusing.{ready-union, ready-product}
 use Rattle.boolean.proofs.Results.{union-keys, product-keys}
 

@@ -1,52 +1,39 @@
 -- What union and product write is a sound set, and it accepts what either set does, or what both do. Assumes nothing.
-use mathlib.Core.Path.{_≡_, refl, sym, _∙_, subst}
+use mathlib.Core.Path.{_≡_, sym, subst}
 use mathlib.Core.Logic.{_⊎_, _↔_}
 use mathlib.Core.List.{List}
-use Prim.Native.Nat.{ℕ, zero, suc}
-use native.Mathlib.Omega.{arith}
-use lib.ListN.{length, take, drop}
-use lib.Seq.{take-at}
+use Prim.Native.Nat.{ℕ}
+use lib.ListN.{length, take}
 use Rattle.model.specs.Tree.{Tree}
 use Rattle.model.specs.Automaton.{Automaton}
 use Rattle.model.specs.Run.{Accepts}
-use Rattle.model.specs.Refusal.{gives, unless}
+use Rattle.model.specs.Refusal.{gives}
 use Rattle.model.specs.Sound.{Sound}
 use Rattle.model.specs.Boolean.{union, product}
 use Rattle.model.proofs.SoundUnion.{union-accepts}
 use Rattle.model.proofs.SoundProduct.{product-accepts}
 use Rattle.automaton.specs.Stored.{decode}
-use Rattle.automaton.specs.Check.{checkOf}
-use Rattle.automaton.specs.Encode.{encode, encodedLength}
+use Rattle.automaton.specs.Answer.{Stores}
 use Rattle.automaton.proofs.Sound.{sound-decode}
-use Rattle.automaton.proofs.Encoded.{encode-length}
-use Rattle.automaton.proofs.RoundTrip.{decode-encode, encode-sound}
-use Rattle.boolean.specs.Combine.{combineCheckOf}
-use Rattle.boolean.specs.Answer.{spaceOf, combinedOf, combinedSpace}
+use Rattle.automaton.proofs.Encoded.{wide-bits}
+use Rattle.automaton.proofs.Answering.{given-length, given-stores}
+use Rattle.boolean.specs.Combine.{resultForm, combineCheckOf}
+use Rattle.boolean.specs.Answer.{combinedOf, combinedSpace}
 use Rattle.boolean.specs.Ready.{Ready}
 use Rattle.boolean.proofs.Refusing.{ready, ready-union, ready-product}
-
--- bytes that are a sound set, and the set that they are
-pub record Stores (bytes : List ℕ) (R : Automaton) : Type 0 where
-  pub sound : checkOf bytes ≡ 0
-  pub decoded : decode bytes ≡ R
-
--- where a length is given: no number, and the result at the front
-lengthed : (R : Automaton) (space : List ℕ) (n k : ℕ) → unless k (encodedLength R) ≡ gives n → (k ≡ 0) × (take n (spaceOf k R space) ≡ encode R)
-unfolding unless
-lengthed R space n zero e =
-    let l : encodedLength R ≡ n = cc in
-    (refl, take-at (encode R) (drop (encodedLength R) space) n (encode-length R ∙ l))
-lengthed R space n (suc k) e = let z : _≡_ {A = ℕ} 0 1 = cc in absurd (omega arith)
 
 module _ (result : Automaton → Automaton → Automaton) (first second space : List ℕ) (n : ℕ) (e : combinedOf result first second space ≡ gives n) where
   abbrev R : Automaton
   R = result (decode first) (decode second)
 
+  abbrev number : ℕ
+  number = combineCheckOf result first second (length space)
+
   its-ready : Ready first second R
-  its-ready = ready result first second (length space) (lengthed R space n (combineCheckOf result first second (length space)) e .0) .0
+  its-ready = ready result first second (length space) (given-length resultForm R space number n e .0) .0
 
   its-bytes : Sound R → Stores (take n (combinedSpace result first second space)) R
-  its-bytes s = subst (λ (z : List ℕ). Stores z R) (sym (lengthed R space n (combineCheckOf result first second (length space)) e .1)) (record { sound = encode-sound R s; decoded = decode-encode R s })
+  its-bytes s = given-stores resultForm R space number n e s (wide-bits R s)
 
 -- Where the answer is a length, so many bytes at the front of the space are a sound set: the union ..
 module _ (first second space : List ℕ) (n : ℕ) (e : combinedOf union first second space ≡ gives n) where

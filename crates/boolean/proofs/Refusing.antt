@@ -1,16 +1,16 @@
 -- The numbers of union and product: which place decides, what is known where none does, and the answer with its number. Assumes nothing.
 use mathlib.Core.Path.{_≡_, refl, sym, ap, _∙_}
-use mathlib.Core.List.{List, _++_}
+use mathlib.Core.List.{List}
 use mathlib.Core.Bool.{Bool, true, false, _&&_}
 use Prim.Native.Nat.{ℕ, zero, suc, _≤_}
 use native.Mathlib.Omega.{arith}
 use borrow.Author.Tests.{leb-true, eqb-true, eq-eqb, ne-eqb}
 use lib.Dec.{leb, eqb}
-use lib.ListN.{length, drop}
+use lib.ListN.{length}
 use lib.Seq.{ext-getD}
 use Rattle.model.specs.Limits.{maxStates, maxTags, maxRules}
 use Rattle.model.specs.Lists.{allBelow}
-use Rattle.model.specs.Refusal.{gives, refuses, unless, demand, andAfter}
+use Rattle.model.specs.Refusal.{demand, andAfter}
 use Rattle.model.specs.Automaton.{Automaton, arityOf}
 use Rattle.model.specs.Sound.{Sound}
 use Rattle.model.specs.Boolean.{union, product}
@@ -24,13 +24,12 @@ use Rattle.automaton.specs.Encode.{encode, encodedLength}
 use Rattle.automaton.proofs.Passes.{split}
 use Rattle.automaton.proofs.Sound.{sound-decode}
 use Rattle.automaton.proofs.Encoded.{encode-length}
-use Rattle.boolean.specs.Combine.{sameSymbols, withinLimits, resultCheckOf, combineCheckOf}
-use Rattle.boolean.specs.Answer.{combinedAnswer, spaceOf}
-use Rattle.boolean.specs.Laid.{Laid}
+use Rattle.boolean.specs.Combine.{resultForm, sameSymbols, withinLimits, resultCheckOf, combineCheckOf}
+use Rattle.automaton.specs.Laid.{Laid}
 use Rattle.boolean.specs.Ready.{Ready, Sized}
 use Rattle.boolean.specs.declared.Size.{Size}
-use Rattle.boolean.specs.declared.Combined.{Combined}
-use Rattle.boolean.specs.declared.Combined.the-variants.{Length, Refused}
+use Rattle.automaton.specs.declared.Written.the-variants.{Length, Refused}
+use Rattle.automaton.proofs.Answering.{Answered, refused-answer, written-answer}
 
 -- 51: symbols that differ in number, and the test of their children where they do not
 module _ (A B : Automaton) where
@@ -90,23 +89,23 @@ module _ (m n : ℕ) (t : Bool) (rest : ℕ) where
       go zero zero false h = absurd (omega arith)
       go zero zero true h = (refl, refl, refl, refl)
 
-result-pass : (R : Automaton) (space : ℕ) → resultCheckOf R space ≡ 0 → Within (length (R .states)) (R .tags) (length (R .rules)) × (encodedLength R ≤ space)
+result-pass : (R : Automaton) (space : ℕ) → resultCheckOf R space ≡ 0 → Within (length (R .states)) (R .tags) (length (R .rules)) × (encodedLength resultForm R ≤ space)
 unfolding resultCheckOf demand
-result-pass R space h = go (withinLimits (length (R .states)) (R .tags) (length (R .rules))) (leb (encodedLength R) space) refl refl h
+result-pass R space h = go (withinLimits (length (R .states)) (R .tags) (length (R .rules))) (leb (encodedLength resultForm R) space) refl refl h
   where
-    go : (a b : Bool) → withinLimits (length (R .states)) (R .tags) (length (R .rules)) ≡ a → leb (encodedLength R) space ≡ b → demand a 52 (demand b 53 0) ≡ 0 → Within (length (R .states)) (R .tags) (length (R .rules)) × (encodedLength R ≤ space)
-    go true true ea eb e = (within-known (length (R .states)) (R .tags) (length (R .rules)) ea, leb-true (encodedLength R) space eb)
+    go : (a b : Bool) → withinLimits (length (R .states)) (R .tags) (length (R .rules)) ≡ a → leb (encodedLength resultForm R) space ≡ b → demand a 52 (demand b 53 0) ≡ 0 → Within (length (R .states)) (R .tags) (length (R .rules)) × (encodedLength resultForm R ≤ space)
+    go true true ea eb e = (within-known (length (R .states)) (R .tags) (length (R .rules)) ea, leb-true (encodedLength resultForm R) space eb)
     go true false ea eb e = absurd (omega arith)
     go false b ea eb e = absurd (omega arith)
 
 -- the number of a result from its counts
-pub sized-check : (R : Automaton) (symbols : ℕ) (size : Size) (space : ℕ) → symbols ≡ length (R .arities) → Sized size R → demand (withinLimits (size .states) (size .tags) (size .rules)) 52 (demand (leb (totalLength symbols (size .states) (size .rules)) space) 53 0) ≡ resultCheckOf R space
+pub sized-check : (R : Automaton) (symbols : ℕ) (size : Size) (space : ℕ) → symbols ≡ length (R .arities) → Sized size R → demand (withinLimits (size .states) (size .tags) (size .rules)) 52 (demand (leb (totalLength resultForm symbols (size .states) (size .rules)) space) 53 0) ≡ resultCheckOf R space
 unfolding resultCheckOf
 sized-check R symbols size space e s =
-    ap (λ (z : ℕ). demand (withinLimits (size .states) (size .tags) (size .rules)) 52 (demand (leb (totalLength z (size .states) (size .rules)) space) 53 0)) e
-    ∙ ap (λ (z : ℕ). demand (withinLimits z (size .tags) (size .rules)) 52 (demand (leb (totalLength (length (R .arities)) z (size .rules)) space) 53 0)) (s .states)
-    ∙ ap (λ (z : ℕ). demand (withinLimits (length (R .states)) z (size .rules)) 52 (demand (leb (totalLength (length (R .arities)) (length (R .states)) (size .rules)) space) 53 0)) (s .tags)
-    ∙ ap (λ (z : ℕ). demand (withinLimits (length (R .states)) (R .tags) z) 52 (demand (leb (totalLength (length (R .arities)) (length (R .states)) z) space) 53 0)) (s .rules)
+    ap (λ (z : ℕ). demand (withinLimits (size .states) (size .tags) (size .rules)) 52 (demand (leb (totalLength resultForm z (size .states) (size .rules)) space) 53 0)) e
+    ∙ ap (λ (z : ℕ). demand (withinLimits z (size .tags) (size .rules)) 52 (demand (leb (totalLength resultForm (length (R .arities)) z (size .rules)) space) 53 0)) (s .states)
+    ∙ ap (λ (z : ℕ). demand (withinLimits (length (R .states)) z (size .rules)) 52 (demand (leb (totalLength resultForm (length (R .arities)) (length (R .states)) (size .rules)) space) 53 0)) (s .tags)
+    ∙ ap (λ (z : ℕ). demand (withinLimits (length (R .states)) (R .tags) z) 52 (demand (leb (totalLength resultForm (length (R .arities)) (length (R .states)) z) space) 53 0)) (s .rules)
 
 module _ (result : Automaton → Automaton → Automaton) (first second : List ℕ) (space : ℕ) where
   abbrev R : Automaton
@@ -139,7 +138,7 @@ module _ (result : Automaton → Automaton → Automaton) (first second : List �
       go zero zero true h = refl
 
   -- What is known where the two are not refused.
-  pub ready : number ≡ 0 → Ready first second R × (encodedLength R ≤ space)
+  pub ready : number ≡ 0 → Ready first second R × (encodedLength resultForm R ≤ space)
   ready h =
       let i = number-inputs h in
       let p = inputs-pass (checkOf first) (checkOf second) (sameSymbols (decode first) (decode second)) (resultCheckOf R space) i in
@@ -163,42 +162,22 @@ module _ (result : Automaton → Automaton → Automaton) (first second out : Li
   abbrev refusal : ℕ
   refusal = combineCheckOf result first second (length out)
 
-  -- the answer and the space afterwards are those of the definition
-  abbrev pub Answered : Combined → List ℕ → Type 0
-  Answered r after = (combinedAnswer r ≡ unless refusal (encodedLength made)) × (after ≡ spaceOf refusal made out)
-
-  refused-answer : (m : ℕ) → m ≡ refusal → (m ≡ 0 → ⊥) → Answered (Refused m) out
-  unfolding unless
-  refused-answer m e h = go refusal e
-    where
-      go : (k : ℕ) → m ≡ k → (refuses m ≡ unless k (encodedLength made)) × (out ≡ spaceOf k made out)
-      go zero d = absurd (h d)
-      go (suc k) d = (ap refuses d, refl)
-
-  written-answer : (r : ℕ) (after : List ℕ) → refusal ≡ 0 → r ≡ encodedLength made → after ≡ encode made ++ drop r out → Answered (Length r) after
-  unfolding unless
-  written-answer r after e el es = go refusal e
-    where
-      go : (k : ℕ) → k ≡ 0 → (gives r ≡ unless k (encodedLength made)) × (after ≡ spaceOf k made out)
-      go zero d = (ap gives el, es ∙ ap (λ (z : ℕ). encode made ++ drop z out) el)
-      go (suc k) d = absurd (omega arith)
-
   module _ (n : ℕ) (e : n ≡ andAfter (checkOf first) (andAfter (checkOf second) (demand (sameSymbols (decode first) (decode second)) 51 0))) where
-    pub inputs-refused : (n ≡ 0 → ⊥) → Answered (Refused n) out
-    inputs-refused h = refused-answer n (inputs-decide result first second (length out) n e h) h
+    pub inputs-refused : (n ≡ 0 → ⊥) → Answered resultForm made out refusal (Refused n) out
+    inputs-refused h = refused-answer resultForm made out refusal n (inputs-decide result first second (length out) n e h) h
 
-    module _ (none : n ≡ 0) (symbols : ℕ) (size : Size) (m : ℕ) (es : symbols ≡ length (made .arities)) (s : Sized size made) (em : m ≡ demand (withinLimits (size .states) (size .tags) (size .rules)) 52 (demand (leb (totalLength symbols (size .states) (size .rules)) (length out)) 53 0)) where
+    module _ (none : n ≡ 0) (symbols : ℕ) (size : Size) (m : ℕ) (es : symbols ≡ length (made .arities)) (s : Sized size made) (em : m ≡ demand (withinLimits (size .states) (size .tags) (size .rules)) 52 (demand (leb (totalLength resultForm symbols (size .states) (size .rules)) (length out)) 53 0)) where
       decides : m ≡ refusal
       decides = em ∙ sized-check made symbols size (length out) es s ∙ inputs-none result first second (length out) n e none
 
-      pub result-refused : (m ≡ 0 → ⊥) → Answered (Refused m) out
-      result-refused h = refused-answer m decides h
+      pub result-refused : (m ≡ 0 → ⊥) → Answered resultForm made out refusal (Refused m) out
+      result-refused h = refused-answer resultForm made out refusal m decides h
 
-      pub may-write : m ≡ 0 → Ready first second made × Sized size made × (encodedLength made ≤ length out)
+      pub may-write : m ≡ 0 → Ready first second made × Sized size made × (encodedLength resultForm made ≤ length out)
       may-write h = let (a, b) = ready result first second (length out) (sym decides ∙ h) in (a, s, b)
 
-      pub written : m ≡ 0 → (r : ℕ) (after : List ℕ) → Laid out after 0 r (encode made) → Answered (Length r) after
-      written h r after p = written-answer r after (sym decides ∙ h) (let d = encode-length made in let z = p .ends in omega arith) (p .holds)
+      pub written : m ≡ 0 → (r : ℕ) (after : List ℕ) → Laid out after 0 r (encode resultForm made) → Answered resultForm made out refusal (Length r) after
+      written h r after p = written-answer resultForm made out refusal r after (sym decides ∙ h) (let d = encode-length resultForm made in let z = p .ends in omega arith) (p .holds)
 
 -- The results are sound.
 module _ (first second : List ℕ) where

@@ -3,17 +3,17 @@ use mathlib.Core.Path.{_≡_, refl, sym, ap, _∙_}
 use mathlib.Core.Logic.{_⊎_, inl, inr}
 use mathlib.Core.List.{List, [], _∷_, _++_, map, List·Memᴰ as In, Memᴰ·append-right}
 use Prim.Native.Nat.{ℕ, zero, suc, _+_, _-_, _*_, _<_}
-use native.Mathlib.Nat.{zero-add, mul-one}
+use native.Mathlib.Nat.{zero-add}
 use native.Mathlib.Omega.{arith}
 use native.Mathlib.Decide.{decLt}
 use borrow.Author.Tests.{lt-ltb}
 use lib.ListN.{length, getD, length-map, List·getD-eq-default}
 use Rattle.model.specs.Limits.{maxChildren, maxStates, unused}
-use Rattle.model.specs.Automaton.{Rule, State, Automaton, arityOf}
+use Rattle.model.specs.Automaton.{Rule, Automaton, arityOf}
 use Rattle.model.specs.Order.{place, Ascending, sorted}
 use Rattle.model.specs.Sound.{Sound}
 use Rattle.model.specs.Written.{noRule, ruleAt}
-use Rattle.model.specs.Boolean.{shiftState, shiftRule, pairNumbers, pairRule, pairRules, union, product}
+use Rattle.model.specs.Boolean.{shiftRule, pairNumbers, pairRule, pairRules, union, product}
 use Rattle.model.proofs.Tab.{tab-at}
 use Rattle.model.proofs.Rows.{in-getD}
 use Rattle.model.proofs.Order.{ascending-other, is-sorted, sorted-in}
@@ -154,10 +154,6 @@ numbers-zero (p ∷ ps) = ap (_∷ map (0 +_) ps) (zero-add p) ∙ ap (p ∷_) (
 rules-zero : (rs : List Rule) → map (shiftRule 0) rs ≡ rs
 rules-zero [] = refl
 rules-zero (r ∷ rs) = ap (_∷ map (shiftRule 0) rs) (λ i. record { symbol = r .symbol; children = numbers-zero (r .children) i; target = zero-add (r .target) i }) ∙ ap (r ∷_) (rules-zero rs)
-
-pub states-zero : (qs : List State) → map (shiftState 0) qs ≡ qs
-states-zero [] = refl
-states-zero (q ∷ qs) = ap (_∷ map (shiftState 0) qs) (λ i. record { final = q .final; mask = mul-one (q .mask) i }) ∙ ap (q ∷_) (states-zero qs)
 
 ascending-sorted : (rs : List Rule) → Ascending rs → rs ≡ sorted rs
 ascending-sorted rs h = is-sorted rs rs (ascending-other rs h) h (λ r. (λ m. m, λ m. m))

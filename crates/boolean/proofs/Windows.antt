@@ -18,7 +18,8 @@ use Rattle.model.proofs.Members.{map-at}
 use Rattle.model.proofs.SoundProduct.{product-rules}
 use Rattle.boolean.specs.Key.{packed}
 use Rattle.boolean.specs.Ready.{Window, row}
-use Rattle.boolean.proofs.Concat.{concatMap-append, concatMap-more, slice-at, slice-parts}
+use Rattle.automaton.proofs.Parts.{concatMap-append, concatMap-more}
+use Rattle.boolean.proofs.Concat.{slice-at, slice-parts}
 
 module _ (B : Automaton) (r : Rule) where
   abbrev n : ℕ

@@ -1,4 +1,4 @@
--- Which number refuses a union or a product of two stored automata (document 01, section "Turned away, by place"). Assumes nothing.
+-- Which number refuses a union or a product of two stored automata (document 01, section "Turned away, by place"; document 02, Wish 2). Assumes nothing.
 use mathlib.Core.List.{List}
 use mathlib.Core.Bool.{Bool, _&&_}
 use Prim.Native.Nat.{ℕ}
@@ -10,7 +10,13 @@ use Rattle.model.specs.Refusal.{demand, andAfter}
 use Rattle.model.specs.Automaton.{Automaton, arityOf}
 use Rattle.automaton.specs.Stored.{decode}
 use Rattle.automaton.specs.Check.{checkOf}
+use Rattle.automaton.specs.declared.Form.{Form}
+use Rattle.automaton.specs.declared.Form.the-variants.{Wide}
 use Rattle.automaton.specs.Encode.{encodedLength}
+
+-- the form that a union and a product are written in, whatever the inputs'
+abbrev pub resultForm : Form
+resultForm = Wide
 
 -- 51: as many symbols, each with as many children
 unfoldable pub sameSymbols : Automaton → Automaton → Bool
@@ -24,7 +30,7 @@ withinLimits states tags rules = leb states maxStates && leb tags maxTags && leb
 unfoldable pub resultCheckOf : Automaton → ℕ → ℕ
 resultCheckOf R space =
     demand (withinLimits (length (R .states)) (R .tags) (length (R .rules))) 52
-    (demand (leb (encodedLength R) space) 53 0)
+    (demand (leb (encodedLength resultForm R) space) 53 0)
 
 -- The number for two sets of which `result` is to be made in a space of so many bytes, 0 for none: the first set, the second, then both.
 unfoldable pub combineCheckOf : (Automaton → Automaton → Automaton) → List ℕ → List ℕ → ℕ → ℕ

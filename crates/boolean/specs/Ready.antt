@@ -6,9 +6,10 @@ use lib.Dec.{eqb}
 use lib.ListN.{length, take}
 use Rattle.model.specs.Limits.{maxStates, maxTags, maxRules}
 use Rattle.model.specs.Lists.{concatMap, only}
-use Rattle.model.specs.Automaton.{Rule, State, Automaton}
+use Rattle.model.specs.Automaton.{Rule, Automaton}
 use Rattle.model.specs.Boolean.{pairRule}
-use Rattle.automaton.specs.Encode.{encodeHeader, encodeSymbol, encodeState}
+use Rattle.automaton.specs.declared.Form.{Form}
+use Rattle.automaton.specs.Encode.{encodeHeader, encodeSymbol}
 use Rattle.automaton.specs.Window.{FirstFrom}
 use Rattle.automaton.specs.Stored.{decode}
 use Rattle.automaton.specs.Check.{checkOf}
@@ -44,10 +45,6 @@ pub record Window (A : Automaton) (f from to : ℕ) : Type 0 where
 abbrev pub row : Automaton → Rule → List Rule
 row B r = concatMap (λ s. only (eqb (r .symbol) (s .symbol)) (pairRule (length (B .states)) r s ∷ [])) (B .rules)
 
--- the stored form of states
-abbrev pub encodeStates : List State → List ℕ
-encodeStates = concatMap (λ q. encodeState (q .final) (q .mask))
-
--- the stored form of a result up to its states: the symbols are those of A
-abbrev pub front : Automaton → ℕ → ℕ → ℕ → List ℕ
-front A states tags rules = encodeHeader (length (A .arities)) states tags rules ++ concatMap encodeSymbol (A .arities)
+-- a stored form of a result up to its states: the symbols are those of A
+abbrev pub front : Form → Automaton → ℕ → ℕ → ℕ → List ℕ
+front form A states tags rules = encodeHeader form (length (A .arities)) states tags rules ++ concatMap encodeSymbol (A .arities)

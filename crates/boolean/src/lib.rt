@@ -1,4 +1,4 @@
-// Union and product of two stored automata, written in the stored form.
+// Union and product of two stored automata, written in the wide form.
 ghost use mathlib.Core.Path.{_≡_};
 ghost use lib.Dec.{eqb, leb};
 ghost use Rattle.model.specs.Automaton.{arityOf};
@@ -7,8 +7,9 @@ ghost use Rattle.model.specs.Refusal.{demand, andAfter};
 ghost use Rattle.automaton.specs.Form.{totalLength};
 ghost use Rattle.automaton.specs.Stored.{decode};
 ghost use Rattle.automaton.specs.Check.{checkOf};
+ghost use Rattle.automaton.specs.Answer.{writtenAnswer};
 ghost use Rattle.boolean.specs.Combine.{sameSymbols, withinLimits};
-ghost use Rattle.boolean.specs.Answer.{combinedAnswer, combinedOf, combinedSpace};
+ghost use Rattle.boolean.specs.Answer.{combinedOf, combinedSpace};
 ghost use Rattle.boolean.specs.Ready.{Sized};
 
 mod keys;
@@ -18,16 +19,12 @@ mod sort;
 mod write;
 
 use automaton::Checked;
-use automaton::write::total_length;
+use automaton::Form;
+use automaton::Written;
+use automaton::layout::total_length;
 use base::limits::MAX_RULES;
 use base::limits::MAX_STATES;
 use base::limits::MAX_TAGS;
-
-// The answer: how many bytes were written, or a number of document 01.
-pub enum Combined {
-    Length(usize),
-    Refused(u16),
-}
 
 // How large a result is; the numbers of two sets' states and rules may be multiplied.
 struct Size {
@@ -82,14 +79,14 @@ fn within_limits(size: Size) -> bool
         & (size.rules <= MAX_RULES as usize)
 }
 
-// The number for a result of so many symbols and this size, in a space of so many bytes.
-fn result(symbols: u16, size: Size, space: usize) -> u16
-    ensures { λ r. ⌜ r ≡ demand (withinLimits (size .states) (size .tags) (size .rules)) 52 (demand (leb (totalLength symbols (size .states) (size .rules)) space) 53 0) ⌝ }
+// The number for a result of so many symbols and this size, in a form and a space of so many bytes.
+fn result(form: Form, symbols: u16, size: Size, space: usize) -> u16
+    ensures { λ r. ⌜ r ≡ demand (withinLimits (size .states) (size .tags) (size .rules)) 52 (demand (leb (totalLength form symbols (size .states) (size .rules)) space) 53 0) ⌝ }
 {
     if !within_limits(size) {
         return 52;
     }
-    if total_length(symbols, size.states as u16, size.rules as u16) <= space {
+    if total_length(form, symbols, size.states as u16, size.rules as u16) <= space {
         0
     } else {
         53
@@ -123,35 +120,45 @@ fn product_size(first: &[u8], second: &[u8]) -> Size
 }
 
 // The union: what either set accepts.
-pub fn union(first: &[u8], second: &[u8], out: &mut [u8]) -> Combined
-    ensures answer { λ r. ⌜ combinedAnswer r ≡ combinedOf union (now (first .entry)) (now (second .entry)) (now (out .entry)) ⌝ }
+pub fn union(first: &[u8], second: &[u8], out: &mut [u8]) -> Written
+    ensures answer { λ r. ⌜ writtenAnswer r ≡ combinedOf union (now (first .entry)) (now (second .entry)) (now (out .entry)) ⌝ }
     ensures space { λ _. ⌜ now (out .exit) ≡ combinedSpace union (now (first .entry)) (now (second .entry)) (now (out .entry)) ⌝ }
 {
     let refused = inputs(first, second);
     if refused != 0 {
-        return Combined::Refused(refused);
+        return Written::Refused(refused);
     }
     let size = union_size(first, second);
-    let too_large = result(automaton::header(first).symbols, size, out.len());
+    let too_large = result(
+        Form::Wide,
+        automaton::header(first).symbols,
+        size,
+        out.len(),
+    );
     if too_large != 0 {
-        return Combined::Refused(too_large);
+        return Written::Refused(too_large);
     }
-    Combined::Length(write::put_union(first, second, size, out))
+    Written::Length(write::put_union(first, second, Form::Wide, size, out))
 }
 
 // The product: what both sets accept.
-pub fn product(first: &[u8], second: &[u8], out: &mut [u8]) -> Combined
-    ensures answer { λ r. ⌜ combinedAnswer r ≡ combinedOf product (now (first .entry)) (now (second .entry)) (now (out .entry)) ⌝ }
+pub fn product(first: &[u8], second: &[u8], out: &mut [u8]) -> Written
+    ensures answer { λ r. ⌜ writtenAnswer r ≡ combinedOf product (now (first .entry)) (now (second .entry)) (now (out .entry)) ⌝ }
     ensures space { λ _. ⌜ now (out .exit) ≡ combinedSpace product (now (first .entry)) (now (second .entry)) (now (out .entry)) ⌝ }
 {
     let refused = inputs(first, second);
     if refused != 0 {
-        return Combined::Refused(refused);
+        return Written::Refused(refused);
     }
     let size = product_size(first, second);
-    let too_large = result(automaton::header(first).symbols, size, out.len());
+    let too_large = result(
+        Form::Wide,
+        automaton::header(first).symbols,
+        size,
+        out.len(),
+    );
     if too_large != 0 {
-        return Combined::Refused(too_large);
+        return Written::Refused(too_large);
     }
-    Combined::Length(write::put_product(first, second, size, out))
+    Written::Length(write::put_product(first, second, Form::Wide, size, out))
 }

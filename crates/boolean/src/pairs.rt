@@ -9,7 +9,7 @@ ghost use Rattle.model.specs.Boolean.{pairRules, product};
 ghost use Rattle.automaton.specs.Stored.{decode};
 ghost use Rattle.automaton.specs.Check.{checkOf};
 ghost use Rattle.boolean.specs.Key.{packed};
-ghost use Rattle.boolean.specs.Laid.{Laid};
+ghost use Rattle.automaton.specs.Laid.{Laid};
 ghost use Rattle.boolean.specs.Ready.{Ready, Window, row};
 use super::keys::paired_key;
 

@@ -9,7 +9,8 @@ use Rattle.model.specs.Limits.{maxSteps}
 use Rattle.model.specs.Lists.{allBelow}
 use Rattle.model.specs.Tree.{levels}
 use Rattle.model.specs.Refusal.{demand}
-use Rattle.automaton.specs.Stored.{word, symbolByte, stateByte, ruleWord}
+use Rattle.automaton.specs.Form.{tagsWidth, stateWidth}
+use Rattle.automaton.specs.Stored.{word, symbolByte, formOf, finalByte, tagsAt, tagsOf, ruleWord}
 use Rattle.automaton.specs.Encode.{encodeHeader}
 use Rattle.automaton.specs.Check.{countsOk, offsetsOk, symbolOk, stateOk, placeOk, ruleOk, keyWord, ascendsAt, checkOf}
 use Rattle.document.specs.Check.{counted?, levelsCheckOf}
@@ -29,12 +30,11 @@ unfolding steps?
 by-length cells = ap (λ n. leb 1 n && (leb n maxSteps && eqb (length cells % stepCells) 0)) (length-tab (length cells / stepCells) (stepIn cells))
 
 pub edges : Edges
-unfolding allBelow levels demand word symbolByte stateByte ruleWord encodeHeader countsOk offsetsOk symbolOk stateOk placeOk ruleOk keyWord ascendsAt checkOf counted? levelsCheckOf roomOf lines blank? trimmed lineAt lineCount letter? digit? nameByte? name? nameOf digits defaultName shownName lineFits? listFits? new? distinct? namesCheckOf onWindows
+unfolding allBelow levels demand word symbolByte tagsWidth stateWidth formOf finalByte tagsAt tagsOf ruleWord encodeHeader countsOk offsetsOk symbolOk stateOk placeOk ruleOk keyWord ascendsAt checkOf counted? levelsCheckOf roomOf lines blank? trimmed lineAt lineCount letter? digit? nameByte? name? nameOf digits defaultName shownName lineFits? listFits? new? distinct? namesCheckOf onWindows
 edges =
     record {
       symbols = (refl, refl, refl);
       states = (refl, refl, refl);
-      tags = (refl, refl);
       rules = (refl, refl);
       short = refl;
       rows = (refl, refl, refl);

@@ -2,6 +2,8 @@ pub mod Twice
 pub mod Stars
 pub mod Papers
 pub mod Edges
+pub mod SixteenTags
+pub mod EitherForm
 pub mod Zeros
 pub mod JudgedJson
 pub mod JudgedExports

@@ -1,7 +1,7 @@
 -- Every run of set B on pair(a,a) that passes the run check has two steps on row 0, one in each state. Assumes nothing.
 use mathlib.Core.Path.{_≡_, refl, sym, ap, _∙_, subst}
 use mathlib.Core.Logic.{_⊎_, inl, inr}
-use mathlib.Core.List.{List, [], _∷_, _++_}
+use mathlib.Core.List.{List, [], _∷_}
 use mathlib.Core.Bool.{true, false, cond}
 use Prim.Native.Nat.{ℕ, zero, suc, _+_, _-_, _<_, _≤_}
 use native.Mathlib.Omega.{arith}
@@ -12,12 +12,11 @@ use Rattle.model.specs.Automaton.{Automaton}
 use Rattle.model.specs.Table.{Row, rowAt}
 use Rattle.model.specs.Written.{Step, stepAt, ruleAt, ruleOf, WrittenRun}
 use Rattle.model.proofs.Count.{place-of}
-use Rattle.automaton.specs.Stored.{word, symbolByte, stateByte, ruleWord, placeOf, decode}
+use Rattle.automaton.specs.Stored.{decode}
 use Rattle.document.specs.Rows.{cellIn, decodeRows}
 use Rattle.runs.specs.Steps.{decodeSteps}
 use Rattle.runs.specs.Check.{checkRunOf}
 use Rattle.runs.proofs.Meaning.{run-written}
-use Rattle.cases.specs.Sets.{setB}
 use Rattle.cases.specs.Cases.{onFirst}
 
 -- the cells of pair(a,a)
@@ -28,7 +27,7 @@ cells =
     ∷ []
 
 -- set B and the table of pair(a,a)
-abbrev B : Automaton
+abbrev pub B : Automaton
 B = record {
   arities = 2 ∷ 0 ∷ 0 ∷ [];
   states = record { final = false; mask = 0 } ∷ record { final = false; mask = 0 } ∷ record { final = true; mask = 0 } ∷ [];
@@ -38,10 +37,6 @@ B = record {
 
 abbrev rows : List Row
 rows = record { symbol = 1; kind = 0; payload = 0; children = [] } ∷ record { symbol = 0; kind = 0; payload = 0; children = 0 ∷ 0 ∷ [] } ∷ []
-
-set-is : decode setB ≡ B
-unfolding word symbolByte stateByte ruleWord placeOf decode
-set-is = refl
 
 rows-are : decodeRows cells ≡ rows
 unfolding cellIn
@@ -151,8 +146,9 @@ module _ (run : List Step) (w : WrittenRun B rows run) where
       let end : last ≡ 2 = omega arith in
       counted run n (user 0 (omega arith) .0) (user 1 (omega arith) .0) (ap row (sym end) ∙ last-row)
 
-pub two-on-first : (run : List ℕ) → checkRunOf setB cells run ≡ 0 → onFirst (decodeSteps run) ≡ 2
-two-on-first run passes =
+-- of any bytes that stand for B
+pub two-on-first : (set : List ℕ) → decode set ≡ B → (run : List ℕ) → checkRunOf set cells run ≡ 0 → onFirst (decodeSteps run) ≡ 2
+two-on-first set e run passes =
     two-steps (decodeSteps run)
     (subst (λ (z : List Row). WrittenRun B z (decodeSteps run)) rows-are
-    (subst (λ (a : Automaton). WrittenRun a (decodeRows cells) (decodeSteps run)) set-is (run-written setB cells run passes)))
+    (subst (λ (a : Automaton). WrittenRun a (decodeRows cells) (decodeSteps run)) e (run-written set cells run passes)))

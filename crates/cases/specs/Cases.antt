@@ -1,4 +1,4 @@
--- The starred cases of document 01, section "Examples, with the edges", from stored bytes, name lists and texts on, against the entry points' definitions. Assumes nothing.
+-- The starred cases of document 01, section "Examples, with the edges", from stored bytes in either form, name lists and texts on, against the entry points' definitions. Assumes nothing.
 use mathlib.Core.Path.{_≡_}
 use mathlib.Core.List.{List, [], _∷_, _++_}
 use mathlib.Core.Bool.{Bool, true, false, cond}
@@ -19,7 +19,7 @@ use Rattle.membership.specs.Judge.{judgeCheckOf}
 use Rattle.boolean.specs.Answer.{combinedOf, combinedSpace}
 use Rattle.emptiness.specs.Answer.{emptinessOf, spaceAfter}
 use Rattle.term.specs.Read.{rowsRead, refusedAt, readOf}
-use Rattle.cases.specs.Sets.{setE, setG, setD, setB, setEB}
+use Rattle.cases.specs.Sets.{setE, setG, setD, setB, setEB, wideE, wideG, wideD, wideB, wideEB}
 
 -- the name lists: pair, a, b; and g, a
 abbrev pub pairNames : List ℕ
@@ -63,25 +63,29 @@ pub data Case : Type 0 where
   -- refused at the sample, with this number
   unsampled : List ℕ → ℕ → Case
 
--- The list, in the paper's order.
-abbrev pub cases : List Case
-cases =
-    judged setE pairNames (pair (a= 7) (a= 7)) 2 true 2
-    ∷ refused setE pairNames (pair (a= 7) (a= 7)) 1 31
-    ∷ judged setE pairNames (pair (a= 7) (a= 8)) 3 false 2
-    ∷ judged setE pairNames (pair a b) 3 false 2
-    ∷ judged setE pairNames a 1 false 1
-    ∷ judged setG gNames (g (g a)) 3 true 3
-    ∷ judged setG gNames (g (g (g (g a)))) 5 false 3
-    ∷ judged setB pairNames (pair a a) 2 true 3
-    ∷ twice setB pairNames (pair a a)
-    ∷ together setE setB setEB
-    ∷ judged setEB pairNames (pair (a= 1) (a= 2)) 3 false 4
-    ∷ judged setEB pairNames (pair a a) 2 true 3
-    ∷ live setE pairNames (pair a a) 2 2
-    ∷ dead setD
-    ∷ unsampled setEB 41
+-- The list, in the paper's order, of E, G, D, B and of E and B demanded together, which is written in the wide form.
+abbrev pub casesOf : List ℕ → List ℕ → List ℕ → List ℕ → List ℕ → List Case
+casesOf E G D B EB =
+    judged E pairNames (pair (a= 7) (a= 7)) 2 true 2
+    ∷ refused E pairNames (pair (a= 7) (a= 7)) 1 31
+    ∷ judged E pairNames (pair (a= 7) (a= 8)) 3 false 2
+    ∷ judged E pairNames (pair a b) 3 false 2
+    ∷ judged E pairNames a 1 false 1
+    ∷ judged G gNames (g (g a)) 3 true 3
+    ∷ judged G gNames (g (g (g (g a)))) 5 false 3
+    ∷ judged B pairNames (pair a a) 2 true 3
+    ∷ twice B pairNames (pair a a)
+    ∷ together E B wideEB
+    ∷ judged EB pairNames (pair (a= 1) (a= 2)) 3 false 4
+    ∷ judged EB pairNames (pair a a) 2 true 3
+    ∷ live E pairNames (pair a a) 2 2
+    ∷ dead D
+    ∷ unsampled EB 41
     ∷ []
+
+-- The sets in the old form, and in the wide one.
+abbrev pub cases : List Case
+cases = casesOf setE setG setD setB setEB ++ casesOf wideE wideG wideD wideB wideEB
 
 -- how many steps are on row 0
 abbrev pub onFirst : List Step → ℕ

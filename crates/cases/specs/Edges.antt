@@ -7,6 +7,9 @@ use lib.Dec.{eqb}
 use lib.ListN.{replicate, take}
 use Rattle.model.specs.Lists.{tab}
 use Rattle.model.specs.Table.{Row}
+use Rattle.automaton.specs.declared.Form.{Form}
+use Rattle.automaton.specs.declared.Form.the-variants.{Narrow}
+use Rattle.automaton.specs.Form.{stateWidth}
 use Rattle.automaton.specs.Encode.{encodeHeader}
 use Rattle.automaton.specs.Check.{checkOf}
 use Rattle.document.specs.Rows.{rowCells}
@@ -19,9 +22,12 @@ use Rattle.names.specs.Check.{listFits?, namesCheckOf}
 use Rattle.names.specs.Saved.{onWindows}
 use Rattle.cases.specs.Sets.{setE}
 
--- a set of constants with states that are not final, and no rules
+-- a set in a form, of constants with states that are not final, and no rules
+abbrev pub bareIn : Form → ℕ → ℕ → ℕ → List ℕ
+bareIn form symbols states tags = encodeHeader form symbols states tags 0 ++ replicate symbols 0 ++ replicate (stateWidth form * states) 0
+
 abbrev pub bare : ℕ → ℕ → ℕ → List ℕ
-bare symbols states tags = encodeHeader symbols states tags 0 ++ replicate symbols 0 ++ replicate (2 * states) 0
+bare = bareIn Narrow
 
 -- a chain of so many rows
 abbrev pub chain : ℕ → List Row
@@ -31,8 +37,7 @@ chain n = tab n (λ i. record { symbol = 0; kind = 0; payload = 0; children = co
 pub record Edges : Type 0 where
   pub symbols : (checkOf (bare 64 1 0) ≡ 0) × (checkOf (bare 65 1 0) ≡ 2) × (checkOf (bare 0 1 0) ≡ 2)
   pub states : (checkOf (bare 1 256 0) ≡ 0) × (checkOf (bare 1 257 0) ≡ 2) × (checkOf (bare 1 0 0) ≡ 2)
-  pub tags : (checkOf (bare 1 1 8) ≡ 0) × (checkOf (bare 1 1 9) ≡ 2)
-  pub rules : (checkOf (encodeHeader 1 1 0 1024) ≡ 3) × (checkOf (encodeHeader 1 1 0 1025) ≡ 2)
+  pub rules : (checkOf (encodeHeader Narrow 1 1 0 1024) ≡ 3) × (checkOf (encodeHeader Narrow 1 1 0 1025) ≡ 2)
   pub short : checkOf (take 58 setE) ≡ 3
   pub rows : (counted? (replicate (1024 * rowCells) 0) ≡ true) × (counted? (replicate (1025 * rowCells) 0) ≡ false) × (counted? [] ≡ false)
   pub levels : (levelsCheckOf (chain 256) ≡ 0) × (levelsCheckOf (chain 257) ≡ 17)

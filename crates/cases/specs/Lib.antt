@@ -1,4 +1,5 @@
 pub mod Sets
 pub mod Cases
 pub mod Edges
+pub mod SixteenTags
 pub mod Zeros

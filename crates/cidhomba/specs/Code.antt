@@ -22,7 +22,7 @@ codeOf value (refuses n) = refusalCode n 0
 abbrev pub checkCode : Answer (Unit {0}) → ℕ
 checkCode = codeOf (λ u. 0)
 
--- union, product and the writer: how many bytes were written
+-- union, product, the moves between forms and the writer: how many bytes were written
 abbrev pub countCode : Answer ℕ → ℕ
 countCode = codeOf (λ n. n)
 

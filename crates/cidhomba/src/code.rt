@@ -1,13 +1,12 @@
 // Answers as one 64-bit number.
 use automaton::Checked;
-use boolean::Combined;
+use automaton::Written;
 use emptiness::Emptiness;
 use membership::Judged;
 use spelling::TermWritten;
 ghost use mathlib.Core.Path.{_≡_};
 ghost use Prim.Native.Nat.{_-_, _^_, _<_, min};
-ghost use Rattle.automaton.specs.Answer.{checkAnswer};
-ghost use Rattle.boolean.specs.Answer.{combinedAnswer};
+ghost use Rattle.automaton.specs.Answer.{checkAnswer, writtenAnswer};
 ghost use Rattle.emptiness.specs.Answer.{emptinessAnswer};
 ghost use Rattle.spelling.specs.Write.{writeAnswer};
 ghost use Rattle.cidhomba.specs.Code.{refusalCode, checkCode, judgedCode, countCode, witnessCode};
@@ -52,12 +51,12 @@ pub(crate) fn judged_code(j: Judged) -> u64
     }
 }
 
-pub(crate) fn combined_code(c: Combined) -> u64
-    ensures { λ r. ⌜ r ≡ countCode (combinedAnswer c) ⌝ }
+pub(crate) fn written_code(w: Written) -> u64
+    ensures { λ r. ⌜ r ≡ countCode (writtenAnswer w) ⌝ }
 {
-    match c {
-        Combined::Length(n) => n as u64,
-        Combined::Refused(n) => REFUSED + n as u64,
+    match w {
+        Written::Length(n) => n as u64,
+        Written::Refused(n) => REFUSED + n as u64,
     }
 }
 

@@ -2,21 +2,23 @@
 mod code; // code.rt: answers as numbers
 
 use code::check_code;
-use code::combined_code;
 use code::judged_code;
 use code::refusal_code;
 use code::witness_code;
 use code::write_code;
+use code::written_code;
 use json::JsonRead;
 use term::TermRead;
 ghost use mathlib.Core.Path.{_≡_};
 ghost use lib.ListN.{length};
 ghost use Rattle.model.specs.Refusal.{unless, answerMap};
 ghost use Rattle.model.specs.Boolean.{union, product};
+ghost use Rattle.automaton.specs.declared.Form.the-variants.{Narrow, Wide};
 ghost use Rattle.automaton.specs.Check.{checkOf};
 ghost use Rattle.document.specs.Check.{documentCheckOf};
 ghost use Rattle.runs.specs.Check.{checkRunOf};
 ghost use Rattle.boolean.specs.Answer.{combinedOf, combinedSpace};
+ghost use Rattle.forms.specs.Move.{movedOf, movedSpace};
 ghost use Rattle.emptiness.specs.Answer.{emptinessOf};
 ghost use Rattle.emptiness.specs.Answer.{spaceAfter as witnessSpace};
 ghost use Rattle.term.specs.Read.{readingMap, readOf};
@@ -70,7 +72,7 @@ pub extern "C" fn cidhomba_union(first: &[u8], second: &[u8], out: &mut [u8]) ->
     ensures answer { λ r. ⌜ r ≡ countCode (combinedOf union (now (first .entry)) (now (second .entry)) (now (out .entry))) ⌝ }
     ensures space { λ _. ⌜ now (out .exit) ≡ combinedSpace union (now (first .entry)) (now (second .entry)) (now (out .entry)) ⌝ }
 {
-    combined_code(boolean::union(first, second, out))
+    written_code(boolean::union(first, second, out))
 }
 
 // The length of the product written, or the refusal of the first set, of the second, or of both.
@@ -79,7 +81,25 @@ pub extern "C" fn cidhomba_product(first: &[u8], second: &[u8], out: &mut [u8]) 
     ensures answer { λ r. ⌜ r ≡ countCode (combinedOf product (now (first .entry)) (now (second .entry)) (now (out .entry))) ⌝ }
     ensures space { λ _. ⌜ now (out .exit) ≡ combinedSpace product (now (first .entry)) (now (second .entry)) (now (out .entry)) ⌝ }
 {
-    combined_code(boolean::product(first, second, out))
+    written_code(boolean::product(first, second, out))
+}
+
+// The length of the set written in the wide form, or its refusal.
+#[no_mangle]
+pub extern "C" fn cidhomba_widen_states(set: &[u8], out: &mut [u8]) -> u64
+    ensures answer { λ r. ⌜ r ≡ countCode (movedOf Narrow Wide (now (set .entry)) (now (out .entry))) ⌝ }
+    ensures space { λ _. ⌜ now (out .exit) ≡ movedSpace Narrow Wide (now (set .entry)) (now (out .entry)) ⌝ }
+{
+    written_code(forms::widen_states(set, out))
+}
+
+// The length of the set written in the narrow form, or its refusal.
+#[no_mangle]
+pub extern "C" fn cidhomba_narrow_states(set: &[u8], out: &mut [u8]) -> u64
+    ensures answer { λ r. ⌜ r ≡ countCode (movedOf Wide Narrow (now (set .entry)) (now (out .entry))) ⌝ }
+    ensures space { λ _. ⌜ now (out .exit) ≡ movedSpace Wide Narrow (now (set .entry)) (now (out .entry)) ⌝ }
+{
+    written_code(forms::narrow_states(set, out))
 }
 
 // 0 for dead; for live the number of rows, which stand at the front of the space, and 65536 times the levels; or the refusal.

@@ -1,8 +1,9 @@
-// The cases and edges of document 01, section "Examples, with the edges", and the byte classes and the two zeros of document 02, run: a line for each, and `stdout` has what the papers say.
+// The cases and edges of document 01, section "Examples, with the edges", and the byte classes, the two zeros and the wide form of document 02, run: a line for each, and `stdout` has what the papers say.
+ghost use Prim.Native.Nat.{_≤_};
 use automaton::Checked;
+use automaton::Written;
 use base::limits::UNUSED;
 use base::space::put;
-use boolean::Combined;
 use classes::class_table;
 use classes::is_control;
 use classes::is_digit;
@@ -84,36 +85,80 @@ fn sample(case: &[u8], set: &[u8]) {
     say(&output[..k]);
 }
 
-// The sets of document 01 and their texts.
-fn documents() {
-    judge(b"E, pair(a=7,a=7): ", &E, b"s0(s1=7,s1=7)");
-    judge(b"E, pair(a=7,a=8): ", &E, b"s0(s1=7,s1=8)");
-    judge(b"E, pair(a,b): ", &E, b"s0(s1,s2)");
-    judge(b"E, a: ", &E, b"s1");
-    judge(b"E, the two zeros: ", &E, &TWO_ZEROS);
-    judge(
-        b"E, a zero and the rate next to the other: ",
-        &E,
-        b"s0(s1~0000000000000000,s1~8000000000000001)",
-    );
-    judge(b"G, g(g(a)): ", &G, b"s0(s0(s1))");
-    judge(b"G, g(g(g(g(a)))): ", &G, b"s0(s0(s0(s0(s1))))");
-    judge(b"B, pair(a,a): ", &B, b"s0(s1,s1)");
+// How many bytes of a space of 128 a set was written to.
+fn moved(answer: Written) -> usize
+    ensures { λ r. ⌜ r ≤ 128 ⌝ }
+{
+    match answer {
+        Written::Length(n) => if n > 128 { 128 } else { n },
+        Written::Refused(n) => {
+            refused(n);
+            0
+        },
+    }
 }
 
-// E and B demanded together.
+// A case of a set in some form.
+fn case(form: &[u8], name: &[u8], set: &[u8], text: &[u8]) {
+    say(form);
+    judge(name, set, text);
+}
+
+// The sets of document 01 and their texts, of sets in some form.
+fn documents(form: &[u8], e: &[u8], g: &[u8], b: &[u8]) {
+    case(form, b"E, pair(a=7,a=7): ", e, b"s0(s1=7,s1=7)");
+    case(form, b"E, pair(a=7,a=8): ", e, b"s0(s1=7,s1=8)");
+    case(form, b"E, pair(a,b): ", e, b"s0(s1,s2)");
+    case(form, b"E, a: ", e, b"s1");
+    case(form, b"E, the two zeros: ", e, &TWO_ZEROS);
+    case(
+        form,
+        b"E, a zero and the rate next to the other: ",
+        e,
+        b"s0(s1~0000000000000000,s1~8000000000000001)",
+    );
+    case(form, b"G, g(g(a)): ", g, b"s0(s0(s1))");
+    case(form, b"G, g(g(g(g(a)))): ", g, b"s0(s0(s0(s0(s1))))");
+    case(form, b"B, pair(a,a): ", b, b"s0(s1,s1)");
+}
+
+fn samples(form: &[u8], e: &[u8], d: &[u8]) {
+    say(form);
+    sample(b"E at the sample: ", e);
+    say(form);
+    sample(b"D at the sample: ", d);
+}
+
+// The same of the sets in the wide form.
+fn widened() {
+    let mut e = [0u8; 128];
+    let mut g = [0u8; 128];
+    let mut b = [0u8; 128];
+    let mut d = [0u8; 128];
+    let i = moved(forms::widen_states(&E, &mut e));
+    let j = moved(forms::widen_states(&G, &mut g));
+    let k = moved(forms::widen_states(&B, &mut b));
+    let l = moved(forms::widen_states(&D, &mut d));
+    documents(b"wide ", &e[..i], &g[..j], &b[..k]);
+    samples(b"wide ", &e[..i], &d[..l]);
+}
+
+// The cases of E and B demanded together, as a set in some form.
+fn demanded(form: &[u8], set: &[u8]) {
+    case(form, b"E and B, pair(a=1,a=2): ", set, b"s0(s1=1,s1=2)");
+    case(form, b"E and B, pair(a,a): ", set, b"s0(s1,s1)");
+    say(form);
+    sample(b"E and B at the sample: ", set);
+}
+
+// E and B demanded together are written in the wide form; and the same in the narrow one.
 fn together() {
     let mut both = [0u8; 128];
-    let n = match boolean::product(&E, &B, &mut both) {
-        Combined::Length(n) => n,
-        Combined::Refused(_) => 0,
-    };
-    if n > 128 {
-        return;
-    }
-    judge(b"E and B, pair(a=1,a=2): ", &both[..n], b"s0(s1=1,s1=2)");
-    judge(b"E and B, pair(a,a): ", &both[..n], b"s0(s1,s1)");
-    sample(b"E and B at the sample: ", &both[..n]);
+    let n = moved(boolean::product(&E, &B, &mut both));
+    demanded(b"wide ", &both[..n]);
+    let mut narrow = [0u8; 128];
+    let k = moved(forms::narrow_states(&both[..n], &mut narrow));
+    demanded(b"", &narrow[..k]);
 }
 
 // pair(a=7,a=7) with room for one annotation.
@@ -271,11 +316,11 @@ fn byte_classes() {
 }
 
 fn main() {
-    documents();
+    documents(b"", &E, &G, &B);
     little_room();
+    samples(b"", &E, &D);
+    widened();
     together();
-    sample(b"E at the sample: ", &E);
-    sample(b"D at the sample: ", &D);
     say(b"58 bytes of E: ");
     checked(automaton::check(&E[..58]));
     symbols(b"64 symbols: ", 64);

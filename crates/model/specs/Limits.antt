@@ -1,4 +1,4 @@
--- The limits of document 01, sections "Sets", "Documents" and "Runs", each stated once. Assumes nothing.
+-- The limits of document 01, sections "Sets", "Documents" and "Runs", and of document 02, Wish 2, for tags, each stated once. Assumes nothing.
 use Prim.Native.Nat.{ℕ}
 
 abbrev pub maxSymbols : ℕ
@@ -11,7 +11,7 @@ abbrev pub maxStates : ℕ
 maxStates = 256
 
 abbrev pub maxTags : ℕ
-maxTags = 8
+maxTags = 16
 
 abbrev pub maxRules : ℕ
 maxRules = 1024

@@ -1,7 +1,7 @@
 -- `automaton::check` meets its contract: each test is the definition's, in its order. Assumes nothing.
 use borrow.Author.Tests.{not-false}
 use Rattle.automaton.specs.Check.{checkOf}
-use Rattle.automaton.proofs.Verdict.{verdicts, answered, tags-below}
+use Rattle.automaton.proofs.Verdict.{verdicts, answered, tags-few}
 use borrow.Author.Needs.{needs}
 use Rattle.automaton.proofs.check.Statement.{statement}
 use Rattle.automaton.proofs.check.Tie as tie
@@ -18,7 +18,7 @@ check-spec =
     (λ c. answered 3 _ (search verdicts depth 9))
     (λ c κs. search needs)
     (λ c. answered 4 _ (search verdicts depth 9))
-    (λ c κs. tags-below _ _ (c .before .before .before .before .before .counts .ensures) (not-false _ (c .before .before .before .before .if2 .left)))
+    (λ c κs. tags-few _ _ (c .before .before .before .before .before .counts .ensures) (not-false _ (c .before .before .before .before .if2 .left)))
     (λ c. answered 5 _ (search verdicts depth 9))
     (λ c κs. search needs)
     (λ c. answered 6 _ (search verdicts depth 9))

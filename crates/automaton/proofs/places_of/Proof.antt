@@ -7,10 +7,10 @@ use Rattle.automaton.proofs.places_of.Statement.{statement}
 use Rattle.automaton.proofs.places_of.Tie as tie
 
 abbrev Inv-loop : tie.InvT-loop
-Inv-loop set first i n places₀ k₀ places k = Filled (λ q. q .0) (placeOf set i n) maxChildren places k
+Inv-loop set form first i n places₀ k₀ places k = Filled (λ q. q .0) (placeOf set i n) maxChildren places k
 
 abbrev μ-loop : tie.MeasureT-loop
-μ-loop set first i n places₀ k₀ places k = maxChildren - k
+μ-loop set form first i n places₀ k₀ places k = maxChildren - k
 
 pub places-of-spec : {M : Type 1} → statement M
 places-of-spec =

@@ -13,10 +13,11 @@ rule-spec =
     (λ c κs. search reads)
     (λ c κs. search reads)
     (λ c κs. search reads)
+    (λ c κs. search reads)
     (λ c. let f = c .before .before .before in record {
       symbol = search reads;
       target = search reads;
-      places = read-places _ _ _ _ _ (f .before .before .before .rules .ensures) (f .before .before .if1 .taken) (f .rule-word .ensures) (c .before .before .arity .ensures) _ (c .before .places-of .ensures);
+      places = read-places _ _ _ _ _ (f .before .before .before .before .rules .ensures) (f .before .before .before .if1 .taken) (f .rule-word .ensures) (c .before .before .arity .ensures) _ (c .before .places-of .ensures);
     })
     (λ c. record {
       symbol = search reads;

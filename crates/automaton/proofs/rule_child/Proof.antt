@@ -12,5 +12,6 @@ rule-child-spec =
     (λ c κs. search reads)
     (λ c κs. search reads)
     (λ c κs. search reads)
+    (λ c κs. search reads)
     (λ c. search reads)
     (λ c. search reads))

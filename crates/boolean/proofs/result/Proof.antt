@@ -24,7 +24,7 @@ returns-2 c =
     let a = c .before .before .before .before .before .before .args in
     let e = c .before .total-length .ensures in
     let l = c .if2 .taken in
-    let m : totalLength (a .symbols) (a .size .states) (a .size .rules) ≤ a .space = omega arith in
+    let m : totalLength (a .form) (a .symbols) (a .size .states) (a .size .rules) ≤ a .space = omega arith in
     pass _ _ _ _ (c .before .before .before .before .before .within-limits .ensures) _ (not-false _ (c .before .before .before .before .if1 .left)) (pass-at-least _ _ _ _ _ m refl)
 
 returns-3 : tie.Need-returns-3
@@ -32,7 +32,7 @@ returns-3 c =
     let a = c .before .before .before .before .before .before .args in
     let e = c .before .total-length .ensures in
     let l = c .if2 .left in
-    let m : a .space < totalLength (a .symbols) (a .size .states) (a .size .rules) = omega arith in
+    let m : a .space < totalLength (a .form) (a .symbols) (a .size .states) (a .size .rules) = omega arith in
     pass _ _ _ _ (c .before .before .before .before .before .within-limits .ensures) _ (not-false _ (c .before .before .before .before .if1 .left)) (stop-below _ _ _ _ m)
 
 pub result-spec : {M : Type 1} → statement M

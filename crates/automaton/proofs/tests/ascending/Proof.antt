@@ -7,10 +7,10 @@ use Rattle.automaton.proofs.tests.ascending.Statement.{statement}
 use Rattle.automaton.proofs.tests.ascending.Tie as tie
 
 abbrev Inv-loop : tie.InvT-loop
-Inv-loop set n first i₀ i = Passed (ascendsAt set) (ruleCount set - 1) n i
+Inv-loop set n form first i₀ i = Passed (ascendsAt set) (ruleCount set - 1) n i
 
 abbrev μ-loop : tie.MeasureT-loop
-μ-loop set n first i₀ i = n - i
+μ-loop set n form first i₀ i = n - i
 
 pub ascending-spec : {M : Type 1} → statement M
 ascending-spec =
@@ -18,6 +18,7 @@ ascending-spec =
     (tie.spec
     Inv-loop
     μ-loop
+    (λ c κs. search loops)
     (λ c κs. search loops)
     (λ c κs. search loops)
     (λ c. search loops)

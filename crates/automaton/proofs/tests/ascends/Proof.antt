@@ -7,10 +7,10 @@ use Rattle.automaton.proofs.tests.ascends.Statement.{statement}
 use Rattle.automaton.proofs.tests.ascends.Tie as tie
 
 abbrev Inv-loop : tie.InvT-loop
-Inv-loop set first i n k₀ k = Level (keyWord set i) (keyWord set (i + 1)) (maxChildren + 2) n k
+Inv-loop set form first i n k₀ k = Level (keyWord set i) (keyWord set (i + 1)) (maxChildren + 2) n k
 
 abbrev μ-loop : tie.MeasureT-loop
-μ-loop set first i n k₀ k = n - k
+μ-loop set form first i n k₀ k = n - k
 
 pub ascends-spec : {M : Type 1} → statement M
 unfolding ascendsAt

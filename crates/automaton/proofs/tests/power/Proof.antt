@@ -11,4 +11,4 @@ power-spec =
     tie.close
     (tie.spec
     (λ c. search needs)
-    (λ c. rw (one-mul, mod-eq-of-lt (pow-lt {i = c .args .t} {j = 16} (omega arith)))))
+    (λ c. rw (one-mul, mod-eq-of-lt (pow-lt {i = c .args .t} {j = 64} (omega arith)))))

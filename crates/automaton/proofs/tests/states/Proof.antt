@@ -8,10 +8,10 @@ use Rattle.automaton.proofs.tests.states.Statement.{statement}
 use Rattle.automaton.proofs.tests.states.Tie as tie
 
 abbrev Inv-loop : tie.InvT-loop
-Inv-loop set n first bound i₀ i = Passed (stateOk set) (stateCount set) n i
+Inv-loop set n form first bound i₀ i = Passed (stateOk set) (stateCount set) n i
 
 abbrev μ-loop : tie.MeasureT-loop
-μ-loop set n first bound i₀ i = n - i
+μ-loop set n form first bound i₀ i = n - i
 
 pub states-spec : {M : Type 1} → statement M
 states-spec =
@@ -19,6 +19,7 @@ states-spec =
     (tie.spec
     Inv-loop
     μ-loop
+    (λ c κs. search loops)
     (λ c κs. search loops)
     (λ c κs. search loops)
     (λ c κs. search loops)

@@ -19,4 +19,4 @@ put-header-spec =
     (λ c κs. search needs)
     (λ c. search needs)
     (λ c. let a = c .before .before .before .before .before .before .before .before .before .before .before .before .args in
-    rw (← header-words (a .symbols) (a .states) (a .tags) (a .rules) _ _ _ _ _ _ (c .before .before .before .before .before .before .before .before .before .before .states-offset .ensures .0) (c .before .before .before .before .before .before .before .before .rules-offset .ensures .0) (c .before .before .before .before .before .before .total-length .ensures) (c .before .before .before .before .before .before .before .before .before .cut .ensures) (c .before .before .before .before .before .before .before .cut2 .ensures) (c .before .before .before .before .before .cut3 .ensures)) (c .before .before .put-words .ensures)))
+    rw (← header-words (a .form) (a .symbols) (a .states) (a .tags) (a .rules) _ _ _ _ _ _ (c .before .before .before .before .before .before .before .before .before .before .states-offset .ensures .0) (c .before .before .before .before .before .before .before .before .rules-offset .ensures .0) (c .before .before .before .before .before .before .total-length .ensures) (c .before .before .before .before .before .before .before .before .before .cut .ensures) (c .before .before .before .before .before .before .before .cut2 .ensures) (c .before .before .before .before .before .cut3 .ensures)) (c .before .before .put-words .ensures)))

@@ -10,7 +10,8 @@ use Rattle.model.specs.Boolean.{shiftRule}
 use Rattle.automaton.specs.Stored.{decode}
 use Rattle.automaton.proofs.Sound.{sound-decode}
 use Rattle.boolean.specs.Key.{packed}
-use Rattle.boolean.proofs.Laying.{Filling, filling-none, filling-front, filling-all, laid-length, laid-all}
+use Rattle.automaton.proofs.Laying.{laid-length}
+use Rattle.boolean.proofs.Laying.{Filling, filling-none, filling-front, filling-all, laid-all}
 use Rattle.boolean.proofs.Results.{shifted-key-at}
 use Rattle.boolean.proofs.keys.shifted_keys.Statement.{statement}
 use Rattle.boolean.proofs.keys.shifted_keys.Tie as tie

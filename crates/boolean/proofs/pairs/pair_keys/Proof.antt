@@ -11,10 +11,10 @@ use Rattle.model.specs.Written.{noRule, ruleAt}
 use Rattle.model.proofs.SoundProduct.{product-rules}
 use Rattle.automaton.specs.Stored.{decode}
 use Rattle.boolean.specs.Key.{packed}
-use Rattle.boolean.specs.Laid.{Laid}
+use Rattle.automaton.specs.Laid.{Laid}
 use Rattle.boolean.specs.Ready.{row}
 use Rattle.boolean.proofs.Concat.{map-concatMap}
-use Rattle.boolean.proofs.Laying.{Parts, parts-none, parts-more, parts-room, parts-all, laid-length}
+use Rattle.automaton.proofs.Laying.{Parts, parts-none, parts-more, parts-room, parts-all, laid-length}
 use Rattle.boolean.proofs.pairs.pair_keys.Statement.{statement}
 use Rattle.boolean.proofs.pairs.pair_keys.Tie as tie
 

@@ -11,9 +11,10 @@ use Rattle.automaton.specs.Stored.{decode}
 use Rattle.automaton.proofs.Sound.{sound-decode}
 use Rattle.automaton.proofs.Known.{known-symbol}
 use Rattle.boolean.specs.Key.{packed}
-use Rattle.boolean.specs.Laid.{Laid}
+use Rattle.automaton.specs.Laid.{Laid}
 use Rattle.boolean.specs.Ready.{Window, row}
-use Rattle.boolean.proofs.Laying.{Filling, filling-none, filling-more, filling-all, laid-length}
+use Rattle.automaton.proofs.Laying.{laid-length}
+use Rattle.boolean.proofs.Laying.{Filling, filling-none, filling-more, filling-all}
 use Rattle.boolean.proofs.Windows.{window-up, row-length}
 use Rattle.boolean.proofs.Results.{paired-key-at}
 use Rattle.boolean.proofs.pairs.row_keys.Statement.{statement}

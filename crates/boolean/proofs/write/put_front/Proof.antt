@@ -2,19 +2,14 @@
 use borrow.Author.Needs.{needs}
 use denote.Ref.{now}
 use Rattle.automaton.specs.Stored.{decode}
-use Rattle.boolean.proofs.Writing.{symbols-room, front-laid}
+use Rattle.boolean.proofs.Writing.{front-laid}
 use Rattle.boolean.proofs.write.put_front.Statement.{statement}
 use Rattle.boolean.proofs.write.put_front.Tie as tie
-
-put-symbols-requires : tie.Need-put-symbols-requires
-put-symbols-requires c κs =
-    let a = c .before .before .before .before .before .before .before .before .before .before .before .args in
-    symbols-room (decode (now (a .set))) _ _ _ _ (c .before .before .before .before .before .before .before .before .header .ensures .symbols) _ _ _ (c .before .before .before .before .before .before .before .before .before .before .before .pre .3) (c .before .before .before .put-header .ensures)
 
 returns : tie.Need-returns
 returns c =
     let a = c .before .before .before .before .before .before .before .before .before .before .before .before .before .before .args in
-    front-laid (decode (now (a .set))) _ _ _ _ (c .before .before .before .before .before .before .before .before .before .before .before .header .ensures .symbols) _ _ _ (c .before .before .before .before .before .before .before .before .before .before .before .before .before .before .pre .3) (c .before .before .before .before .before .before .put-header .ensures) _ _ (c .before .before .put-symbols .ensures)
+    front-laid (a .form) (decode (now (a .set))) _ _ _ _ (c .before .before .before .before .before .before .before .before .before .before .before .header .ensures .symbols) _ _ _ (c .before .before .before .before .before .before .before .before .before .before .before .before .before .before .pre .3) (c .before .before .before .before .before .before .put-header .ensures) _ _ (c .before .before .put-symbols .ensures)
 
 pub put-front-spec : {M : Type 1} → statement M
 put-front-spec =
@@ -25,6 +20,6 @@ put-front-spec =
     (λ c. search needs)
     (λ c. search needs)
     (λ c κs. search needs)
-    put-symbols-requires
+    (λ c κs. search needs)
     (λ c. search needs)
     returns)

@@ -12,16 +12,16 @@ use Rattle.automaton.specs.Stored.{decode}
 use Rattle.automaton.specs.Encode.{encodeState}
 use Rattle.automaton.proofs.Sound.{sound-decode}
 use Rattle.automaton.proofs.Known.{known-mask}
-use Rattle.boolean.proofs.Laying.{Parts, parts-none, parts-put, parts-all, laid-length}
-use Rattle.boolean.proofs.Stating.{shift-low, pair-low, pair-bytes}
+use Rattle.automaton.proofs.Laying.{Parts, parts-none, parts-put, parts-all, laid-length}
+use Rattle.boolean.proofs.Stating.{pair-low, shift-whole, pair-bytes}
 use Rattle.boolean.proofs.write.put_pair_states.Statement.{statement}
 use Rattle.boolean.proofs.write.put_pair_states.Tie as tie
 
 abbrev Inv-loop : tie.InvT-loop
-Inv-loop out₀ at first second a b n end₀ i₀ out end i = (n ≡ length (((product (decode first) (decode second))) .states)) × Parts (λ (z : State). encodeState (z .final) (z .mask)) ((product (decode first) (decode second)) .states) out₀ out at end i
+Inv-loop out₀ at form first second a b n end₀ i₀ out end i = (n ≡ length (((product (decode first) (decode second))) .states)) × Parts (λ (z : State). encodeState form (z .final) (z .mask)) ((product (decode first) (decode second)) .states) out₀ out at end i
 
 abbrev μ-loop : tie.MeasureT-loop
-μ-loop out₀ at first second a b n end₀ i₀ out end i = n - i
+μ-loop out₀ at form first second a b n end₀ i₀ out end i = n - i
 
 mul-n : tie.Need-mul-n Inv-loop μ-loop
 mul-n c =
@@ -43,16 +43,6 @@ div-mask c = let e = c .before .before .before .before .before .header2 .ensures
 rem-mask : tie.Need-rem-mask Inv-loop μ-loop
 rem-mask c = let e = c .before .before .before .before .before .before .header2 .ensures .states in let s = sound-decode _ (c .before .before .before .before .before .before .before .before .before .before .before .pre .0 .second-sound) .some-state in omega arith
 
-shift-requires : tie.Need-shift-requires Inv-loop μ-loop
-shift-requires c κs =
-    let a = c .before .before .before .before .before .before .before .before .before .before .before .before .before .before .before .args in
-    let p = c .before .before .before .before .before .before .before .before .before .before .before .before .before .before .before .pre .0 in
-    let m = known-mask (decode (now (a .second))) (sound-decode _ (p .second-sound)) (c .tags-of2 .result) _ (c .tags-of2 .ensures) in
-    let e = c .before .before .before .before .before .before .before .before .before .before .before .header .ensures .tags in
-    let s = p .tags in
-    let l = shift-low (c .tags-of2 .result) (c .before .before .before .before .before .before .before .before .before .before .before .header .result .tags) ((decode (now (a .second))) .tags) m (omega arith) in
-    (omega arith, omega arith)
-
 add-mask : tie.Need-add-mask Inv-loop μ-loop
 add-mask c =
     let a = c .before .before .before .before .before .before .before .before .before .before .before .before .before .before .before .before .args in
@@ -61,7 +51,7 @@ add-mask c =
     let B = decode (now (a .second)) in
     let m = known-mask A (sound-decode _ (p .first-sound)) (c .before .before .tags-of .result) _ (c .before .before .tags-of .ensures) in
     let k = known-mask B (sound-decode _ (p .second-sound)) (c .before .tags-of2 .result) _ (c .before .tags-of2 .ensures) in
-    let x : c .shift .result ≡ c .before .tags-of2 .result * 2 ^ A .tags = c .shift .ensures ∙ ap (λ (z : ℕ). c .before .tags-of2 .result * 2 ^ z) (c .before .before .before .before .before .before .before .before .before .before .before .before .header .ensures .tags) in
+    let x : c .moved-up .result ≡ c .before .tags-of2 .result * 2 ^ A .tags = shift-whole _ _ _ (B .tags) _ (c .before .before .before .before .before .before .before .before .before .before .before .before .header .ensures .tags) k (p .tags) (c .moved-up .ensures) in
     let l = pair-low (c .before .before .tags-of .result) (c .before .tags-of2 .result) (A .tags) (B .tags) m k (p .tags) in
     omega arith
 
@@ -80,14 +70,16 @@ loop-again c =
     let i = c .before .before .before .before .before .before .before .before .before .before .before .before .loop .i in
     let t = c .before .before .before .before .before .before .before .before .before .before .before .loop-test .taken in
     let e = c .before .before .before .before .before .before .before .before .before .before .before .before .before .before .before .header2 .ensures .states in
+    let p = c .before .before .before .before .before .before .before .before .before .before .before .before .before .before .before .before .before .before .before .before .pre .0 in
+    let k = known-mask B (sound-decode _ (p .second-sound)) (c .before .before .before .before .before .tags-of2 .result) _ (c .before .before .before .before .before .tags-of2 .ensures) in
     let l : i < length (A .states) * length (B .states) = omega (arith, h .0, product-states A B) in (
       h .0,
       parts-put _ noState _ _ _ _ _ _ (h .1) _ _ _ (omega (arith, h .0))
-          (pair-bytes A B i l _ _ _ (c .before .before .before .before .before .tags-of2 .result) _
+          (pair-bytes (a .form) A B i l _ _ _ (c .before .before .before .before .before .tags-of2 .result) _
           (c .before .before .before .before .before .before .before .before .is-final .ensures ∙ ap (λ (z : ℕ). final? A (i / z)) e)
           (c .before .before .before .before .before .before .before .is-final2 .ensures ∙ ap (λ (z : ℕ). final? B (i % z)) e)
           (c .before .before .before .before .before .before .tags-of .ensures ∙ ap (λ (z : ℕ). (stateAt A (i / z)) .mask) e)
-          (c .before .before .before .before .shift .ensures ∙ ap (λ (z : ℕ). c .before .before .before .before .before .tags-of2 .result * 2 ^ z) (c .before .before .before .before .before .before .before .before .before .before .before .before .before .before .before .before .header .ensures .tags))
+          (shift-whole _ _ _ (B .tags) _ (c .before .before .before .before .before .before .before .before .before .before .before .before .before .before .before .before .header .ensures .tags) k (p .tags) (c .before .before .before .before .moved-up .ensures))
           (c .before .before .before .before .before .tags-of2 .ensures ∙ ap (λ (z : ℕ). (stateAt B (i % z)) .mask) e))
           (c .before .before .put-state .ensures),
     )
@@ -117,7 +109,7 @@ put-pair-states-spec =
     (λ c κs. search needs)
     (λ c κs. search needs)
     (λ c κs. search needs)
-    shift-requires
+    (λ c κs. search needs)
     add-mask
     (λ c κs. search needs)
     add-i

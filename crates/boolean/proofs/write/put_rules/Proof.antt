@@ -8,7 +8,7 @@ use lib.ListN.{length, getD}
 use Rattle.model.specs.Limits.{maxChildren}
 use Rattle.automaton.specs.Encode.{encodePlaces}
 use Rattle.boolean.specs.Key.{digitAt, encodeKey}
-use Rattle.boolean.proofs.Laying.{Parts, parts-none, parts-put, parts-all, laid-length}
+use Rattle.automaton.proofs.Laying.{Parts, parts-none, parts-put, parts-all, laid-length}
 use Rattle.boolean.proofs.write.put_rules.Statement.{statement}
 use Rattle.boolean.proofs.write.put_rules.Tie as tie
 

@@ -1,37 +1,31 @@
 -- `boolean::write::put_union` meets its contract: each part is put where the one before it ends. Assumes nothing.
 use borrow.Author.Needs.{needs}
 use denote.Ref.{now}
-use Rattle.boolean.proofs.Writing.{union-front-room, firsts-room, seconds-room, union-rules-room, union-laid}
+use Rattle.boolean.proofs.Writing.{union-front-room, union-rules-room, union-laid}
 use Rattle.boolean.proofs.write.put_union.Statement.{statement}
 use Rattle.boolean.proofs.write.put_union.Tie as tie
 
 put-front-requires : tie.Need-put-front-requires
-put-front-requires c κs = union-front-room _ _ _ (now (c .before .before .before .before .args .out)) (c .before .before .before .before .pre)
-
-put-states-requires : tie.Need-put-states-requires
-put-states-requires c κs = firsts-room _ _ _ _ (c .before .before .before .before .before .before .before .before .pre) _ _ (c .before .before .before .put-front .ensures)
-
-put-states-requires-2 : tie.Need-put-states-requires-2
-put-states-requires-2 c κs = seconds-room _ _ _ _ (c .before .before .before .before .before .before .before .before .before .before .before .before .before .pre) _ _ (c .before .before .before .before .before .before .before .before .put-front .ensures) _ _ (c .before .before .before .before .put-states .ensures) _ (c .header .ensures .tags)
+put-front-requires c κs = union-front-room _ _ _ _ (now (c .before .before .before .before .args .out)) (c .before .before .before .before .pre)
 
 put-union-rules-requires : tie.Need-put-union-rules-requires
 put-union-rules-requires c κs =
     let f = c .before .before .before .before .before .before .before .before .before .before .before .before in
-    union-rules-room _ _ _ _ (f .before .before .before .before .before .pre) _ _ (f .put-front .ensures) _ _ (c .before .before .before .before .before .before .before .before .put-states .ensures) _ (c .before .before .before .before .header .ensures .tags) _ _ (c .before .before .before .put-states2 .ensures)
+    union-rules-room _ _ _ _ _ (f .before .before .before .before .before .pre) _ _ (f .put-front .ensures) _ _ (c .before .before .before .before .before .before .before .before .put-states .ensures) _ (c .before .before .before .before .header .ensures .tags) _ _ (c .before .before .before .put-states2 .ensures)
 
 returns : tie.Need-returns
 returns c =
     let f = c .before .before .before .before .before .before .before .before .before .before .before .before .before .before .before in
-    union-laid _ _ _ _ (f .before .before .before .before .before .pre) _ _ (f .put-front .ensures) _ _ (c .before .before .before .before .before .before .before .before .before .before .before .put-states .ensures) _ (c .before .before .before .before .before .before .before .header .ensures .tags) _ _ (c .before .before .before .before .before .before .put-states2 .ensures) _ _ (c .before .before .put-union-rules .ensures)
+    union-laid _ _ _ _ _ (f .before .before .before .before .before .pre) _ _ (f .put-front .ensures) _ _ (c .before .before .before .before .before .before .before .before .before .before .before .put-states .ensures) _ (c .before .before .before .before .before .before .before .header .ensures .tags) _ _ (c .before .before .before .before .before .before .put-states2 .ensures) _ _ (c .before .before .put-union-rules .ensures)
 
 pub put-union-spec : {M : Type 1} → statement M
 put-union-spec =
     tie.close
     (tie.spec
     put-front-requires
-    put-states-requires
     (λ c κs. search needs)
-    put-states-requires-2
+    (λ c κs. search needs)
+    (λ c κs. search needs)
     put-union-rules-requires
     (λ c. search needs)
     returns)

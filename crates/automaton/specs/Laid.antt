@@ -1,4 +1,4 @@
--- Numbers put into a lent space from a place on: keys into scratch, bytes into the result. Assumes nothing.
+-- Numbers put into a lent space from a place on: bytes of a stored form, keys into scratch. Assumes nothing.
 use mathlib.Core.Path.{_≡_}
 use mathlib.Core.List.{List, _++_}
 use Prim.Native.Nat.{ℕ, _+_, _≤_}

@@ -1,0 +1,26 @@
+-- The two forms, their limits and the moves are as document 02 has them: computed, against the definitions that the contracts cite. Assumes nothing.
+use mathlib.Core.Path.{refl}
+use Rattle.model.specs.Lists.{allBelow}
+use Rattle.model.specs.Refusal.{demand, andAfter, unless}
+use Rattle.automaton.specs.Form.{tagsWidth, stateWidth}
+use Rattle.automaton.specs.Stored.{word, formOf, symbolByte, finalByte, tagsAt, tagsOf, ruleWord, placeOf, decode}
+use Rattle.automaton.specs.Encode.{encodeHeader, encodeSymbol, encodeTags, encodeState, encodePlaces, encode}
+use Rattle.automaton.specs.Check.{countsOk, offsetsOk, symbolOk, stateOk, placeOk, ruleOk, keyWord, ascendsAt, checkOf}
+use Rattle.boolean.specs.Combine.{sameSymbols, withinLimits, resultCheckOf, combineCheckOf}
+use Rattle.forms.specs.Move.{moveCheckOf}
+use Rattle.cases.specs.SixteenTags.{SixteenTags}
+
+pub sixteen-tags : SixteenTags
+unfolding allBelow demand andAfter unless tagsWidth stateWidth word formOf symbolByte finalByte tagsAt tagsOf ruleWord placeOf decode encodeHeader encodeSymbol encodeTags encodeState encodePlaces encode countsOk offsetsOk symbolOk stateOk placeOk ruleOk keyWord ascendsAt checkOf sameSymbols withinLimits resultCheckOf combineCheckOf moveCheckOf
+sixteen-tags =
+    record {
+      forms = (refl, refl, refl, refl);
+      narrow = (refl, refl, refl, refl);
+      wide = (refl, refl, refl);
+      states = (refl, refl);
+      masks = (refl, refl, refl, refl, refl, refl);
+      there = (refl, refl, refl);
+      back = (refl, refl, refl);
+      refused = (refl, refl, refl, refl, refl, refl, refl);
+      together = (refl, refl, refl, refl, refl);
+    }

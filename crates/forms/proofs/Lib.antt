@@ -1,0 +1,3 @@
+-- Laws that belong to no one function, and what the moves mean.
+pub mod Moving
+pub mod Meaning
