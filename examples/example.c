@@ -82,6 +82,23 @@ static void two_sets(void)
     told("no space", cidhomba_union(set_e, LENGTH(set_e), set_e, LENGTH(set_e), out, 0));
 }
 
+/* The set with two bytes for the tags of a state, and back: the same bytes again. */
+static void both_forms(void)
+{
+    uint8_t wide[CIDHOMBA_MAX_SET_BYTES];
+    uint8_t narrow[CIDHOMBA_MAX_SET_BYTES];
+    uint64_t answer = cidhomba_widen_states(set_e, LENGTH(set_e), wide, LENGTH(wide));
+    told("bytes of E in the wide form", answer);
+    if (CIDHOMBA_REFUSED(answer)) {
+        return;
+    }
+    told("steps for pair(a=7,a=7) by it", judged(wide, answer, equal, LENGTH(equal)));
+    answer = cidhomba_narrow_states(wide, answer, narrow, LENGTH(narrow));
+    told("bytes of it in the narrow form", answer);
+    told("set E, which is not in the wide form, narrowed",
+         cidhomba_narrow_states(set_e, LENGTH(set_e), narrow, LENGTH(narrow)));
+}
+
 static void lowest(void)
 {
     uint16_t rows[CIDHOMBA_WITNESS_CELLS];
@@ -164,6 +181,7 @@ int main(void)
     checks();
     judging();
     two_sets();
+    both_forms();
     lowest();
     reading();
     judging_json();

@@ -1,9 +1,10 @@
 /* Cidhomba: shape sets and the documents that they let in. The C interface of the verified library, for C99 and C++.
  *
- * A set is bytes in the stored form; a document is a table of rows of ten 16-bit cells; a run is steps of six 16-bit
- * cells; names come from two lists, and documents may also be read from term text or from JSON. docs/FORMATS.md has each
- * form, with an example worked byte by byte. 16-bit cells are uint16_t in the machine's own order; where rows stand in a file,
- * their cells are written low byte first.
+ * A set is bytes in a stored form, of which there are two: the narrow one has a state's tags in one byte, at most 8, the
+ * wide one in two, at most 16. Every function takes either. A document is a table of rows of ten 16-bit cells; a run is
+ * steps of six 16-bit cells; names come from two lists, and documents may also be read from term text or from JSON.
+ * docs/FORMATS.md has each form, with an example worked byte by byte. 16-bit cells are uint16_t in the machine's own
+ * order; where rows stand in a file, their cells are written low byte first.
  *
  * Slices. A slice passes as a pointer and a count of its elements, not of bytes. Where the count is 0 the pointer may
  * be NULL. Every input is either answered or refused: no bytes make a call read or write outside what is lent, run
@@ -27,6 +28,7 @@
  *   work of cidhomba_membership   32 for each annotation of the document   CIDHOMBA_WORK_CELLS
  *   run of cidhomba_membership    6 for each annotation of the room        CIDHOMBA_RUN_CELLS
  *   out of union and product      the length of the result                 CIDHOMBA_MAX_SET_BYTES
+ *   out of the moves of states    the length of the result                 CIDHOMBA_MAX_SET_BYTES
  *   rows of cidhomba_witness      10 for each state of the set             CIDHOMBA_WITNESS_CELLS
  *   rows of cidhomba_read_term    10 for each row of the document          CIDHOMBA_TABLE_CELLS
  *   rows of cidhomba_read_json    10 for each row of the document          CIDHOMBA_TABLE_CELLS
@@ -72,7 +74,7 @@ extern "C" {
 #define CIDHOMBA_MAX_ROWS 1024
 #define CIDHOMBA_MAX_ROOM 4096
 #define CIDHOMBA_MAX_STATES 256
-#define CIDHOMBA_MAX_SET_BYTES 12880
+#define CIDHOMBA_MAX_SET_BYTES 13136
 
 /* Recommended sizes of spaces, in elements: cells of 16 bits, and bytes of text. */
 #define CIDHOMBA_WORK_CELLS (CIDHOMBA_MAX_ROOM * CIDHOMBA_ANNOTATION_CELLS)
@@ -91,11 +93,13 @@ enum cidhomba_refusal {
     /* a set */
     CIDHOMBA_SET_TOO_SHORT = 1,    /* fewer than 16 bytes */
     CIDHOMBA_SET_COUNTS = 2,       /* symbols, states, tags or rules outside their range */
-    CIDHOMBA_SET_LENGTHS = 3,      /* an offset, the total, or the lent length differs from the formulas */
+    CIDHOMBA_SET_LENGTHS = 3,      /* an offset, the total, or the lent length differs from the formulas of either form,
+                                    * or over 8 tags in the narrow form */
     CIDHOMBA_SET_CHILDREN = 4,     /* a symbol with more than 4 children */
     CIDHOMBA_SET_STATE = 5,        /* a final byte above 1, or a tag bit at or above the number of tags */
     CIDHOMBA_SET_RULE = 6,         /* an unknown symbol or state, or an unused place that is not 65535 */
     CIDHOMBA_SET_ORDER = 7,        /* rules that do not ascend strictly by symbol, child places, target */
+    CIDHOMBA_SET_TAGS = 8,         /* over 8 tags in a set that is to be narrowed; tried after 18 */
     /* a table */
     CIDHOMBA_TABLE_LENGTH = 11,    /* 0 or over 1,024 rows, or a row cut short */
     CIDHOMBA_ROW_SYMBOL = 12,      /* an unknown symbol */
@@ -105,6 +109,8 @@ enum cidhomba_refusal {
     CIDHOMBA_ROWS_EQUAL = 15,      /* two equal rows */
     CIDHOMBA_ROW_UNUSED = 16,      /* a row, not the last, that no later row uses */
     CIDHOMBA_TABLE_HEIGHT = 17,    /* a tree higher than 256 */
+    /* a set that is to be moved to the other form */
+    CIDHOMBA_SET_FORM = 18,        /* a set that is not in the form that the move starts from; tried after 7 */
     /* a run */
     CIDHOMBA_RUN_LENGTH = 21,      /* 0 or over 4,096 steps, or a step cut short */
     CIDHOMBA_STEP_UNKNOWN = 22,    /* an unknown rule or row */
@@ -120,7 +126,7 @@ enum cidhomba_refusal {
     CIDHOMBA_ROW_SPACE = 42,       /* space for fewer rows than the set has states; tried before 41 */
     /* two sets */
     CIDHOMBA_SETS_DIFFER = 51,     /* numbers of symbols or of their children that differ */
-    CIDHOMBA_RESULT_LIMITS = 52,   /* a result with over 256 states, 8 tags or 1,024 rules */
+    CIDHOMBA_RESULT_LIMITS = 52,   /* a result with over 256 states, 16 tags or 1,024 rules */
     CIDHOMBA_RESULT_SPACE = 53,    /* a space shorter than the result */
     /* name lists */
     CIDHOMBA_LIST_LINE = 61,       /* over 64 lines, or a line that, but for spaces and bytes 13 at its end, is neither
@@ -156,7 +162,8 @@ static inline const char *cidhomba_refusal_text(unsigned number)
     case CIDHOMBA_SET_COUNTS:
         return "the set's symbols, states, tags or rules are too few or too many";
     case CIDHOMBA_SET_LENGTHS:
-        return "an offset, the total or the length of the set differs from the formulas";
+        return "an offset, the total or the length of the set differs from the formulas, or its states have one byte "
+               "for over 8 tags";
     case CIDHOMBA_SET_CHILDREN:
         return "a symbol of the set has more than 4 children";
     case CIDHOMBA_SET_STATE:
@@ -165,6 +172,8 @@ static inline const char *cidhomba_refusal_text(unsigned number)
         return "a rule of the set names an unknown symbol or state, or an unused place is not 65535";
     case CIDHOMBA_SET_ORDER:
         return "the rules of the set do not ascend strictly by symbol, child places and target";
+    case CIDHOMBA_SET_TAGS:
+        return "the set has over 8 tags and cannot be narrowed";
     case CIDHOMBA_TABLE_LENGTH:
         return "the table has no rows, over 1,024, or a row cut short";
     case CIDHOMBA_ROW_SYMBOL:
@@ -179,6 +188,8 @@ static inline const char *cidhomba_refusal_text(unsigned number)
         return "a row, not the last, is used by no later row";
     case CIDHOMBA_TABLE_HEIGHT:
         return "the tree is higher than 256";
+    case CIDHOMBA_SET_FORM:
+        return "the set is not in the form that the move starts from";
     case CIDHOMBA_RUN_LENGTH:
         return "the run has no steps, over 4,096, or a step cut short";
     case CIDHOMBA_STEP_UNKNOWN:
@@ -202,7 +213,7 @@ static inline const char *cidhomba_refusal_text(unsigned number)
     case CIDHOMBA_SETS_DIFFER:
         return "the symbols of the two sets or their numbers of children differ";
     case CIDHOMBA_RESULT_LIMITS:
-        return "the result would have over 256 states, 8 tags or 1,024 rules";
+        return "the result would have over 256 states, 16 tags or 1,024 rules";
     case CIDHOMBA_RESULT_SPACE:
         return "the space is shorter than the result";
     case CIDHOMBA_LIST_LINE:
@@ -237,7 +248,7 @@ static inline const char *cidhomba_refusal_text(unsigned number)
     }
 }
 
-/* Whether bytes are a sound set. Value: 0. Refuses: set. */
+/* Whether bytes are a sound set, in either form. Value: 0. Refuses: set. */
 uint64_t cidhomba_check_automaton(const uint8_t *set, size_t set_length);
 
 /* Whether rows are a sound table over the set's symbols. Value: 0. Refuses: set, table. */
@@ -261,8 +272,8 @@ uint64_t cidhomba_membership(const uint8_t *set, size_t set_length,
                              uint16_t *work, size_t work_length,
                              uint16_t *run, size_t run_length);
 
-/* The set that lets in what either set does, in the stored form: the states, tags and rules of both, one after the
- * other. Value: the bytes written to the front of out. Refuses: first set, second set, 51, 52, 53.
+/* The set that lets in what either set does, in the wide form whatever the forms of the two: the states, tags and rules
+ * of both, one after the other. Value: the bytes written to the front of out. Refuses: first set, second set, 51, 52, 53.
  * CIDHOMBA_MAX_SET_BYTES hold every result. */
 uint64_t cidhomba_union(const uint8_t *first, size_t first_length,
                         const uint8_t *second, size_t second_length,
@@ -275,6 +286,17 @@ uint64_t cidhomba_union(const uint8_t *first, size_t first_length,
 uint64_t cidhomba_product(const uint8_t *first, size_t first_length,
                           const uint8_t *second, size_t second_length,
                           uint8_t *out, size_t out_length);
+
+/* A narrow set in the wide form, which lets in the same documents. Value: the bytes written to the front of out, those of
+ * the set and one more for each state. Refuses: set, 18, 53. */
+uint64_t cidhomba_widen_states(const uint8_t *set, size_t set_length,
+                               uint8_t *out, size_t out_length);
+
+/* A wide set in the narrow form, which lets in the same documents. Value: the bytes written to the front of out, one fewer
+ * for each state than the set has. Refuses: set, 18, 8, 53. It is the number of tags that 8 looks at, whether or not a
+ * state carries them. A set that is widened and narrowed again, or narrowed and widened again, has the same bytes. */
+uint64_t cidhomba_narrow_states(const uint8_t *set, size_t set_length,
+                                uint8_t *out, size_t out_length);
 
 /* Whether the set lets in anything. Value: 0 for dead; for live the number of rows + 65536 * the levels of a
  * document that it lets in, none being lower, written to the front of rows. Refuses: set, 42, 41. */

@@ -1,6 +1,7 @@
 //! The Rust that the library is measured against answers as the reference does, refusals included.
 
 use bench::baseline;
+use generate::wide_export::{wide_export, wide_set, PARTS};
 use generate::{
     documents, json_export, json_lists, json_texts, lists, pairs, rows, set_bytes, sets, texts, Random,
 };
@@ -21,9 +22,10 @@ fn number_and_place(refusal: Refusal) -> (u8, usize) {
 fn sets_and_tables() {
     for seed in 0..SEEDS {
         let random = &mut Random::new(seed);
-        let automaton = sets::automaton(random, &sets::small_sizes());
+        let sizes = random.pick(&[sets::small_sizes, sets::many_tags_sizes])();
+        let automaton = sets::automaton(random, &sizes);
         let table = rows::lent(random, &automaton, 30, 70);
-        let set = set_bytes::stored(random, &automaton, 30);
+        let set = set_bytes::stored(random, &automaton, 50);
         let found = baseline::set::read(&set).and_then(|set| baseline::table::read(&set, &table));
         let expected = reference::check_document(&set, &table);
         assert_eq!(found.map(|_| ()), expected.map(|_| ()).map_err(number), "seed {seed}");
@@ -55,18 +57,43 @@ fn zeros() {
 fn judging() {
     for seed in 0..SEEDS {
         let random = &mut Random::new(seed);
-        let automaton = sets::automaton(random, &sets::tagged_sizes());
+        let sizes = random.pick(&[sets::tagged_sizes, sets::many_tags_sizes])();
+        let automaton = sets::automaton(random, &sizes);
         let Some(document) = documents::document(random, &automaton, 30) else { continue };
         let room = random.pick(&[0, 5, 100, 4096]);
-        let (set, rows) = (automaton.encode(), document.cells());
-        let found = baseline::membership::membership(&set, &rows, room);
-        let expected = reference::membership(&set, &rows, ANNOTATION_CELLS * room, STEP_CELLS * room);
-        if let Ok(Some(run)) = &found {
-            assert_eq!(reference::check_run(&set, &rows, run), Ok(()), "seed {seed}");
-        }
-        let expected = expected.map(|judgement| judgement.is_yes()).map_err(number);
-        assert_eq!(found.map(|run| run.is_some()), expected, "seed {seed}");
+        let set = set_bytes::stored(random, &automaton, 0);
+        judged_alike(&set, &document.cells(), room);
     }
+}
+
+/// Judges rows on both sides with room for so many annotations; answers whether they are let in, where there is room.
+fn judged_alike(set: &[u8], rows: &[u16], room: usize) -> Option<bool> {
+    let found = baseline::membership::membership(set, rows, room);
+    let expected = reference::membership(set, rows, ANNOTATION_CELLS * room, STEP_CELLS * room);
+    if let Ok(Some(run)) = &found {
+        assert_eq!(reference::check_run(set, rows, run), Ok(()), "set {set:?}, rows {rows:?}");
+    }
+    let expected = expected.map(|judgement| judgement.is_yes()).map_err(number);
+    let found = found.map(|run| run.is_some());
+    assert_eq!(found, expected, "set {set:?}, rows {rows:?}, room {room}");
+    found.ok()
+}
+
+/// The exports and the chain that are measured with sixteen tags, let in and turned away by each of them.
+#[test]
+fn judging_with_sixteen_tags() {
+    let set = wide_set().encode();
+    for servers in [1, 3, 20, 59] {
+        assert_eq!(judged_alike(&set, &wide_export(servers, None).cells(), 1024), Some(true));
+    }
+    for part in 0..PARTS {
+        let export = wide_export(5, Some(part));
+        assert_eq!(judged_alike(&set, &export.cells(), 1024), Some(false), "part {part}");
+    }
+    let set = sets::of_choices(16, 10);
+    let chain = documents::chain(&set, 16).expect("there is a leaf").cells();
+    assert_eq!(judged_alike(&set.encode(), &chain, 2052), Some(true));
+    assert_eq!(judged_alike(&set.encode(), &chain, 2051), None);
 }
 
 #[test]

@@ -1,9 +1,10 @@
 //! Shape sets and the documents that they let in: a safe wrapper over the verified library's C interface.
 //!
-//! A set is bytes in the stored form, a document is a table of rows of ten 16-bit cells, a run is steps of six;
-//! `docs/FORMATS.md` in the repository lays them out, and term text and JSON with their lists. Every function
-//! takes any input and either answers or refuses; a refusal writes to no result space. Spaces are lent: what comes
-//! back is the part at their front that was written, the rest is unchanged; only the judge's work space becomes zeros.
+//! A set is bytes in a stored form, with the tags of a state in one byte (the narrow form) or in two (the wide one), a
+//! document is a table of rows of ten 16-bit cells, a run is steps of six; `docs/FORMATS.md` in the repository lays them
+//! out, and term text and JSON with their lists. Every function takes any input and either answers or refuses; a refusal
+//! writes to no result space. Spaces are lent: what comes back is the part at their front that was written, the rest is
+//! unchanged; only the judge's work space becomes zeros.
 //!
 //! A call needs at most 128 KiB of stack, and reading JSON at most 256 KiB; it allocates nothing, and keeps no state,
 //! so that several threads may call at once.
@@ -74,12 +75,12 @@ pub const MAX_ROOM: usize = 4096;
 pub const MAX_STATES: usize = 256;
 /// What stands in a child place or a step place that is not used.
 pub const UNUSED: u16 = 65_535;
-/// Length of the longest set: 64 symbols, 256 states and 1,024 rules.
-pub const MAX_SET_BYTES: usize = 16 + 64 + 2 * 256 + 12 * 1024;
+/// Length of the longest set: 64 symbols, 256 states and 1,024 rules, in the wide form.
+pub const MAX_SET_BYTES: usize = 16 + 64 + 3 * 256 + 12 * 1024;
 /// Bytes of text space that the programs have; a table whose rows are shared much may stand for a longer text.
 pub const TEXT_BYTES: usize = 32_768;
 
-/// Whether bytes are a sound set.
+/// Whether bytes are a sound set, in either form.
 ///
 /// ```
 /// use cidhomba::{check_automaton, Reason};
@@ -174,8 +175,8 @@ pub fn membership<'a>(
     })
 }
 
-/// The set that lets in what either of two sets does, in the stored form; a space of [`MAX_SET_BYTES`] holds every
-/// result.
+/// The set that lets in what either of two sets does, in the wide form whatever the forms of the two; a space of
+/// [`MAX_SET_BYTES`] holds every result.
 ///
 /// ```
 /// use cidhomba::{check_automaton, union, Reason, MAX_SET_BYTES};
@@ -183,9 +184,9 @@ pub fn membership<'a>(
 /// let set = include_bytes!("../../../examples/e.set");
 /// let mut out = [0; MAX_SET_BYTES];
 /// let either = union(set, set, &mut out)?;
-/// assert_eq!(either.len(), 99);
+/// assert_eq!(either.len(), 103);
 /// assert_eq!(check_automaton(either), Ok(()));
-/// let refusal = union(set, set, &mut out[..98]).unwrap_err();
+/// let refusal = union(set, set, &mut out[..102]).unwrap_err();
 /// assert_eq!(refusal.reason, Reason::ResultSpace);
 /// # Ok::<(), cidhomba::Refusal>(())
 /// ```
@@ -194,8 +195,8 @@ pub fn union<'a>(first: &[u8], second: &[u8], out: &'a mut [u8]) -> Result<&'a [
     Ok(&out[..length])
 }
 
-/// The set that lets in what both of two sets do, in the stored form; a space of [`MAX_SET_BYTES`] holds every
-/// result.
+/// The set that lets in what both of two sets do, in the wide form whatever the forms of the two; a space of
+/// [`MAX_SET_BYTES`] holds every result.
 ///
 /// ```
 /// use cidhomba::{check_automaton, product, Reason, MAX_SET_BYTES};
@@ -204,7 +205,7 @@ pub fn union<'a>(first: &[u8], second: &[u8], out: &'a mut [u8]) -> Result<&'a [
 /// let agreed = include_bytes!("../../../examples/agreed.set");
 /// let mut out = [0; MAX_SET_BYTES];
 /// let both = product(set, set, &mut out)?;
-/// assert_eq!(both.len(), 63);
+/// assert_eq!(both.len(), 67);
 /// assert_eq!(check_automaton(both), Ok(()));
 /// let refusal = product(set, agreed, &mut out).unwrap_err();
 /// assert_eq!(refusal.reason, Reason::SetsDiffer);
@@ -212,6 +213,49 @@ pub fn union<'a>(first: &[u8], second: &[u8], out: &'a mut [u8]) -> Result<&'a [
 /// ```
 pub fn product<'a>(first: &[u8], second: &[u8], out: &'a mut [u8]) -> Result<&'a [u8], Refusal> {
     let length = Refusal::or_value(interface::product(first, second, out))?;
+    Ok(&out[..length])
+}
+
+/// A narrow set in the wide form, which has the tags of a state in two bytes and lets in the same documents. The set may
+/// not be wide already; a space of [`MAX_SET_BYTES`] holds every result.
+///
+/// ```
+/// use cidhomba::{check_automaton, widen_states, Reason, MAX_SET_BYTES};
+///
+/// let set = include_bytes!("../../../examples/e.set");
+/// let (mut out, mut again) = ([0; MAX_SET_BYTES], [0; MAX_SET_BYTES]);
+/// let wide = widen_states(set, &mut out)?;
+/// assert_eq!(wide.len(), set.len() + 2); // one byte more for each of two states
+/// assert_eq!(check_automaton(wide), Ok(()));
+/// let refusal = widen_states(wide, &mut again).unwrap_err();
+/// assert_eq!(refusal.reason, Reason::SetForm);
+/// # Ok::<(), cidhomba::Refusal>(())
+/// ```
+pub fn widen_states<'a>(set: &[u8], out: &'a mut [u8]) -> Result<&'a [u8], Refusal> {
+    let length = Refusal::or_value(interface::widen_states(set, out))?;
+    Ok(&out[..length])
+}
+
+/// A wide set in the narrow form, which has the tags of a state in one byte and lets in the same documents. The set must be
+/// wide and have at most 8 tags, whether or not a state carries them. Widening and narrowing undo each other byte for byte.
+///
+/// ```
+/// use cidhomba::{narrow_states, union, widen_states, Reason, MAX_SET_BYTES};
+///
+/// let set = include_bytes!("../../../examples/e.set");
+/// let (mut out, mut back) = ([0; MAX_SET_BYTES], [0; MAX_SET_BYTES]);
+/// let wide = widen_states(set, &mut out)?;
+/// assert_eq!(narrow_states(wide, &mut back)?, set);
+/// let mut many = wide.to_vec();
+/// many[4] = 9; // the header's number of tags
+/// let refusal = narrow_states(&many, &mut back).unwrap_err();
+/// assert_eq!(refusal.reason, Reason::SetTags);
+/// let either = union(set, set, &mut out)?; // unions are wide
+/// assert_eq!(narrow_states(either, &mut back)?.len(), either.len() - 4);
+/// # Ok::<(), cidhomba::Refusal>(())
+/// ```
+pub fn narrow_states<'a>(set: &[u8], out: &'a mut [u8]) -> Result<&'a [u8], Refusal> {
+    let length = Refusal::or_value(interface::narrow_states(set, out))?;
     Ok(&out[..length])
 }
 

@@ -63,11 +63,31 @@ fn judging() {
 fn two_sets() {
     let set = set_e();
     let mut out = [0; MAX_SET_BYTES];
-    // 16 + 3 + 2 * 4 + 12 * 6 bytes; of the product's rules each symbol has one.
-    assert_eq!(union(&set, &set, &mut out).map(<[u8]>::len), Ok(99));
-    assert_eq!(product(&set, &set, &mut out).map(<[u8]>::len), Ok(63));
-    assert_eq!(union(&set, &set, &mut out[..98]), Err(refused(Reason::ResultSpace)));
+    // 16 + 3 + 3 * 4 + 12 * 6 bytes; of the product's rules each symbol has one.
+    assert_eq!(union(&set, &set, &mut out).map(<[u8]>::len), Ok(103));
+    assert_eq!(product(&set, &set, &mut out).map(<[u8]>::len), Ok(67));
+    assert_eq!(union(&set, &set, &mut out[..102]), Err(refused(Reason::ResultSpace)));
     assert_eq!(product(&set, &set[..58], &mut out), Err(refused(Reason::SetLengths)));
+}
+
+#[test]
+fn two_forms() {
+    let set = set_e();
+    let (mut out, mut back) = ([9; 70], [9; 70]);
+    let expected = [&set[..12], &[25, 0, 61, 0, 2, 0, 0, 0, 1, 0, 1, 0, 0], &set[23..]].concat();
+    let wide = widen_states(&set, &mut out).expect("E is narrow");
+    assert_eq!(wide, expected);
+    assert_eq!(narrow_states(wide, &mut back), Ok(&set[..]));
+    assert_eq!(back[59..], [9; 11]);
+    assert_eq!(widen_states(wide, &mut back), Err(refused(Reason::SetForm)));
+    assert_eq!(narrow_states(&set, &mut back), Err(refused(Reason::SetForm)));
+    assert_eq!(narrow_states(wide, &mut back[..58]), Err(refused(Reason::ResultSpace)));
+    assert_eq!(narrow_states(&wide[..60], &mut back), Err(refused(Reason::SetLengths)));
+    let mut many = wide.to_vec();
+    many[4] = 9;
+    assert_eq!(narrow_states(&many, &mut back), Err(refused(Reason::SetTags)));
+    assert_eq!(widen_states(&set, &mut out[..60]), Err(refused(Reason::ResultSpace)));
+    assert_eq!(out[61..], [9; 9]);
 }
 
 #[test]

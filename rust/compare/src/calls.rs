@@ -87,6 +87,37 @@ fn passes_the_check(case: &Case, set: &[u8], rows: &[u16], run: &[u16]) {
     }
 }
 
+/// Compares the widening of a set into a space of so many bytes.
+pub fn widen_states(set: &[u8], space: usize) -> Answer {
+    moved("widen_states", interface::widen_states, reference::widen_states, set, space)
+}
+
+/// Compares the narrowing of a set into a space of so many bytes.
+pub fn narrow_states(set: &[u8], space: usize) -> Answer {
+    moved("narrow_states", interface::narrow_states, reference::narrow_states, set, space)
+}
+
+/// Compares a move of a set to the other form.
+fn moved(
+    function: &'static str,
+    by_library: fn(&[u8], &mut [u8]) -> u64,
+    by_reference: fn(&[u8], usize) -> Result<Vec<u8>, Refusal>,
+    set: &[u8],
+    space: usize,
+) -> Answer {
+    let inputs = [("set", Input::Set(set)), ("out", Input::Space(space))];
+    let mut out = Lent::of_length(space);
+    let library = Answer::of_library(by_library(set, out.space()));
+    let result = by_reference(set, space);
+    let written = result.clone().unwrap_or_default();
+    let reference = Answer::of_reference(result.map(|bytes| bytes.len()));
+    let expected = Expected::Exactly(reference);
+    let case = Case { function, inputs: &inputs, library, expected };
+    case.same_answer();
+    case.same_space("out", &out, &out.with_front(&written));
+    reference
+}
+
 /// Compares the reading of a text into a row space of so many cells.
 pub fn read_term(set: &[u8], site: &[u8], built_in: &[u8], text: &[u8], row_cells: usize) -> Answer {
     read_term_saved(set, (site, built_in), (site, built_in), text, row_cells)

@@ -7,7 +7,7 @@ use compare::tally::{Tally, SET};
 use generate::{set_bytes, sets, Random};
 use reference::examples::{rule, set_b, set_d, set_e, set_g, state};
 use reference::limits::{HEADER_BYTES, RULE_BYTES};
-use reference::{Automaton, Rule};
+use reference::{Automaton, Form, Rule};
 
 /// Compares one call, and answers what both answered.
 fn compare(set: &[u8]) -> Answer {
@@ -22,6 +22,17 @@ fn compare(set: &[u8]) -> Answer {
 /// The number that a set is refused with, if it is.
 fn number(automaton: &Automaton) -> Option<u8> {
     compare(&automaton.encode()).number()
+}
+
+/// The number that a set in a form is refused with, if it is.
+fn number_in(form: Form, automaton: &Automaton) -> Option<u8> {
+    compare(&automaton.encode_in(form)).number()
+}
+
+/// The examples in both forms.
+fn examples() -> impl Iterator<Item = Vec<u8>> {
+    let sets = [set_e(), set_g(), set_d(), set_b()];
+    sets.into_iter().flat_map(|set| Form::BOTH.map(|form| set.encode_in(form)))
 }
 
 #[test]
@@ -40,8 +51,7 @@ fn seeded_sets() {
 #[test]
 fn every_value_of_every_byte_of_the_examples() {
     let mut tally = Tally::of("check_automaton, byte by byte");
-    for automaton in [set_e(), set_g(), set_d(), set_b()] {
-        let sound = automaton.encode();
+    for sound in examples() {
         for at in 0..sound.len() {
             for value in 0..=255 {
                 let mut set = sound.clone();
@@ -55,8 +65,7 @@ fn every_value_of_every_byte_of_the_examples() {
 
 #[test]
 fn every_length_of_the_examples() {
-    for automaton in [set_e(), set_g(), set_d(), set_b()] {
-        let sound = automaton.encode();
+    for sound in examples() {
         let longer = [&sound[..], &sound[..]].concat();
         for length in 0..=longer.len() {
             let expected = match length {
@@ -72,15 +81,44 @@ fn every_length_of_the_examples() {
 #[test]
 fn every_number_of_a_middling_set() {
     let automaton = sets::automaton(&mut Random::new(7), &sets::medium_sizes());
-    let sound = automaton.encode();
-    let rules_at = sound.len() - RULE_BYTES * automaton.rules.len();
-    let header = (0..HEADER_BYTES).step_by(2);
-    for at in header.chain((rules_at..sound.len()).step_by(2)) {
-        let old = u16::from_le_bytes([sound[at], sound[at + 1]]);
-        for value in [0, 1, 39, 40, 255, 256, 1024, 32_768, 65_534, 65_535, old ^ 1, old ^ 256, !old] {
-            let mut set = sound.clone();
-            set[at..at + 2].copy_from_slice(&value.to_le_bytes());
-            compare(&set);
+    for sound in Form::BOTH.map(|form| automaton.encode_in(form)) {
+        let rules_at = sound.len() - RULE_BYTES * automaton.rules.len();
+        let header = (0..HEADER_BYTES).step_by(2);
+        for at in header.chain((rules_at..sound.len()).step_by(2)) {
+            let old = u16::from_le_bytes([sound[at], sound[at + 1]]);
+            for value in [0, 1, 39, 40, 255, 256, 1024, 32_768, 65_534, 65_535, old ^ 1, old ^ 256, !old] {
+                let mut set = sound.clone();
+                set[at..at + 2].copy_from_slice(&value.to_le_bytes());
+                compare(&set);
+            }
+        }
+    }
+}
+
+/// A set in a form whose header has another offset of the rules and another total.
+fn with_lengths(automaton: &Automaton, form: Form, rules_offset: usize, total: usize) -> Vec<u8> {
+    let mut set = automaton.encode_in(form);
+    for (at, number) in [(12, rules_offset), (14, total)] {
+        set[at..at + 2].copy_from_slice(&(number as u16).to_le_bytes());
+    }
+    set
+}
+
+/// The distance from the states to the rules tells the form, and total and length must be that form's.
+#[test]
+fn every_distance_with_the_lengths_of_both_forms() {
+    for states in [1, 2, 3, 12, 24] {
+        let automaton = of_counts(2, states, 0, 5 % states);
+        let rules = automaton.rules.len();
+        for form in Form::BOTH {
+            for rules_offset in 0..16 + 2 + 5 * states {
+                for total in Form::BOTH.map(|form| form.total(2, states, rules)) {
+                    let set = with_lengths(&automaton, form, rules_offset, total);
+                    let is_sound = rules_offset == form.rules_offset(2, states) && total == set.len();
+                    let expected = if is_sound { None } else { Some(3) };
+                    assert_eq!(compare(&set).number(), expected, "{states} {form:?} {rules_offset} {total}");
+                }
+            }
         }
     }
 }
@@ -112,13 +150,23 @@ fn counts_at_their_limits() {
         (1, 256, 0, 5, None),
         (1, 257, 0, 5, Some(2)),
         (1, 64, 8, 5, None),
-        (1, 64, 9, 5, Some(2)),
-        (1, 64, 16, 5, Some(2)),
+        (1, 64, 17, 5, Some(2)),
+        (1, 64, 255, 5, Some(2)),
         (1, 64, 0, 1024, None),
         (1, 64, 0, 1025, Some(2)),
     ] {
         let automaton = of_counts(symbols, states, tags, rules);
-        assert_eq!(number(&automaton), expected, "{symbols} {states} {tags} {rules}");
+        for form in Form::BOTH {
+            let found = number_in(form, &automaton);
+            assert_eq!(found, expected, "{form:?} {symbols} {states} {tags} {rules}");
+        }
+    }
+    for (tags, narrow) in (0..=16).map(|tags| (tags, if tags > 8 { Some(3) } else { None })) {
+        for (symbols, states, rules) in [(1, 64, 5), (64, 256, 1024)] {
+            let automaton = of_counts(symbols, states, tags, rules);
+            assert_eq!(number_in(Form::Narrow, &automaton), narrow, "{tags} tags");
+            assert_eq!(number_in(Form::Wide, &automaton), None, "{tags} tags");
+        }
     }
 }
 
@@ -132,13 +180,37 @@ fn children_at_their_limits() {
 }
 
 #[test]
-fn tags_and_final_bytes_at_their_limits() {
+fn tags_at_their_limits() {
+    let fits = |mask: u16, tags: usize| if u32::from(mask) < 1 << tags { None } else { Some(5) };
     for tags in 0..=8 {
-        for mask in 0..=255u8 {
+        for mask in 0..=255 {
             let mut automaton = of_counts(2, 256, tags, 3);
             automaton.states[255].tags = mask;
-            let expected = if u16::from(mask) < 1 << tags { None } else { Some(5) };
-            assert_eq!(number(&automaton), expected, "{tags} tags, mask {mask}");
+            for form in Form::BOTH {
+                assert_eq!(number_in(form, &automaton), fits(mask, tags), "{tags} tags, mask {mask}");
+            }
+        }
+    }
+    for tags in 0..=16 {
+        for mask in (0..=255).flat_map(|byte| [byte << 8, byte << 8 | 1, byte << 4]) {
+            let mut automaton = of_counts(2, 3, tags, 3);
+            automaton.states[2].tags = mask;
+            assert_eq!(number_in(Form::Wide, &automaton), fits(mask, tags), "{tags} tags, mask {mask}");
+        }
+    }
+}
+
+#[test]
+fn final_bytes_in_either_form() {
+    for form in Form::BOTH {
+        let sound = of_counts(2, 256, 8, 3).encode_in(form);
+        for state in [0, 1, 127, 254, 255] {
+            for value in [0, 1, 2, 3, 128, 255] {
+                let mut set = sound.clone();
+                set[form.states_offset(2) + form.state_bytes() * state] = value;
+                let expected = if value > 1 { Some(5) } else { None };
+                assert_eq!(compare(&set).number(), expected, "{form:?}, state {state}, byte {value}");
+            }
         }
     }
 }

@@ -8,14 +8,18 @@ use reference::examples::{rule, set_b, set_e, set_g, state};
 use reference::limits::STEP_CELLS;
 use reference::membership::judge;
 use reference::run::run_cells;
-use reference::{Automaton, Document, Row, Scalar, Step};
+use reference::{Automaton, Document, Form, Row, Scalar, Step};
+
+/// Sets of these sizes have runs checked.
+const SIZES: [fn() -> sets::Sizes; 4] =
+    [sets::tiny_sizes, sets::small_sizes, sets::tagged_sizes, sets::many_tags_sizes];
 
 #[test]
 fn seeded_runs() {
     let mut tally = Tally::of("check_run");
     for seed in 0..40_000 {
         let random = &mut Random::new(seed);
-        let sizes = random.pick(&[sets::tiny_sizes, sets::small_sizes, sets::tagged_sizes])();
+        let sizes = random.pick(&SIZES)();
         let automaton = sets::automaton(random, &sizes);
         let most = random.pick(&[2, 5, 12]);
         let Some(document) = documents::document(random, &automaton, most) else { continue };
@@ -114,6 +118,31 @@ fn a_run_without_rules_to_name() {
     let step = [0, 0, 65_535, 65_535, 65_535, 65_535];
     assert_eq!(compare(&set.encode(), &document.cells(), &step).number(), Some(22));
     assert_eq!(compare(&set.encode(), &document.cells(), &[]).number(), Some(21));
+}
+
+/// E with another tag, out of as many as a form can hold, instead of tag 0.
+fn e_with_tag(tag: usize, form: Form) -> Automaton {
+    let mut set = set_e();
+    set.tag_count = form.most_tags();
+    set.states[0].tags = 1 << tag;
+    set
+}
+
+#[test]
+fn each_tag_may_go_to_one_row() {
+    let leaf = |count| Row { symbol: 1, children: vec![], scalar: Scalar::Count(count) };
+    let pair = Row { symbol: 0, children: vec![0, 1], scalar: Scalar::Bare };
+    let rows = Document { rows: vec![leaf(7), leaf(8), pair] }.cells();
+    let step = |rule, row, children: &[usize]| Step { rule, row, children: children.to_vec() };
+    let run = run_cells(&[step(1, 0, &[]), step(1, 1, &[]), step(0, 2, &[0, 1])]);
+    for (form, tag) in
+        Form::BOTH.into_iter().flat_map(|form| (0..form.most_tags()).map(move |tag| (form, tag)))
+    {
+        let mut set = e_with_tag(tag, form);
+        assert_eq!(compare(&set.encode_in(form), &rows, &run).number(), Some(24), "{form:?}, tag {tag}");
+        set.states[0].tags = 0;
+        assert_eq!(compare(&set.encode_in(form), &rows, &run).number(), None, "{form:?}, without tag {tag}");
+    }
 }
 
 #[test]

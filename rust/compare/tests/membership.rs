@@ -4,6 +4,7 @@ use cidhomba::interface::membership;
 use compare::answer::Answer;
 use compare::calls::membership as compare;
 use compare::tally::{Tally, SET, TABLE};
+use generate::wide_export::{wide_export, wide_set, PARTS};
 use generate::{documents, rows, set_bytes, sets, Random};
 use reference::boolean::multiplied;
 use reference::examples::{rule, set_b, set_d, set_e, set_g, state};
@@ -35,8 +36,8 @@ fn telling_room(random: &mut Random, automaton: &Automaton, document: &Document)
 }
 
 /// Sets of these sizes are judged.
-const SIZES: [fn() -> sets::Sizes; 4] =
-    [sets::tiny_sizes, sets::small_sizes, sets::tagged_sizes, sets::medium_sizes];
+const SIZES: [fn() -> sets::Sizes; 5] =
+    [sets::tiny_sizes, sets::small_sizes, sets::tagged_sizes, sets::many_tags_sizes, sets::medium_sizes];
 
 #[test]
 fn seeded_documents() {
@@ -73,7 +74,8 @@ fn documents_grown_along_the_rules() {
     let mut tally = Tally::of("membership, grown documents");
     for seed in 0..9000 {
         let random = &mut Random::new(seed);
-        let automaton = sets::automaton(random, &sets::tagged_sizes());
+        let sizes = random.pick(&[sets::tagged_sizes, sets::many_tags_sizes])();
+        let automaton = sets::automaton(random, &sizes);
         let Some(document) = documents::grown(random, &automaton, 60) else { continue };
         let room = random.pick(&[20, 500, 500]);
         let answer = compare_with_room(&automaton, &document, room);
@@ -181,7 +183,7 @@ fn a_set_and_a_document_at_the_limits() {
     let set = Automaton {
         arities: vec![1, 2, 4, 0],
         states: (0..256).map(|number| state(number == 200, 0)).collect(),
-        tag_count: 8,
+        tag_count: 16,
         rules,
     };
     assert_eq!(set.rules.len(), 1024);
@@ -204,6 +206,38 @@ fn a_chain_of_256_levels_with_tags() {
     assert!(matches!(compare_with_room(&set, &document, 1000), Answer::Value(30)));
     let document = documents::chain(&set, 256).expect("there is a leaf");
     assert_eq!(compare_with_room(&set, &document, MAX_ROOM).number(), Some(31));
+}
+
+/// Sixteen parts of each server must be those of the others, and each has a tag of its own.
+#[test]
+fn all_sixteen_tags_decide() {
+    let set = wide_set();
+    for servers in [1, 2, 20, 59] {
+        let export = wide_export(servers, None);
+        let rows = export.rows.len();
+        assert_eq!(compare_with_room(&set, &export, rows), Answer::Value(rows as u64), "{servers} servers");
+        assert_eq!(compare_with_room(&set, &export, rows - 1).number(), Some(31), "{servers} servers");
+    }
+    for part in 0..PARTS {
+        let export = wide_export(3, Some(part));
+        assert_eq!(compare_with_room(&set, &export, 100), Answer::Value(0), "part {part}");
+        let mut without = set.clone();
+        without.states.iter_mut().for_each(|state| state.tags &= !(1 << part));
+        assert!(matches!(compare_with_room(&without, &export, 100), Answer::Value(steps) if steps > 0));
+    }
+}
+
+/// A chain in which each row may carry a tag of its own or not, so that every set of tags is remembered on its last row.
+#[test]
+fn memories_of_many_tags() {
+    for (tags, free) in [(8, 8), (11, 11), (16, 10)] {
+        let set = sets::of_choices(tags, free);
+        let document = documents::chain(&set, tags).expect("there is a leaf");
+        let annotations = tags - free + (2 << free) - 2;
+        let yes = compare_with_room(&set, &document, annotations);
+        assert_eq!(yes, Answer::Value(tags as u64), "{tags} tags");
+        assert_eq!(compare_with_room(&set, &document, annotations - 1).number(), Some(31), "{tags} tags");
+    }
 }
 
 /// Document 01, "Three traps on the way": the product with a tag for each of its tagged states.

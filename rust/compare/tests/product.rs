@@ -38,14 +38,20 @@ fn results_at_the_limits() {
         (of_counts(5, 8, 5), of_counts(5, 0, 5), None),
         (of_counts(5, 0, 5), of_counts(5, 8, 5), None),
         (of_counts(5, 3, 5), of_counts(5, 5, 5), None),
-        (of_counts(5, 8, 5), of_counts(5, 1, 5), Some(52)),
-        (of_counts(5, 5, 5), of_counts(5, 4, 5), Some(52)),
+        (of_counts(5, 8, 5), of_counts(5, 8, 5), None),
+        (of_counts(5, 8, 5), of_counts(5, 9, 5), Some(52)),
+        (of_counts(5, 9, 5), of_counts(5, 7, 5), None),
+        (of_counts(5, 16, 5), of_counts(5, 0, 5), None),
+        (of_counts(5, 0, 5), of_counts(5, 16, 5), None),
+        (of_counts(5, 15, 5), of_counts(5, 1, 5), None),
+        (of_counts(5, 16, 5), of_counts(5, 1, 5), Some(52)),
+        (of_counts(5, 16, 5), of_counts(5, 16, 5), Some(52)),
         (of_counts(5, 0, 32), of_counts(5, 0, 32), None),
         (of_counts(6, 0, 1024), of_counts(5, 0, 1), None),
         (of_counts(6, 0, 1024), of_counts(5, 0, 0), None),
         (of_counts(5, 0, 25), of_counts(5, 0, 41), Some(52)),
         (of_counts(6, 0, 1024), of_counts(6, 0, 1024), Some(52)),
-        (of_counts(16, 4, 32), of_counts(16, 4, 32), None),
+        (of_counts(16, 8, 32), of_counts(16, 8, 32), None),
     ] {
         assert_eq!(PRODUCT.number(&first, &second), expected);
     }

@@ -169,7 +169,7 @@ fn set_and_text(random: &mut Random) -> (Automaton, Vec<u8>) {
         let text = texts::of_loads(random, &automaton, &plain_names(&automaton));
         return (automaton, text.unwrap_or_default());
     }
-    let sizes = random.pick(&[sets::small_sizes, sets::tagged_sizes])();
+    let sizes = random.pick(&[sets::small_sizes, sets::tagged_sizes, sets::many_tags_sizes])();
     let automaton = sets::automaton(random, &sizes);
     let names = plain_names(&automaton);
     let text = match documents::grown(random, &automaton, 300) {
@@ -289,9 +289,11 @@ fn sets_at_the_limits() {
     let short = &set_e().encode()[..58];
     assert_eq!(SAMPLE.compare(short), "refused 3\n");
     assert_eq!(JUDGE.compare(short), "refused 3\n");
-    let largest = sets::automaton(&mut Random::new(5), &sets::largest_sizes());
-    SAMPLE.compare(&largest.encode());
-    judge(&largest, "s0");
+    for sizes in [sets::largest_narrow_sizes(), sets::largest_sizes()] {
+        let largest = sets::automaton(&mut Random::new(5), &sizes);
+        SAMPLE.compare(&largest.encode());
+        judge(&largest, "s0");
+    }
 }
 
 /// A set that lets in one tree only, whose text has so many bytes: doubled as long as it fits, then filled up.

@@ -36,7 +36,7 @@ fn seeded(random: &mut Random) -> Call {
     let text = texts::text(random, &automaton, &names, 60);
     let plenty = ROW_CELLS * random.pick(&[MAX_ROWS, MAX_ROWS, MAX_ROWS + 5, 60]);
     let row_cells = if random.percent(15) { random.below(120) } else { plenty };
-    let set = set_bytes::stored(random, &automaton, 10);
+    let set = set_bytes::stored(random, &automaton, 13);
     Call { set, site, built_in, text, row_cells }
 }
 

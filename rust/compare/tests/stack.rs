@@ -5,6 +5,7 @@ use std::thread;
 
 use cidhomba::*;
 use generate::runs::unfolded;
+use generate::wide_export::{wide_export, wide_set};
 use generate::{documents, Random};
 use reference::examples::{rule, set_g, state};
 use reference::membership::judge;
@@ -235,6 +236,13 @@ fn the_largest_tables_are_judged() {
     assert_eq!(judged(&set.encode(), deep), NESTED_ROWS);
 }
 
+/// 1,020 rows with an annotation each, most of them with a row for each of sixteen tags.
+#[test]
+fn a_table_with_sixteen_tags_is_judged() {
+    let export = wide_export(59, None);
+    assert_eq!(judged(&wide_set().encode(), &export.cells()), export.rows.len());
+}
+
 #[test]
 fn the_longest_run_is_checked() {
     let set = lenient(1);
@@ -274,9 +282,23 @@ fn a_product_of_1024_rules_is_sorted() {
 
 #[test]
 fn a_union_of_1024_rules_is_merged() {
-    let set = over_one_symbol(128, 4, (0..512).map(|n| rule(0, &[n / 4], n % 4)).collect());
+    let set = over_one_symbol(128, 8, (0..512).map(|n| rule(0, &[n / 4], n % 4)).collect());
     let mut out = vec![0; MAX_SET_BYTES];
     let either = with_little_stack(|| union(&set, &set, &mut out)).expect("the result fits");
-    assert_eq!(either[2..8], [256u16.to_le_bytes(), 8u16.to_le_bytes(), 1024u16.to_le_bytes()].concat());
+    assert_eq!(either[2..8], [256u16.to_le_bytes(), 16u16.to_le_bytes(), 1024u16.to_le_bytes()].concat());
     assert_eq!(with_little_stack(|| check_automaton(either)), Ok(()));
+}
+
+#[test]
+fn the_longest_sets_are_moved_to_the_other_form() {
+    let mut set = lenient(16);
+    set.states.resize(MAX_STATES, state(true, 255));
+    set.tag_count = 8;
+    assert_eq!((set.arities.len(), set.rules.len()), (64, 1024));
+    let narrow = set.encode();
+    let (mut out, mut back) = (vec![0; MAX_SET_BYTES], vec![0; MAX_SET_BYTES]);
+    let wide = with_little_stack(|| widen_states(&narrow, &mut out)).expect("the result fits");
+    assert_eq!(wide.len(), MAX_SET_BYTES);
+    assert_eq!(with_little_stack(|| check_automaton(wide)), Ok(()));
+    assert_eq!(with_little_stack(|| narrow_states(wide, &mut back)), Ok(&narrow[..]));
 }

@@ -4,7 +4,7 @@ use cidhomba::*;
 use generate::sets::{
     layered, layered_over_symbols, over_symbols, separate_tags, tiny_sizes, with_own_tags, Sizes,
 };
-use generate::{documents, sets, trees, Random};
+use generate::{documents, set_bytes, sets, trees, Random};
 use reference::examples::{set_b, set_e};
 use reference::{Automaton, Document, Row, Scalar};
 
@@ -26,14 +26,16 @@ fn judged(set: &[u8], rows: &[u16]) -> Option<bool> {
 
 #[test]
 fn union_and_product_mean_either_and_both() {
-    let sizes = Sizes { states: 1..=6, tags: 0..=4, rules: 4..=40, ..sets::small_sizes() };
     let mut seen = [[0; 2]; 2];
     for seed in 0..6000 {
         let random = &mut Random::new(seed);
+        let tags = random.pick(&[4, 8]);
+        let sizes = Sizes { states: 1..=6, tags: 0..=tags, rules: 4..=40, ..sets::small_sizes() };
         let first = sets::automaton(random, &sizes);
         let second = over_symbols(random, &sizes, first.arities.clone());
         let Some(document) = documents::document(random, &first, 12) else { continue };
-        let (first, second, rows) = (first.encode(), second.encode(), document.cells());
+        let [first, second] = [first, second].map(|set| set_bytes::stored(random, &set, 0));
+        let rows = document.cells();
         let (mut either, mut both) = (vec![0; MAX_SET_BYTES], vec![0; MAX_SET_BYTES]);
         let either = union(&first, &second, &mut either).expect("within the limits");
         let Ok(both) = product(&first, &second, &mut both) else { continue };
@@ -73,7 +75,7 @@ fn a_lowest_document_is_sound_and_let_in() {
         let random = &mut Random::new(seed);
         let sizes = random.pick(&[sets::small_sizes, sets::medium_sizes, sets::largest_sizes])();
         let automaton = random.pick(&[layered, with_own_tags])(random, &sizes);
-        let (set, mut rows) = (automaton.encode(), vec![0; ROW_CELLS * MAX_STATES]);
+        let (set, mut rows) = (set_bytes::stored(random, &automaton, 0), vec![0; ROW_CELLS * MAX_STATES]);
         match witness(&set, &mut rows) {
             Ok(Witness::Live { rows, .. }) => {
                 assert_eq!(check_document(&set, rows), Ok(()), "seed {seed}");

@@ -36,13 +36,19 @@ fn results_at_the_limits() {
         (of_counts(20, 8, 5), of_counts(20, 0, 5), None),
         (of_counts(20, 0, 5), of_counts(20, 8, 5), None),
         (of_counts(20, 3, 5), of_counts(20, 5, 5), None),
-        (of_counts(20, 8, 5), of_counts(20, 1, 5), Some(52)),
-        (of_counts(20, 5, 5), of_counts(20, 4, 5), Some(52)),
+        (of_counts(20, 8, 5), of_counts(20, 8, 5), None),
+        (of_counts(20, 8, 5), of_counts(20, 9, 5), Some(52)),
+        (of_counts(20, 9, 5), of_counts(20, 7, 5), None),
+        (of_counts(20, 16, 5), of_counts(20, 0, 5), None),
+        (of_counts(20, 0, 5), of_counts(20, 16, 5), None),
+        (of_counts(20, 15, 5), of_counts(20, 1, 5), None),
+        (of_counts(20, 16, 5), of_counts(20, 1, 5), Some(52)),
+        (of_counts(20, 16, 5), of_counts(20, 16, 5), Some(52)),
         (of_counts(20, 0, 512), of_counts(20, 0, 512), None),
         (of_counts(20, 0, 1024), of_counts(20, 0, 0), None),
         (of_counts(20, 0, 1024), of_counts(20, 0, 1), Some(52)),
         (of_counts(20, 0, 513), of_counts(20, 0, 512), Some(52)),
-        (of_counts(128, 4, 512), of_counts(128, 4, 512), None),
+        (of_counts(128, 8, 512), of_counts(128, 8, 512), None),
     ] {
         assert_eq!(UNION.number(&first, &second), expected);
     }

@@ -8,7 +8,7 @@ use compare::tally::{Tally, SET};
 use generate::{set_bytes, sets, Random};
 use reference::examples::{rule, set_b, set_d, set_e, set_g, state};
 use reference::limits::ROW_CELLS;
-use reference::{Automaton, Document};
+use reference::{Automaton, Document, Form};
 
 /// Compares one call with a row space of so many cells, and answers what both answered.
 fn compare(set: &[u8], row_cells: usize) -> Answer {
@@ -68,11 +68,12 @@ fn seeded_sets() {
 fn the_examples_with_every_space() {
     for (set, rows, levels) in [(set_e(), 2, 2), (set_g(), 1, 1), (set_d(), 0, 0), (set_b(), 2, 2)] {
         for space in 0..=ROW_CELLS * (set.states.len() + 2) {
-            let answer = compare(&set.encode(), space);
-            if space < ROW_CELLS * set.states.len() {
-                assert_eq!(answer.number(), Some(42));
-            } else {
-                assert_eq!(answer, Answer::Value(rows + 65_536 * levels));
+            for answer in Form::BOTH.map(|form| compare(&set.encode_in(form), space)) {
+                if space < ROW_CELLS * set.states.len() {
+                    assert_eq!(answer.number(), Some(42));
+                } else {
+                    assert_eq!(answer, Answer::Value(rows + 65_536 * levels));
+                }
             }
         }
     }
@@ -142,13 +143,13 @@ fn the_first_rule_in_stored_order_builds_the_tree() {
 
 #[test]
 fn a_shared_tag_is_found_wherever_it_stands() {
-    for tag in 0..8 {
+    for (tag_count, tag) in [8, 16].into_iter().flat_map(|count| (0..count).map(move |tag| (count, tag))) {
         for (one, other) in [(0, 1), (0, 255), (127, 128), (254, 255)] {
             let mut set = doubling_set(|layer| layer);
-            set.tag_count = 8;
+            set.tag_count = tag_count;
             set.states[one].tags = 1 << tag;
             assert_eq!(compare(&set.encode(), 2560), Answer::Value(256 + 65_536 * 256));
-            set.states[other].tags = 255;
+            set.states[other].tags = ((1u32 << tag_count) - 1) as u16;
             assert_eq!(compare(&set.encode(), 2560).number(), Some(41), "tag {tag} on {one}, {other}");
         }
     }

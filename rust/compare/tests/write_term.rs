@@ -28,7 +28,7 @@ fn seeded(random: &mut Random) -> Call {
     let (site, built_in) = lists::both(random, automaton.arities.len(), 15);
     let most = random.pick(&[1, 4, 12, 12, 60]);
     let rows = rows::lent(random, &automaton, most, 35);
-    let set = set_bytes::stored(random, &automaton, 12);
+    let set = set_bytes::stored(random, &automaton, 15);
     let length = text_length(&set, &site, &built_in, &rows);
     let space = random.pick(&[length, length, length + 1, length + 50, length.saturating_sub(1)]);
     let space = if random.percent(5) { random.below(length + 1) } else { space };

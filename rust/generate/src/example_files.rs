@@ -1,7 +1,7 @@
 //! The files of `examples/`, made anew.
 
 use reference::examples::set_e;
-use reference::{Document, Row, Scalar};
+use reference::{Document, Form, Row, Scalar};
 
 use crate::export::{agreed_set, dead_set, export_text, name_list, Columns};
 use crate::json_export::{self, key_list, Layout};
@@ -17,6 +17,7 @@ pub fn all() -> Vec<(&'static str, Vec<u8>)> {
     let json = |columns: Columns| json_export::export_text(SERVERS, columns, Layout::Pretty).into_bytes();
     vec![
         ("e.set", set_e().encode()),
+        ("e-wide.set", set_e().encode_in(Form::Wide)),
         ("pair-7-7.rows", bytes(&pair(&[7]))),
         ("pair-7-8.rows", bytes(&pair(&[7, 8]))),
         ("pair-7-7.run", low_byte_first(&RUN)),

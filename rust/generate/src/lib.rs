@@ -21,5 +21,6 @@ pub mod set_bytes;
 pub mod sets;
 pub mod texts;
 pub mod trees;
+pub mod wide_export;
 
 pub use random::Random;

@@ -3,8 +3,8 @@
 use std::collections::BTreeSet;
 use std::ops::RangeInclusive;
 
-use reference::limits::{MAX_RULES, MAX_STATES, MAX_SYMBOLS, MAX_TAGS};
-use reference::{Automaton, Rule, State};
+use reference::limits::{MAX_NARROW_TAGS, MAX_RULES, MAX_STATES, MAX_SYMBOLS, MAX_TAGS};
+use reference::{Automaton, Form, Rule, State};
 
 use crate::trees::all_lists;
 use crate::Random;
@@ -33,9 +33,19 @@ pub fn tagged_sizes() -> Sizes {
     Sizes { symbols: 2..=5, states: 2..=6, tags: 1..=8, rules: 8..=40 }
 }
 
+/// Small sets with more tags than the narrow form has bits for, so that tags of both bytes of a mask decide.
+pub fn many_tags_sizes() -> Sizes {
+    Sizes { states: 2..=8, tags: MAX_NARROW_TAGS + 1..=MAX_TAGS, ..tagged_sizes() }
+}
+
 /// Sets of middling size.
 pub fn medium_sizes() -> Sizes {
     Sizes { symbols: 1..=20, states: 1..=40, tags: 0..=8, rules: 0..=200 }
+}
+
+/// Sets at the limits of the narrow form.
+pub fn largest_narrow_sizes() -> Sizes {
+    Sizes { tags: MAX_NARROW_TAGS - 1..=MAX_NARROW_TAGS, ..largest_sizes() }
 }
 
 /// Sets at the limits.
@@ -48,12 +58,14 @@ pub fn largest_sizes() -> Sizes {
     }
 }
 
-/// Mostly small sets, some middling ones, a few at the limits.
+/// Mostly small sets, some middling ones, a few at the limits. One in six has more tags than the narrow form can hold.
 pub fn any_sizes(random: &mut Random) -> Sizes {
     match random.below(100) {
-        0..=29 => tiny_sizes(),
-        30..=79 => small_sizes(),
-        80..=97 => medium_sizes(),
+        0..=25 => tiny_sizes(),
+        26..=66 => small_sizes(),
+        67..=81 => many_tags_sizes(),
+        82..=97 => medium_sizes(),
+        98 => largest_narrow_sizes(),
         _ => largest_sizes(),
     }
 }
@@ -102,6 +114,33 @@ pub fn of_equal_parts(random: &mut Random) -> Automaton {
     };
     let rules = arities.iter().enumerate().flat_map(over_any).collect();
     Automaton { arities, states, tag_count, rules }
+}
+
+/// A sound set for a chain of as many rows as it has tags: row k from the leaf up carries tag k, and the last so many of
+/// them carry it or not. So a row has an annotation for each choice in it and below.
+pub fn of_choices(tag_count: usize, free: usize) -> Automaton {
+    // States 2k with tag k, and 2k + 1 without a tag.
+    let reached =
+        |row: usize| if row + free < tag_count { vec![2 * row] } else { vec![2 * row, 2 * row + 1] };
+    let mut rules: Vec<Rule> = Vec::new();
+    for row in 0..tag_count {
+        for target in reached(row) {
+            match row.checked_sub(1) {
+                None => rules.push(Rule { symbol: 1, children: Vec::new(), target }),
+                Some(below) => rules.extend(reached(below).into_iter().map(|child| Rule {
+                    symbol: 0,
+                    children: vec![child],
+                    target,
+                })),
+            }
+        }
+    }
+    rules.sort();
+    let state = |number: usize| State {
+        is_final: number / 2 + 1 == tag_count,
+        tags: if number.is_multiple_of(2) { 1 << (number / 2) } else { 0 },
+    };
+    Automaton { arities: vec![1, 0], states: (0..2 * tag_count).map(state).collect(), tag_count, rules }
 }
 
 /// Leaves each tag to the lowest state that carries it.
@@ -178,11 +217,12 @@ fn arities(random: &mut Random, symbols: usize) -> Vec<u8> {
 }
 
 fn states(random: &mut Random, count: usize, tag_count: usize) -> Vec<State> {
-    let allowed = ((1u16 << tag_count) - 1) as u8;
+    let allowed = ((1u32 << tag_count) - 1) as u16;
+    let bits = Form::for_tags(tag_count).most_tags();
     let tagged = random.pick(&[10, 30, 80]);
     (0..count)
         .map(|_| {
-            let mask = if random.percent(70) { 1 << random.below(8) } else { random.word() as u8 };
+            let mask = if random.percent(70) { 1 << random.below(bits) } else { random.word() as u16 };
             State {
                 is_final: random.percent(40),
                 tags: if random.percent(tagged) { mask & allowed } else { 0 },

@@ -18,6 +18,15 @@ static uint8_t set[] = {
     1, 0, 0, 0, 255, 255, 255, 255, 255, 255, 255, 255,
     2, 0, 0, 0, 255, 255, 255, 255, 255, 255, 255, 255,
 };
+/* The same in the wide form. */
+static uint8_t wide[] = {
+    3, 0, 2, 0, 1, 0, 3, 0, 16, 0, 19, 0, 25, 0, 61, 0,
+    2, 0, 0,
+    0, 1, 0, 1, 0, 0,
+    0, 0, 1, 0, 0, 0, 0, 0, 255, 255, 255, 255,
+    1, 0, 0, 0, 255, 255, 255, 255, 255, 255, 255, 255,
+    2, 0, 0, 0, 255, 255, 255, 255, 255, 255, 255, 255,
+};
 static uint16_t rows[] = {
     1, U, U, U, U, 2, 7, 0, 0, 0,
     0, 0, 0, U, U, 0, 0, 0, 0, 0,
@@ -78,6 +87,16 @@ static uint64_t product(const struct slice *lent)
     return cidhomba_product(BYTES(lent[0]), BYTES(lent[1]), BYTES(lent[2]));
 }
 
+static uint64_t widen_states(const struct slice *lent)
+{
+    return cidhomba_widen_states(BYTES(lent[0]), BYTES(lent[1]));
+}
+
+static uint64_t narrow_states(const struct slice *lent)
+{
+    return cidhomba_narrow_states(BYTES(lent[0]), BYTES(lent[1]));
+}
+
 static uint64_t witness(const struct slice *lent)
 {
     return cidhomba_witness(BYTES(lent[0]), CELLS(lent[1]));
@@ -119,6 +138,8 @@ static const struct call calls[] = {
     {"membership", membership, 4, {LENT(set), LENT(rows), LENT(work_space), LENT(run_space)}},
     {"union", either, 3, {LENT(set), LENT(set), LENT(out)}},
     {"product", product, 3, {LENT(set), LENT(set), LENT(out)}},
+    {"widen_states", widen_states, 2, {LENT(set), LENT(out)}},
+    {"narrow_states", narrow_states, 2, {LENT(wide), LENT(out)}},
     {"witness", witness, 2, {LENT(set), LENT(row_space)}},
     {"read_term", read_term, 5, {LENT(set), LENT(names), NO_NAMES, LENT(text), LENT(row_space)}},
     {"write_term", write_term, 5, {LENT(set), LENT(names), NO_NAMES, LENT(rows), LENT(text_space)}},
@@ -183,7 +204,8 @@ static void told_results(void)
     /* The number of the call above, elements of its result, and bytes of an element. */
     static const struct {
         size_t call, count, width;
-    } results[] = {{3, 12, 2}, {4, 99, 1}, {5, 63, 1}, {6, 20, 2}, {7, 20, 2}, {8, 13, 1}, {9, 30, 2}};
+    } results[] = {{3, 12, 2}, {4, 103, 1}, {5, 67, 1}, {6, 61, 1}, {7, 59, 1},
+                   {8, 20, 2}, {9, 20, 2}, {10, 13, 1}, {11, 30, 2}};
     size_t i;
     for (i = 0; i < LENGTH(results); i++) {
         struct call call = calls[results[i].call];

@@ -1,6 +1,7 @@
-//! A set of document 01, "Sets", as Rust values, and the stored form written from them.
+//! A set of document 01, "Sets", as Rust values, and the stored forms written from them.
 
-use crate::limits::{HEADER_BYTES, MAX_CHILDREN, RULE_BYTES, STATE_BYTES, UNUSED};
+use crate::forms::Form;
+use crate::limits::{MAX_CHILDREN, UNUSED};
 
 /// A rigid tree automaton with tags; the paper calls it a set.
 #[derive(Clone, Debug, PartialEq, Eq)]
@@ -17,7 +18,7 @@ pub struct Automaton {
 #[derive(Clone, Copy, Debug, PartialEq, Eq)]
 pub struct State {
     pub is_final: bool,
-    pub tags: u8,
+    pub tags: u16,
 }
 
 /// A rule. The order of the fields is the order in which stored rules ascend ("Sets").
@@ -46,45 +47,37 @@ impl Automaton {
         (0..self.tag_count).filter(move |&tag| state.has_tag(tag))
     }
 
-    /// The offset of the states: 16 + S.
-    fn states_offset(&self) -> usize {
-        HEADER_BYTES + self.arities.len()
-    }
-
-    /// The offset of the rules: 16 + S + 2Q.
-    fn rules_offset(&self) -> usize {
-        self.states_offset() + STATE_BYTES * self.states.len()
-    }
-
-    /// The total length: 16 + S + 2Q + 12R.
-    pub fn stored_length(&self) -> usize {
-        self.rules_offset() + RULE_BYTES * self.rules.len()
-    }
-
     /// The header's eight numbers.
-    fn header(&self) -> [usize; 8] {
+    fn header(&self, form: Form) -> [usize; 8] {
+        let (symbols, states, rules) = (self.arities.len(), self.states.len(), self.rules.len());
         [
-            self.arities.len(),
-            self.states.len(),
+            symbols,
+            states,
             self.tag_count,
-            self.rules.len(),
-            HEADER_BYTES,
-            self.states_offset(),
-            self.rules_offset(),
-            self.stored_length(),
+            rules,
+            form.symbols_offset(),
+            form.states_offset(symbols),
+            form.rules_offset(symbols, states),
+            form.total(symbols, states, rules),
         ]
     }
 
-    /// The stored form. Nothing is checked, so that tests can also write sets past the limits.
+    /// The stored form, the narrow one where it has a bit for each tag.
     pub fn encode(&self) -> Vec<u8> {
-        let mut bytes = Vec::with_capacity(self.stored_length());
-        for number in self.header() {
+        self.encode_in(Form::for_tags(self.tag_count))
+    }
+
+    /// The stored form of a kind. Nothing is checked, so that tests can also write sets past the limits; tags that the
+    /// form has no bits for are left out.
+    pub fn encode_in(&self, form: Form) -> Vec<u8> {
+        let mut bytes = Vec::new();
+        for number in self.header(form) {
             push_number(&mut bytes, number);
         }
         bytes.extend(&self.arities);
         for state in &self.states {
             bytes.push(u8::from(state.is_final));
-            bytes.push(state.tags);
+            bytes.extend(&state.tags.to_le_bytes()[..form.tag_bytes()]);
         }
         for rule in &self.rules {
             push_rule(&mut bytes, rule);

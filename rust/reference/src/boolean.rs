@@ -1,6 +1,8 @@
-//! Union and product of two stored sets, refusals 51 to 53 (document 01, "Joining, demanding both, and the sample").
+//! Union and product of two stored sets, refusals 51 to 53 (document 01, "Joining, demanding both, and the sample"). Both
+//! are written in the wide form, whatever the forms of the two sets (document 02, Wish 2).
 
 use crate::automaton::{Automaton, Rule, State};
+use crate::forms::{write, Form};
 use crate::limits::{MAX_RULES, MAX_STATES, MAX_TAGS};
 use crate::refusal::{refuse_if, Refusal};
 use crate::stored::check_automaton;
@@ -11,7 +13,7 @@ pub fn union(first: &[u8], second: &[u8], space: usize) -> Result<Vec<u8>, Refus
     let states = first.states.len() + second.states.len();
     let rules = first.rules.len() + second.rules.len();
     refuse_if(result_is_too_large(&first, &second, states, rules), 52)?;
-    write(&united(&first, &second), space)
+    write(&united(&first, &second), Form::Wide, space)
 }
 
 /// The bytes of the product, for a result space of so many bytes.
@@ -20,7 +22,7 @@ pub fn product(first: &[u8], second: &[u8], space: usize) -> Result<Vec<u8>, Ref
     let states = first.states.len() * second.states.len();
     let rules = rule_pairs(&first, &second).count();
     refuse_if(result_is_too_large(&first, &second, states, rules), 52)?;
-    write(&multiplied(&first, &second), space)
+    write(&multiplied(&first, &second), Form::Wide, space)
 }
 
 /// Both sets, the first checked before the second, with the same symbols.
@@ -33,12 +35,6 @@ fn check_both(first: &[u8], second: &[u8]) -> Result<(Automaton, Automaton), Ref
 
 fn result_is_too_large(first: &Automaton, second: &Automaton, states: usize, rules: usize) -> bool {
     states > MAX_STATES || first.tag_count + second.tag_count > MAX_TAGS || rules > MAX_RULES
-}
-
-fn write(result: &Automaton, space: usize) -> Result<Vec<u8>, Refusal> {
-    let bytes = result.encode();
-    refuse_if(space < bytes.len(), 53)?;
-    Ok(bytes)
 }
 
 /// The first set's states and tags, then the second's, shifted.
@@ -86,9 +82,9 @@ pub fn multiplied(first: &Automaton, second: &Automaton) -> Automaton {
     Automaton { arities: first.arities.clone(), states, tag_count: first.tag_count + second.tag_count, rules }
 }
 
-/// The second set's tags, moved past the first set's; with 8 tags in the first, none are left.
-fn shifted(tags: u8, by: usize) -> u8 {
-    (u16::from(tags) << by) as u8
+/// The second set's tags, moved past the first set's; with 16 tags in the first, none are left.
+fn shifted(tags: u16, by: usize) -> u16 {
+    (u32::from(tags) << by) as u16
 }
 
 /// Every pair of rules with the same symbol.

@@ -48,7 +48,7 @@ pub fn set_b() -> Automaton {
 }
 
 /// A state, final or not, with the tags of a mask.
-pub fn state(is_final: bool, tags: u8) -> State {
+pub fn state(is_final: bool, tags: u16) -> State {
     State { is_final, tags }
 }
 

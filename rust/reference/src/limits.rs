@@ -6,8 +6,10 @@ pub const MAX_SYMBOLS: usize = 64;
 pub const MAX_CHILDREN: usize = 4;
 /// Most states of a set ("Sets").
 pub const MAX_STATES: usize = 256;
-/// Most tags of a set ("Sets").
-pub const MAX_TAGS: usize = 8;
+/// Most tags of a set (document 02, Wish 2).
+pub const MAX_TAGS: usize = 16;
+/// Most tags of a set that stores a state's tags in one byte ("Sets").
+pub const MAX_NARROW_TAGS: usize = 8;
 /// Most rules of a set ("Sets").
 pub const MAX_RULES: usize = 1024;
 
@@ -40,8 +42,10 @@ pub const UNUSED: u16 = 65_535;
 
 /// Bytes of a stored set's header: eight 16-bit numbers.
 pub const HEADER_BYTES: usize = 16;
-/// Bytes of a stored state: final, then tags.
-pub const STATE_BYTES: usize = 2;
+/// Bytes of a stored state's tags, behind its final byte ("Sets").
+pub const NARROW_TAG_BYTES: usize = 1;
+/// Bytes of a stored state's tags in the wide form (document 02, Wish 2).
+pub const WIDE_TAG_BYTES: usize = 2;
 /// Bytes of a stored rule: six 16-bit numbers.
 pub const RULE_BYTES: usize = 12;
 

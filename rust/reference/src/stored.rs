@@ -1,23 +1,31 @@
-//! The check of a stored set, refusals 1 to 7, and its decoding (document 01, "Sets").
+//! The check of a stored set in either form, refusals 1 to 7, and its decoding (document 01, "Sets", and document 02,
+//! Wish 2).
 
 use crate::automaton::{Automaton, Rule, State};
+use crate::forms::Form;
 use crate::limits::{
-    HEADER_BYTES, MAX_CHILDREN, MAX_RULES, MAX_STATES, MAX_SYMBOLS, MAX_TAGS, RULE_BYTES, STATE_BYTES, UNUSED,
+    HEADER_BYTES, MAX_CHILDREN, MAX_RULES, MAX_STATES, MAX_SYMBOLS, MAX_TAGS, RULE_BYTES, UNUSED,
 };
 use crate::refusal::{refuse_if, Refusal};
 
 /// Checks a stored set. Each number is tried over the whole set before the next one is.
 pub fn check_automaton(set: &[u8]) -> Result<Automaton, Refusal> {
+    check_with_form(set).map(|(_, automaton)| automaton)
+}
+
+/// Checks a stored set, and tells its form too.
+pub fn check_with_form(set: &[u8]) -> Result<(Form, Automaton), Refusal> {
     refuse_if(set.len() < HEADER_BYTES, 1)?;
     let header = Header::read(set);
     refuse_if(header.a_count_is_out_of_range(), 2)?;
-    refuse_if(header.a_length_differs(set.len()), 3)?;
-    let parts = Parts::cut(set, &header);
+    let form = header.form().ok_or(Refusal::plain(3))?;
+    refuse_if(header.differs_from(form, set.len()), 3)?;
+    let parts = Parts::cut(set, &header, form);
     refuse_if(parts.a_symbol_has_too_many_children(), 4)?;
     refuse_if(parts.a_state_is_wrong(header.tags), 5)?;
     refuse_if(parts.a_rule_is_wrong(), 6)?;
     refuse_if(!parts.rules_ascend_strictly(), 7)?;
-    Ok(parts.decode(header.tags))
+    Ok((form, parts.decode(header.tags)))
 }
 
 /// The header's eight numbers.
@@ -54,15 +62,20 @@ impl Header {
             || self.rules > MAX_RULES
     }
 
-    fn a_length_differs(&self, lent_length: usize) -> bool {
-        let states_offset = HEADER_BYTES + self.symbols;
-        let rules_offset = states_offset + STATE_BYTES * self.states;
-        let total = rules_offset + RULE_BYTES * self.rules;
-        self.symbols_offset != HEADER_BYTES
-            || self.states_offset != states_offset
-            || self.rules_offset != rules_offset
+    /// The form, by how far the rules are from the states; none where that is neither 2Q nor 3Q.
+    fn form(&self) -> Option<Form> {
+        Form::told_by(self.rules_offset.checked_sub(self.states_offset)?, self.states)
+    }
+
+    /// Whether an offset or a length is not the form's, or the form has no bits for so many tags.
+    fn differs_from(&self, form: Form, lent_length: usize) -> bool {
+        let total = form.total(self.symbols, self.states, self.rules);
+        self.symbols_offset != form.symbols_offset()
+            || self.states_offset != form.states_offset(self.symbols)
+            || self.rules_offset != form.rules_offset(self.symbols, self.states)
             || self.total != total
             || lent_length != total
+            || self.tags > form.most_tags()
     }
 }
 
@@ -75,7 +88,7 @@ struct Parts {
 
 struct StoredState {
     is_final: u8,
-    tags: u8,
+    tags: u16,
 }
 
 struct StoredRule {
@@ -85,14 +98,14 @@ struct StoredRule {
 }
 
 impl Parts {
-    /// Cuts a set whose lengths agree with the formulas (3 has been tried).
-    fn cut(set: &[u8], header: &Header) -> Parts {
+    /// Cuts a set whose lengths agree with the form's formulas (3 has been tried).
+    fn cut(set: &[u8], header: &Header, form: Form) -> Parts {
         let symbols = &set[HEADER_BYTES..header.states_offset];
         let states = &set[header.states_offset..header.rules_offset];
         let rules = &set[header.rules_offset..];
         Parts {
             arities: symbols.to_vec(),
-            states: states.chunks_exact(STATE_BYTES).map(StoredState::read).collect(),
+            states: states.chunks_exact(form.state_bytes()).map(StoredState::read).collect(),
             rules: rules.chunks_exact(RULE_BYTES).map(StoredRule::read).collect(),
         }
     }
@@ -102,8 +115,8 @@ impl Parts {
     }
 
     fn a_state_is_wrong(&self, tags: usize) -> bool {
-        let allowed = (1u16 << tags) - 1;
-        self.states.iter().any(|state| state.is_final > 1 || u16::from(state.tags) & !allowed != 0)
+        let beyond = 1u32 << tags;
+        self.states.iter().any(|state| state.is_final > 1 || u32::from(state.tags) >= beyond)
     }
 
     fn a_rule_is_wrong(&self) -> bool {
@@ -150,8 +163,10 @@ impl Parts {
 }
 
 impl StoredState {
+    /// A final byte, then one byte or two of tags, the lower one first.
     fn read(bytes: &[u8]) -> StoredState {
-        StoredState { is_final: bytes[0], tags: bytes[1] }
+        let higher = bytes.get(2).copied().unwrap_or(0);
+        StoredState { is_final: bytes[0], tags: u16::from_le_bytes([bytes[1], higher]) }
     }
 
     fn decode(&self) -> State {

@@ -1,7 +1,8 @@
 //! Random sets and documents, judged in two unlike ways that must agree.
 
 use generate::sets::{
-    layered, layered_over_symbols, over_symbols, separate_tags, small_sizes, tiny_sizes, Sizes,
+    layered, layered_over_symbols, many_tags_sizes, over_symbols, separate_tags, small_sizes, tiny_sizes,
+    Sizes,
 };
 use generate::{documents, runs, trees, Random};
 use reference::boolean::{multiplied, united};
@@ -13,10 +14,11 @@ use reference::{check_automaton, witness, Automaton, Document};
 /// Most labellings that a test tries on one tree.
 const MOST_LABELLINGS: usize = 20_000;
 
-/// A tiny set and a document small enough for every labelling to be tried.
+/// A tiny set, with many tags in one of four cases, and a document small enough for every labelling to be tried.
 fn small_case(seed: u64) -> Option<(Automaton, Document)> {
     let random = &mut Random::new(seed);
-    let automaton = generate::sets::automaton(random, &tiny_sizes());
+    let tags = if random.percent(25) { many_tags_sizes().tags } else { tiny_sizes().tags };
+    let automaton = generate::sets::automaton(random, &Sizes { tags, ..tiny_sizes() });
     let document = documents::document(random, &automaton, 6)?;
     can_be_tried(&automaton, &document).then_some((automaton, document))
 }
@@ -80,7 +82,8 @@ fn a_run_handed_back_passes_the_check_and_is_no_longer_than_the_annotations() {
     let mut runs = 0;
     for seed in 0..4000 {
         let random = &mut Random::new(seed);
-        let automaton = generate::sets::automaton(random, &small_sizes());
+        let sizes = random.pick(&[small_sizes, small_sizes, many_tags_sizes])();
+        let automaton = generate::sets::automaton(random, &sizes);
         let Some(document) = documents::document(random, &automaton, 20) else { continue };
         let Ok(judgement) = judge(&automaton, &document, 2000) else { continue };
         if let Some(run) = judgement.run {
@@ -112,10 +115,11 @@ fn a_run_that_passes_the_check_means_that_the_document_is_let_in() {
 
 #[test]
 fn union_and_product_mean_either_and_both() {
-    let sizes = Sizes { states: 1..=2, tags: 0..=2, ..tiny_sizes() };
     let (mut both_yes, mut differing) = (0, 0);
     for seed in 0..6000 {
         let random = &mut Random::new(seed);
+        let tags = random.pick(&[2, 2, 8]);
+        let sizes = Sizes { states: 1..=2, tags: 0..=tags, ..tiny_sizes() };
         let first = generate::sets::automaton(random, &sizes);
         let second = over_symbols(random, &sizes, first.arities.clone());
         let Some(document) = documents::document(random, &first, 5) else { continue };

@@ -250,7 +250,7 @@ fn a_lower_number_counts_wherever_it_stands() {
     assert_eq!(check_automaton(&bytes), Err(Refusal::plain(4)));
     bytes.push(0);
     assert_eq!(check_automaton(&bytes), Err(Refusal::plain(3)));
-    bytes[4] = 9;
+    bytes[4] = 17;
     assert_eq!(check_automaton(&bytes), Err(Refusal::plain(2)));
 }
 

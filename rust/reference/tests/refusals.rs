@@ -29,7 +29,7 @@ fn fewer_than_16_bytes_is_1() {
 
 #[test]
 fn a_count_outside_its_range_is_2() {
-    for (at, byte) in [(0, 0), (0, 65), (2, 0), (4, 9), (7, 4)] {
+    for (at, byte) in [(0, 0), (0, 65), (2, 0), (4, 17), (7, 4)] {
         assert_eq!(set_number(&[(at, byte)]), Some(2), "byte {at}");
     }
     assert_eq!(set_number(&[(2, 1), (3, 1)]), Some(2), "257 states");
@@ -46,6 +46,8 @@ fn an_offset_or_a_length_that_differs_is_3() {
     assert_eq!(set_number(&[(2, 0), (3, 1)]), Some(3), "256 states are in range");
     assert_eq!(set_number(&[(6, 0), (7, 4)]), Some(3), "1,024 rules are in range");
     assert_eq!(set_number(&[(4, 8)]), None, "the number of tags moves nothing");
+    assert_eq!(set_number(&[(4, 9)]), Some(3), "but one byte has bits for eight");
+    assert_eq!(set_number(&[(4, 16)]), Some(3), "16 tags are in range");
 }
 
 #[test]
@@ -283,7 +285,8 @@ fn unlike_symbols_are_51_and_too_large_a_result_52_and_too_little_space_53() {
     assert_eq!(union(&states(129), &states(128), 0), Err(Refusal::plain(52)));
     assert_eq!(product(&states(86), &states(3), 0), Err(Refusal::plain(52)));
     let tags = |tag_count| Automaton { tag_count, ..set_d() }.encode();
-    assert_eq!(union(&tags(5), &tags(4), 0), Err(Refusal::plain(52)));
+    assert_eq!(union(&tags(9), &tags(8), 0), Err(Refusal::plain(52)));
+    assert_eq!(union(&tags(8), &tags(8), 0), Err(Refusal::plain(53)));
     let rules = |count: usize| Automaton {
         rules: (0..count).map(|number| rule(0, &[number / 64, number % 64], 0)).collect(),
         states: vec![state(true, 0); 64],

@@ -1,10 +1,11 @@
 //! Writing and reading back: stored sets, rows and texts.
 
 use generate::sets::{any_sizes, automaton, small_sizes, tagged_sizes};
-use generate::{documents, lists, texts, Random};
+use generate::{documents, lists, set_bytes, texts, Random};
 use reference::limits::{MAX_ROWS, ROW_CELLS};
+use reference::stored::check_with_form;
 use reference::table::TableBuilder;
-use reference::{check_automaton, check_document, check_names, read_term, write_term, Document};
+use reference::{check_automaton, check_document, check_names, read_term, write_term, Document, Form};
 
 #[test]
 fn a_stored_set_decodes_to_what_was_encoded() {
@@ -12,8 +13,24 @@ fn a_stored_set_decodes_to_what_was_encoded() {
         let random = &mut Random::new(seed);
         let sizes = any_sizes(random);
         let automaton = automaton(random, &sizes);
-        assert_eq!(check_automaton(&automaton.encode()), Ok(automaton));
+        assert_eq!(check_automaton(&automaton.encode()), Ok(automaton.clone()));
+        assert_eq!(check_automaton(&automaton.encode_in(Form::Wide)), Ok(automaton));
     }
+}
+
+#[test]
+fn seeded_sets_have_either_form_and_the_narrow_one_mostly() {
+    let wide = (0..2000).filter(|&seed| {
+        let random = &mut Random::new(seed);
+        let sizes = any_sizes(random);
+        let automaton = automaton(random, &sizes);
+        let (form, decoded) =
+            check_with_form(&set_bytes::stored(random, &automaton, 0)).expect("a sound set");
+        assert_eq!(decoded, automaton);
+        form == Form::Wide
+    });
+    let wide = wide.count();
+    assert!((600..1000).contains(&wide), "{wide} of 2,000 sets are wide");
 }
 
 #[test]

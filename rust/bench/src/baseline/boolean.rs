@@ -58,15 +58,15 @@ fn both(first: &[u8], second: &[u8]) -> Result<(Set, Set), u8> {
 }
 
 fn within_limits(first: &Set, second: &Set, states: usize, rules: usize) -> Result<(), u8> {
-    if states > 256 || first.tags + second.tags > 8 || rules > 1024 {
+    if states > 256 || first.tags + second.tags > 16 || rules > 1024 {
         return Err(52);
     }
     Ok(())
 }
 
 /// The second set's tags, moved past the first set's.
-fn moved(tags: u8, first: &Set) -> u8 {
-    (u16::from(tags) << first.tags) as u8
+fn moved(tags: u16, first: &Set) -> u16 {
+    (u32::from(tags) << first.tags) as u16
 }
 
 /// The rules of a symbol.

@@ -7,14 +7,14 @@ use super::set::{self, Rule, Set};
 use super::table::{self, Row};
 use super::UNUSED;
 
-/// For each tag the row that it goes to, or `UNUSED`.
-type Memory = [u16; 8];
+/// For each tag the row that it goes to, or `UNUSED`. Sets of at most 8 tags have memories of half the length.
+type Memory<const TAGS: usize> = [u16; TAGS];
 
 /// An annotation of a row, with the rule and the children's annotations that first gave it.
-struct Annotation {
+struct Annotation<const TAGS: usize> {
     row: u16,
     state: u16,
-    memory: Memory,
+    memory: Memory<TAGS>,
     rule: u16,
     children: [u16; 4],
 }
@@ -23,28 +23,37 @@ struct Annotation {
 pub fn membership(set: &[u8], rows: &[u16], room: usize) -> Result<Option<Vec<u16>>, u8> {
     let set = set::read(set)?;
     let rows = table::read(&set, rows)?;
-    let annotations = Engine::new(&set, &rows, room).annotate()?;
-    let is_accepting = |annotation: &Annotation| {
+    if set.tags <= 8 {
+        judged::<8>(&set, &rows, room)
+    } else {
+        judged::<16>(&set, &rows, room)
+    }
+}
+
+/// The same for a set and rows that are sound, with memories of so many tags.
+fn judged<const TAGS: usize>(set: &Set, rows: &[Row], room: usize) -> Result<Option<Vec<u16>>, u8> {
+    let annotations = Engine::<TAGS>::new(set, rows, room).annotate()?;
+    let is_accepting = |annotation: &Annotation<TAGS>| {
         usize::from(annotation.row) + 1 == rows.len() && set.states[usize::from(annotation.state)].is_final
     };
     Ok(annotations.iter().position(is_accepting).map(|goal| run_to(&annotations, goal)))
 }
 
-struct Engine<'a> {
+struct Engine<'a, const TAGS: usize> {
     set: &'a Set,
     rows: &'a [Row],
     room: usize,
     /// For each symbol the numbers of its rules.
     rules_of: Vec<Range<usize>>,
-    annotations: Vec<Annotation>,
+    annotations: Vec<Annotation<TAGS>>,
     /// For each row that is done its annotations.
     on_row: Vec<Range<usize>>,
     /// The annotations of the row at hand.
-    known: HashSet<(u16, Memory)>,
+    known: HashSet<(u16, Memory<TAGS>)>,
 }
 
-impl<'a> Engine<'a> {
-    fn new(set: &'a Set, rows: &'a [Row], room: usize) -> Engine<'a> {
+impl<'a, const TAGS: usize> Engine<'a, TAGS> {
+    fn new(set: &'a Set, rows: &'a [Row], room: usize) -> Engine<'a, TAGS> {
         let start = |symbol: usize| set.rules.partition_point(|rule| usize::from(rule.symbol) < symbol);
         Engine {
             set,
@@ -58,13 +67,13 @@ impl<'a> Engine<'a> {
     }
 
     /// All annotations, row by row, or 31.
-    fn annotate(mut self) -> Result<Vec<Annotation>, u8> {
+    fn annotate(mut self) -> Result<Vec<Annotation<TAGS>>, u8> {
         for (number, row) in self.rows.iter().enumerate() {
             let first = self.annotations.len();
             self.known.clear();
             for rule in self.rules_of[usize::from(row.symbol)].clone() {
                 let mut chosen = [UNUSED; 4];
-                self.choose(number as u16, rule as u16, 0, [UNUSED; 8], &mut chosen)?;
+                self.choose(number as u16, rule as u16, 0, [UNUSED; TAGS], &mut chosen)?;
             }
             self.on_row.push(first..self.annotations.len());
         }
@@ -77,7 +86,7 @@ impl<'a> Engine<'a> {
         row: u16,
         rule: u16,
         place: usize,
-        memory: Memory,
+        memory: Memory<TAGS>,
         chosen: &mut [u16; 4],
     ) -> Result<(), u8> {
         let (set, rows) = (self.set, self.rows);
@@ -104,7 +113,7 @@ impl<'a> Engine<'a> {
         row: u16,
         rule: u16,
         state: u16,
-        joined: Memory,
+        joined: Memory<TAGS>,
         children: [u16; 4],
     ) -> Result<(), u8> {
         let tags = self.set.states[usize::from(state)].tags;
@@ -123,7 +132,7 @@ impl<'a> Engine<'a> {
 }
 
 /// Two memories as one, unless a tag gets two rows.
-fn join(first: &Memory, second: &Memory) -> Option<Memory> {
+fn join<const TAGS: usize>(first: &Memory<TAGS>, second: &Memory<TAGS>) -> Option<Memory<TAGS>> {
     let mut both = *first;
     for (place, &row) in both.iter_mut().zip(second) {
         if *place == UNUSED {
@@ -136,7 +145,7 @@ fn join(first: &Memory, second: &Memory) -> Option<Memory> {
 }
 
 /// A step for each annotation that the goal rests on, in the order found.
-fn run_to(annotations: &[Annotation], goal: usize) -> Vec<u16> {
+fn run_to<const TAGS: usize>(annotations: &[Annotation<TAGS>], goal: usize) -> Vec<u16> {
     let mut needed = vec![false; goal + 1];
     needed[goal] = true;
     for number in (0..=goal).rev() {

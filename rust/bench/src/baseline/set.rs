@@ -1,4 +1,4 @@
-//! A stored set: checked (1 to 7), decoded, and written.
+//! A stored set: checked (1 to 7) and decoded in either form, and written in the wide one.
 
 use super::UNUSED;
 
@@ -12,7 +12,18 @@ pub struct Set {
 #[derive(Clone, Copy)]
 pub struct State {
     pub is_final: bool,
-    pub tags: u8,
+    pub tags: u16,
+}
+
+impl State {
+    /// The tags of a state's two bytes, or of its three.
+    fn tags(bytes: &[u8]) -> u16 {
+        match *bytes {
+            [_, low, high] => u16::from_le_bytes([low, high]),
+            [_, low, ..] => u16::from(low),
+            _ => 0,
+        }
+    }
 }
 
 /// A rule; the order of the fields is the order of stored rules.
@@ -48,22 +59,26 @@ pub fn read(bytes: &[u8]) -> Result<Set, u8> {
     }
     let header: [u16; 8] = numbers(bytes);
     let [symbols, states, tags, rules, symbols_at, states_at, rules_at, total] = header.map(usize::from);
-    if !(1..=64).contains(&symbols) || !(1..=256).contains(&states) || tags > 8 || rules > 1024 {
+    if !(1..=64).contains(&symbols) || !(1..=256).contains(&states) || tags > 16 || rules > 1024 {
         return Err(2);
     }
-    let offsets = (16, 16 + symbols, 16 + symbols + 2 * states, 16 + symbols + 2 * states + 12 * rules);
-    if (symbols_at, states_at, rules_at, total) != offsets || bytes.len() != total {
+    let width = if rules_at == states_at + 3 * states { 3 } else { 2 };
+    let rules_due = 16 + symbols + width * states;
+    let offsets = (16, 16 + symbols, rules_due, rules_due + 12 * rules);
+    let tags_fit = width == 3 || tags <= 8;
+    if (symbols_at, states_at, rules_at, total) != offsets || bytes.len() != total || !tags_fit {
         return Err(3);
     }
     let arities = bytes[symbols_at..states_at].to_vec();
     if arities.iter().any(|&arity| arity > 4) {
         return Err(4);
     }
-    let stored = bytes[states_at..rules_at].chunks_exact(2);
-    if stored.clone().any(|state| state[0] > 1 || usize::from(state[1]) >= 1 << tags) {
+    let stored = bytes[states_at..rules_at].chunks_exact(width);
+    if stored.clone().any(|state| state[0] > 1 || usize::from(State::tags(state)) >= 1 << tags) {
         return Err(5);
     }
-    let states: Vec<State> = stored.map(|state| State { is_final: state[0] == 1, tags: state[1] }).collect();
+    let states: Vec<State> =
+        stored.map(|state| State { is_final: state[0] == 1, tags: State::tags(state) }).collect();
     let rules: Vec<Rule> = bytes[rules_at..].chunks_exact(12).map(Rule::read).collect();
     if !rules.iter().all(|rule| fits(rule, &arities, states.len())) {
         return Err(6);
@@ -84,15 +99,15 @@ fn fits(rule: &Rule, arities: &[u8], states: usize) -> bool {
 }
 
 impl Set {
-    /// The length of the stored form.
+    /// The length of the wide form.
     pub fn stored_length(&self) -> usize {
-        16 + self.arities.len() + 2 * self.states.len() + 12 * self.rules.len()
+        16 + self.arities.len() + 3 * self.states.len() + 12 * self.rules.len()
     }
 
-    /// The stored form.
+    /// The wide form.
     pub fn write(&self) -> Vec<u8> {
         let states_at = 16 + self.arities.len();
-        let rules_at = states_at + 2 * self.states.len();
+        let rules_at = states_at + 3 * self.states.len();
         let length = self.stored_length();
         let counts = [self.arities.len(), self.states.len(), self.tags, self.rules.len()];
         let mut bytes = Vec::with_capacity(length);
@@ -100,7 +115,10 @@ impl Set {
             bytes.extend((number as u16).to_le_bytes());
         }
         bytes.extend(&self.arities);
-        bytes.extend(self.states.iter().flat_map(|state| [u8::from(state.is_final), state.tags]));
+        for state in &self.states {
+            let [low, high] = state.tags.to_le_bytes();
+            bytes.extend([u8::from(state.is_final), low, high]);
+        }
         for Rule { symbol, children: [a, b, c, d], target } in &self.rules {
             for number in [symbol, target, a, b, c, d] {
                 bytes.extend(number.to_le_bytes());

@@ -47,7 +47,7 @@ fn of_sizes(states: usize, each: usize, stride: usize) -> Automaton {
     rules.dedup();
     Automaton {
         arities: vec![0, 1, 2, 4],
-        states: (0..states).map(|number| state(number % 3 == 0, (number % 16) as u8)).collect(),
+        states: (0..states).map(|number| state(number % 3 == 0, (number % 16) as u16)).collect(),
         tag_count: 4,
         rules,
     }

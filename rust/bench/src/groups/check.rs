@@ -8,11 +8,13 @@ use reference::examples::set_e;
 
 pub fn measure() {
     let table = Table::open("The checks");
-    let largest = sets::automaton(&mut Random::new(1), &sets::largest_sizes());
-    let bytes = largest.encode();
-    assert_eq!(check_automaton(&bytes).is_ok(), set::read(&bytes).is_ok());
-    let input = format!("set of {} rules", largest.rules.len());
-    table.row(&input, || check_automaton(&bytes), || set::read(&bytes).is_ok());
+    for (sizes, kind) in [(sets::largest_narrow_sizes(), "set"), (sets::largest_sizes(), "wide set")] {
+        let largest = sets::automaton(&mut Random::new(1), &sizes);
+        let bytes = largest.encode();
+        assert!(check_automaton(&bytes).is_ok() && set::read(&bytes).is_ok());
+        let input = format!("{kind} of {} rules", largest.rules.len());
+        table.row(&input, || check_automaton(&bytes), || set::read(&bytes).is_ok());
+    }
     let set = set_e().encode();
     for rows in [127, 255, 511, 1023] {
         let cells = documents::broad(&mut Random::new(1), &set_e(), rows).expect("E has leaves").cells();

@@ -1,10 +1,11 @@
-//! Judging: exports, many states, a full room, and a hard input.
+//! Judging: exports, many states, a full room, a hard input, and wide sets whose sixteen tags are all carried.
 
 use bench::baseline;
 use bench::measure::Table;
 use cidhomba::{membership, Judgement, ANNOTATION_CELLS, MAX_ROOM, STEP_CELLS};
 use generate::export::{agreed_set, export, Columns};
-use generate::{documents, Random};
+use generate::wide_export::{wide_export, wide_set};
+use generate::{documents, sets, Random};
 use reference::examples::{rule, state};
 use reference::{Automaton, Document, Row, Scalar};
 
@@ -25,6 +26,22 @@ pub fn measure() {
     judged(&table, "4,096 annotations, up to 90 on a row", &set, &document, MAX_ROOM);
     let (set, document) = hard();
     judged(&table, "hard: 2 million choices, all in vain", &set, &document, MAX_ROOM);
+    sixteen_tags(&table);
+}
+
+/// Servers with sixteen parts each that must be the same, then one of them with another part, and a chain whose rows
+/// carry a tag each or do not, so that a row has up to 1,024 memories.
+fn sixteen_tags(table: &Table) {
+    for servers in [20, 59] {
+        let document = wide_export(servers, None);
+        let input = format!("16 tags: {servers} servers with 16 equal parts, {} rows", document.rows.len());
+        judged(table, &input, &wide_set(), &document, 1024);
+    }
+    let document = wide_export(59, Some(15));
+    judged(table, "the same, but one part of the last server differs", &wide_set(), &document, 1024);
+    let set = sets::of_choices(16, 10);
+    let document = documents::chain(&set, 16).expect("there is a leaf");
+    judged(table, "16 tags: 2,052 annotations, up to 1,024 on a row", &set, &document, MAX_ROOM);
 }
 
 /// Lets both sides judge with room for so many annotations, sees that they agree, and measures them.

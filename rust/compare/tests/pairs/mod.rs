@@ -6,10 +6,18 @@ use compare::lent::Lent;
 use compare::tally::{Tally, SET};
 use generate::{pairs, set_bytes, Random};
 use reference::examples::{rule, state};
-use reference::{Automaton, Refusal};
+use reference::{Automaton, Form, Refusal};
 
 /// An operation of the reference: the two sets and the length of the result space.
 type ByReference = fn(&[u8], &[u8], usize) -> Result<Vec<u8>, Refusal>;
+
+/// The forms of a first and a second set.
+const BOTH_FORMS_OF_BOTH: [(Form, Form); 4] = [
+    (Form::Narrow, Form::Narrow),
+    (Form::Narrow, Form::Wide),
+    (Form::Wide, Form::Narrow),
+    (Form::Wide, Form::Wide),
+];
 
 /// One of the two operations, as the library and as the reference have it.
 pub struct Operation {
@@ -57,26 +65,38 @@ impl Operation {
         tally.must_reach(20_000, 200, &numbers, &["written"]);
     }
 
-    /// Every result space from none to more than enough.
+    /// Every result space from none to more than enough, for the sets in either form.
     pub fn compare_every_space(&self, first: &Automaton, second: &Automaton) {
-        let (first, second) = (first.encode(), second.encode());
-        let length = self.result_length(&first, &second);
-        assert!(length > 0);
-        for space in 0..=length + 20 {
-            let expected = if space < length { Some(53) } else { None };
-            assert_eq!(self.compare(&first, &second, space).number(), expected, "space {space}");
+        for (one, other) in BOTH_FORMS_OF_BOTH {
+            let (first, second) = (first.encode_in(one), second.encode_in(other));
+            let length = self.result_length(&first, &second);
+            assert!(length > 0);
+            for space in 0..=length + 20 {
+                let expected = if space < length { Some(53) } else { None };
+                assert_eq!(self.compare(&first, &second, space).number(), expected, "space {space}");
+            }
         }
     }
 
     /// Whether the result of two sets is refused, with plenty of space. One that is not also fits a space of
-    /// just its length, and no space that is a byte shorter.
+    /// just its length, and no space that is a byte shorter. The forms of the two change nothing.
     pub fn number(&self, first: &Automaton, second: &Automaton) -> Option<u8> {
-        let (first, second) = (first.encode(), second.encode());
-        let number = self.compare(&first, &second, 20_000).number();
+        let holds = |set: &Automaton, form: Form| set.tag_count <= form.most_tags();
+        let forms =
+            BOTH_FORMS_OF_BOTH.into_iter().filter(|&(one, other)| holds(first, one) && holds(second, other));
+        let numbers: Vec<Option<u8>> = forms
+            .map(|(one, other)| self.number_of(&first.encode_in(one), &second.encode_in(other)))
+            .collect();
+        assert!(numbers.iter().all(|number| *number == numbers[0]), "{numbers:?}");
+        numbers[0]
+    }
+
+    fn number_of(&self, first: &[u8], second: &[u8]) -> Option<u8> {
+        let number = self.compare(first, second, 20_000).number();
         if number.is_none() {
-            let length = self.result_length(&first, &second);
-            assert_eq!(self.compare(&first, &second, length).number(), None);
-            assert_eq!(self.compare(&first, &second, length - 1).number(), Some(53));
+            let length = self.result_length(first, second);
+            assert_eq!(self.compare(first, second, length).number(), None);
+            assert_eq!(self.compare(first, second, length - 1).number(), Some(53));
         }
         number
     }
@@ -102,7 +122,7 @@ impl Operation {
 pub fn of_counts(states: usize, tags: usize, rules: usize) -> Automaton {
     let digit = |number: usize, place: u32| number / states.pow(place) % states;
     let numbered = |number: usize| rule(0, &[3, 2, 1, 0].map(|place| digit(number, place)), 0);
-    let tags_of = |number: usize| ((1u16 << tags) - 1) as u8 & number as u8;
+    let tags_of = |number: usize| (((1u32 << tags) - 1) & (number * 257) as u32) as u16;
     let mut rules: Vec<_> = (0..rules).map(numbered).collect();
     if states == 1 {
         rules.truncate(1);
