@@ -40,7 +40,8 @@ rulesAt s = word s 12
 abbrev pub statedTotal : List ℕ → ℕ
 statedTotal s = word s 14
 
--- Which form the bytes are in: the distance from the states to the rules tells.
+-- Which form the bytes are in: the wide one where the rules begin as far behind the states as so many wide states are long, three bytes each; at any other
+-- distance the narrow one, of which 3 refuses all but two bytes each.
 unfoldable pub formOf : List ℕ → Form
 formOf s = cond (eqb (rulesAt s) (statesAt s + stateWidth Wide * stateCount s)) Wide Narrow
 
