@@ -13,8 +13,8 @@ use lib.Arith.{digits-lt, digits-div, digits-mod}
 use lib.Pow.{pow-pos, pow-add, shr-shr}
 use lib.ListN.{length, getD}
 use Rattle.model.specs.Tree.{Tree, at}
-use Rattle.model.specs.Automaton.{Rule, State, Automaton, Wellformed, noState, stateAt, final?, carries?}
-use Rattle.model.specs.Run.{Move, Consistent, Accepts}
+use Rattle.model.specs.Automaton.{Rule, State, Automaton, Wellformed, noState, stateAt, final?, carries?, forgets?}
+use Rattle.model.specs.Run.{Move, Forgets, Together, Consistent, Accepts}
 use Rattle.model.specs.Lists.{concatMap, only}
 use Rattle.model.specs.Boolean.{pairState, pairNumbers, pairRule, product}
 use Rattle.model.proofs.Members.{T-and, and-T, in-concatMap, concatMap-in, in-only, only-in}
@@ -22,41 +22,49 @@ use Rattle.model.proofs.Tab.{tab-at}
 use Rattle.model.proofs.Order.{in-sorted, sorted-in}
 use Rattle.model.proofs.Rows.{in-getD}
 
--- a map of the states of `A` to those of `B` that keeps the rules and the final states, and brings no tag that `A` has not
-pub record Carried (A B : Automaton) : Type 0 where
+-- a map of the states of `A` to those of `B` that keeps the rules and the final states, brings no tag that `A` has not, and forgets the tags that it brings where `A` does
+pub record Carried (A B : Automaton) : Type 1 where
   pub f : ℕ → ℕ
   pub g : ℕ → ℕ
-  pub rule : (r : Rule) → In r (A .rules) → (s : Rule) × In s (B .rules) × (s .symbol ≡ r .symbol) × (s .target ≡ f (r .target)) × (length (s .children) ≡ length (r .children)) × ((j : ℕ) → j < length (r .children) → getD (s .children) j 0 ≡ f (getD (r .children) j 0))
+  pub brings : ℕ → Type 0
+  pub rule : (r : Rule) → In r (A .rules) → (s : Rule) × In s (B .rules) × (s .symbol ≡ r .symbol) × (s .target ≡ f (r .target)) × (length (s .children) ≡ length (r .children)) × ((j : ℕ) → j < length (r .children) → getD (s .children) j 0 ≡ f (getD (r .children) j 0)) × ((k : ℕ) → brings k → T (forgets? r (g k)) → T (forgets? s k))
   pub final : (r : Rule) → In r (A .rules) → T (final? A (r .target)) → T (final? B (f (r .target)))
-  pub tags : (r : Rule) → In r (A .rules) → (k : ℕ) → k < B .tags → T (carries? B (f (r .target)) k) → (g k < A .tags) × T (carries? A (r .target) (g k))
+  pub tags : (r : Rule) → In r (A .rules) → (k : ℕ) → k < B .tags → T (carries? B (f (r .target)) k) → (g k < A .tags) × T (carries? A (r .target) (g k)) × brings k
 
 pub carry : {A B : Automaton} → Carried A B → (t : Tree) → Accepts A t → Accepts B t
 carry {A} {B} c t w =
     record {
       run = λ p. c .f (w .run p);
-      runs = step;
+      runs = λ p u e. moved p u (w .runs p u e) .0;
       accepting = let s = w .runs [] t refl in subst (λ q. T (final? B (c .f q))) (s .leads) (c .final (s .rule) (s .listed) (subst (λ q. T (final? A q)) (sym (s .leads)) (w .accepting)));
-      consistent = λ k h p p′ u u′ e e′ n n′. let (h₁, m) = tagged p u e k h n in let (h₂, m′) = tagged p′ u′ e′ k h n′ in w .consistent (c .g k) h₁ p p′ u u′ e e′ m m′;
+      consistent = λ k h p p′ u u′ e e′ n n′ g.
+          let (h₁, m, b) = tagged p u e k h n in
+          let (h₂, m′, b′) = tagged p′ u′ e′ k h n′ in
+          w .consistent (c .g k) h₁ p p′ u u′ e e′ m m′ (λ v o. g v (forgotten k b v o));
     }
   where
-    step : (p : List ℕ) (u : Tree) → at t p ≡ some u → Move B (λ z. c .f (w .run z)) p u
-    step p u e =
-        let s = w .runs p u e in
-        let (r, ir, es, et, el, ek) = c .rule (s .rule) (s .listed) in
-        record {
-          rule = r;
-          listed = ir;
-          same-symbol = es ∙ s .same-symbol;
-          leads = et ∙ ap (c .f) (s .leads);
-          as-many = el ∙ s .as-many;
-          from = λ j h. ek j (omega (arith, s .as-many)) ∙ ap (c .f) (s .from j h);
-        }
+    moved : (p : List ℕ) (u : Tree) (s : Move A (w .run) p u) → (m : Move B (λ z. c .f (w .run z)) p u) × ((k : ℕ) → c .brings k → T (forgets? (s .rule) (c .g k)) → T (forgets? (m .rule) k))
+    moved p u s =
+        let (r, ir, es, et, el, ek, eo) = c .rule (s .rule) (s .listed) in (
+          record {
+            rule = r;
+            listed = ir;
+            same-symbol = es ∙ s .same-symbol;
+            leads = et ∙ ap (c .f) (s .leads);
+            as-many = el ∙ s .as-many;
+            from = λ j h. ek j (omega (arith, s .as-many)) ∙ ap (c .f) (s .from j h);
+          },
+          eo,
+        )
 
-    tagged : (p : List ℕ) (u : Tree) → at t p ≡ some u → (k : ℕ) → k < B .tags → T (carries? B (c .f (w .run p)) k) → (c .g k < A .tags) × T (carries? A (w .run p) (c .g k))
+    forgotten : (k : ℕ) → c .brings k → (v : List ℕ) → Forgets A t (w .run) (c .g k) v → Forgets B t (λ z. c .f (w .run z)) k v
+    forgotten k b v o = let (m, keep) = moved v (o .tree) (o .move) in record { tree = o .tree; stands = o .stands; move = m; forgotten = keep k b (o .forgotten) }
+
+    tagged : (p : List ℕ) (u : Tree) → at t p ≡ some u → (k : ℕ) → k < B .tags → T (carries? B (c .f (w .run p)) k) → (c .g k < A .tags) × T (carries? A (w .run p) (c .g k)) × c .brings k
     tagged p u e k h n =
         let s = w .runs p u e in
-        let (h₁, m) = c .tags (s .rule) (s .listed) k h (subst (λ q. T (carries? B (c .f q) k)) (sym (s .leads)) n) in
-        (h₁, subst (λ q. T (carries? A q (c .g k))) (s .leads) m)
+        let (h₁, m, b) = c .tags (s .rule) (s .listed) k h (subst (λ q. T (carries? B (c .f q) k)) (sym (s .leads)) n) in
+        (h₁, subst (λ q. T (carries? A q (c .g k))) (s .leads) m, b)
 
 -- the bits of two masks side by side
 shifted : (b k e : ℕ) → b * 2 ^ (suc e + k) ≡ b * 2 ^ e * 2 * 2 ^ k
@@ -92,11 +100,11 @@ pairNumbers-at n (p ∷ ps) (q ∷ qs) h zero l = refl
 pairNumbers-at n (p ∷ ps) (q ∷ qs) h (suc j) l = pairNumbers-at n ps qs (omega arith) j (omega arith)
 
 -- the rule that pairs two rules, and the rules that pair one with a list of rules
-pub one-pair : (n : ℕ) (a b : Rule) {r : Rule} → In r (only (eqb (a .symbol) (b .symbol)) (pairRule n a b ∷ [])) → (a .symbol ≡ b .symbol) × (r ≡ pairRule n a b)
-one-pair n a b h = let (t, o) = in-only (eqb (a .symbol) (b .symbol)) _ h in (eqb→eq (a .symbol) (b .symbol) t, eq-of-singleton o)
+pub one-pair : (n t : ℕ) (a b : Rule) {r : Rule} → In r (only (eqb (a .symbol) (b .symbol)) (pairRule n t a b ∷ [])) → (a .symbol ≡ b .symbol) × (r ≡ pairRule n t a b)
+one-pair n t a b h = let (d, o) = in-only (eqb (a .symbol) (b .symbol)) _ h in (eqb→eq (a .symbol) (b .symbol) d, eq-of-singleton o)
 
-pub pair-in : (n : ℕ) (a : Rule) (bs : List Rule) {r : Rule} → In r (concatMap (λ b. only (eqb (a .symbol) (b .symbol)) (pairRule n a b ∷ [])) bs) → (b : Rule) × In b bs × (a .symbol ≡ b .symbol) × (r ≡ pairRule n a b)
-pair-in n a bs h = let (b, ib, m) = in-concatMap _ bs h in let (e, is) = one-pair n a b m in (b, ib, e, is)
+pub pair-in : (n t : ℕ) (a : Rule) (bs : List Rule) {r : Rule} → In r (concatMap (λ b. only (eqb (a .symbol) (b .symbol)) (pairRule n t a b ∷ [])) bs) → (b : Rule) × In b bs × (a .symbol ≡ b .symbol) × (r ≡ pairRule n t a b)
+pair-in n t a bs h = let (b, ib, m) = in-concatMap _ bs h in let (e, is) = one-pair n t a b m in (b, ib, e, is)
 
 -- what the product's state `(p, q)` is
 module _ (A B : Automaton) where
@@ -123,18 +131,18 @@ module _ (A B : Automaton) (sa : Wellformed A) (sb : Wellformed B) (same : A .ar
     in-left : In left (A .rules)
     in-right : In right (B .rules)
     symbols : left .symbol ≡ right .symbol
-    is : r ≡ pairRule n left right
+    is : r ≡ pairRule n (A .tags) left right
 
   pair-of : (r : Rule) → In r (P .rules) → Pair r
   pair-of r h =
       let (a, ia, h₁) = in-concatMap _ (A .rules) (in-sorted _ h) in
-      let (b, ib, e, is) = pair-in n a (B .rules) h₁ in
+      let (b, ib, e, is) = pair-in n (A .tags) a (B .rules) h₁ in
       record { left = a; right = b; in-left = ia; in-right = ib; symbols = e; is = is }
 
-  of-pair : (a b : Rule) → In a (A .rules) → In b (B .rules) → a .symbol ≡ b .symbol → In (pairRule n a b) (P .rules)
+  of-pair : (a b : Rule) → In a (A .rules) → In b (B .rules) → a .symbol ≡ b .symbol → In (pairRule n (A .tags) a b) (P .rules)
   of-pair a b ia ib e =
-      sorted-in _ (concatMap-in (λ r. concatMap (λ s. only (eqb (r .symbol) (s .symbol)) (pairRule n r s ∷ [])) (B .rules)) ia
-      (concatMap-in (λ s. only (eqb (a .symbol) (s .symbol)) (pairRule n a s ∷ [])) ib
+      sorted-in _ (concatMap-in (λ r. concatMap (λ s. only (eqb (r .symbol) (s .symbol)) (pairRule n (A .tags) r s ∷ [])) (B .rules)) ia
+      (concatMap-in (λ s. only (eqb (a .symbol) (s .symbol)) (pairRule n (A .tags) a s ∷ [])) ib
       (only-in (eqb (a .symbol) (b .symbol)) (subst (λ z. T (eqb (a .symbol) z)) e (eqb-refl (a .symbol))) (here refl))))
 
   -- .. and what it carries
@@ -148,7 +156,14 @@ module _ (A B : Automaton) (sa : Wellformed A) (sb : Wellformed B) (same : A .ar
     high-tag : (k : ℕ) → carries? P (p * n + q) (A .tags + k) ≡ carries? B q k
     high-tag k = ap (λ (s : State). eqb (s .mask / 2 ^ (A .tags + k) % 2) 1) (product-state A B p q lp lq) ∙ ap (λ z. eqb z 1) (bit-high _ _ k (A .tags) (sa .masks p))
 
-  pub by-pair : (C : Rule → Type 0) → ((a b : Rule) → In a (A .rules) → In b (B .rules) → a .symbol ≡ b .symbol → C (pairRule n a b)) → (r : Rule) → In r (P .rules) → C r
+  -- .. and what a rule of a pair forgets
+  low-forget : (a b : Rule) (k : ℕ) → k < A .tags → forgets? (pairRule n (A .tags) a b) k ≡ forgets? a k
+  low-forget a b k h = ap (λ z. eqb z 1) (bit-low (a .forget) (b .forget) k (A .tags) h)
+
+  high-forget : (a b : Rule) → In a (A .rules) → (k : ℕ) → forgets? (pairRule n (A .tags) a b) (A .tags + k) ≡ forgets? b k
+  high-forget a b ia k = ap (λ z. eqb z 1) (bit-high (a .forget) (b .forget) k (A .tags) (sa .forgets a ia))
+
+  pub by-pair : (C : Rule → Type 0) → ((a b : Rule) → In a (A .rules) → In b (B .rules) → a .symbol ≡ b .symbol → C (pairRule n (A .tags) a b)) → (r : Rule) → In r (P .rules) → C r
   by-pair C h r ir = let d = pair-of r ir in subst C (sym (d .is)) (h (d .left) (d .right) (d .in-left) (d .in-right) (d .symbols))
 
   as-many : (a b : Rule) → In a (A .rules) → In b (B .rules) → a .symbol ≡ b .symbol → length (a .children) ≡ length (b .children)
@@ -159,6 +174,7 @@ module _ (A B : Automaton) (sa : Wellformed A) (sb : Wellformed B) (same : A .ar
       record {
         f = λ z. z / n;
         g = λ k. k;
+        brings = λ k. k < A .tags;
         rule = by-pair _ (λ a b ia ib e.
             let m = as-many a b ia ib e in (
               a,
@@ -169,12 +185,14 @@ module _ (A B : Automaton) (sa : Wellformed A) (sb : Wellformed B) (same : A .ar
               λ j h.
                   let l : j < length (a .children) = omega (arith, length-pairNumbers n (a .children) (b .children) m) in
                   sym (ap (λ z. z / n) (pairNumbers-at n (a .children) (b .children) m j l) ∙ digits-div (getD (a .children) j 0) (sb .children b ib _ (in-getD 0 (b .children) j (omega arith)))),
+              λ k h o. subst T (low-forget a b k h) o,
             ));
         final = by-pair _ (λ a b ia ib e h.
             rw (digits-div (a .target) (sb .targets b ib)) (T-and (final? A (a .target)) (final? B (b .target)) (subst T (final-pair (a .target) (b .target) (sa .targets a ia) (sb .targets b ib)) h) .0));
         tags = by-pair _ (λ a b ia ib e k h c. (
           omega arith,
           subst T (sym (low-tag (a .target) (b .target) (sa .targets a ia) (sb .targets b ib) k h)) (rw (digits-div (a .target) (sb .targets b ib)) at c),
+          h,
         ));
       }
 
@@ -183,6 +201,7 @@ module _ (A B : Automaton) (sa : Wellformed A) (sb : Wellformed B) (same : A .ar
       record {
         f = λ z. z % n;
         g = λ k. A .tags + k;
+        brings = λ k. Unit {0};
         rule = by-pair _ (λ a b ia ib e.
             let m = as-many a b ia ib e in (
               b,
@@ -193,12 +212,14 @@ module _ (A B : Automaton) (sa : Wellformed A) (sb : Wellformed B) (same : A .ar
               λ j h.
                   let l : j < length (a .children) = omega (arith, length-pairNumbers n (a .children) (b .children) m) in
                   sym (ap (λ z. z % n) (pairNumbers-at n (a .children) (b .children) m j l) ∙ digits-mod (getD (a .children) j 0) (sb .children b ib _ (in-getD 0 (b .children) j (omega arith)))),
+              λ k h o. subst T (high-forget a b ia k) o,
             ));
         final = by-pair _ (λ a b ia ib e h.
             rw (digits-mod (a .target) (sb .targets b ib)) (T-and (final? A (a .target)) (final? B (b .target)) (subst T (final-pair (a .target) (b .target) (sa .targets a ia) (sb .targets b ib)) h) .1));
         tags = by-pair _ (λ a b ia ib e k h c. (
           omega arith,
           subst T (sym (high-tag (a .target) (b .target) (sa .targets a ia) (sb .targets b ib) k)) (rw (digits-mod (a .target) (sb .targets b ib)) at c),
+          tt,
         ));
       }
 
@@ -214,20 +235,38 @@ module _ (A B : Automaton) (sa : Wellformed A) (sb : Wellformed B) (same : A .ar
       right-in : (p : List ℕ) (u : Tree) → at t p ≡ some u → w .run p < n
       right-in p u e = let s = w .runs p u e in subst (_< n) (s .leads) (sb .targets (s .rule) (s .listed))
 
-      step : (p : List ℕ) (u : Tree) → at t p ≡ some u → Move P ρ p u
-      step p u e =
-          let s = v .runs p u e in
-          let s′ = w .runs p u e in
+      -- two moves make a move by the rule of the pair
+      paired : (p : List ℕ) (u : Tree) (s : Move A (v .run) p u) (s′ : Move B (w .run) p u) → (m : Move P ρ p u) × (m .rule ≡ pairRule n (A .tags) (s .rule) (s′ .rule))
+      paired p u s s′ =
           let es = s .same-symbol ∙ sym (s′ .same-symbol) in
-          let m = as-many (s .rule) (s′ .rule) (s .listed) (s′ .listed) es in
-          record {
-            rule = pairRule n (s .rule) (s′ .rule);
-            listed = of-pair (s .rule) (s′ .rule) (s .listed) (s′ .listed) es;
-            same-symbol = s .same-symbol;
-            leads = cc (s .leads, s′ .leads);
-            as-many = length-pairNumbers n (s .rule .children) (s′ .rule .children) m ∙ s .as-many;
-            from = λ j h. pairNumbers-at n (s .rule .children) (s′ .rule .children) m j (omega (arith, s .as-many)) ∙ cc (s .from j h, s′ .from j h);
-          }
+          let m = as-many (s .rule) (s′ .rule) (s .listed) (s′ .listed) es in (
+            record {
+              rule = pairRule n (A .tags) (s .rule) (s′ .rule);
+              listed = of-pair (s .rule) (s′ .rule) (s .listed) (s′ .listed) es;
+              same-symbol = s .same-symbol;
+              leads = cc (s .leads, s′ .leads);
+              as-many = length-pairNumbers n (s .rule .children) (s′ .rule .children) m ∙ s .as-many;
+              from = λ j h. pairNumbers-at n (s .rule .children) (s′ .rule .children) m j (omega (arith, s .as-many)) ∙ cc (s .from j h, s′ .from j h);
+            },
+            refl,
+          )
+
+      step : (p : List ℕ) (u : Tree) → at t p ≡ some u → Move P ρ p u
+      step p u e = paired p u (v .runs p u e) (w .runs p u e) .0
+
+      -- .. which forgets what one of the two forgets
+      left-forgets : (k : ℕ) → k < A .tags → (q : List ℕ) → Forgets A t (v .run) k q → Forgets P t ρ k q
+      left-forgets k h q o =
+          let s′ = w .runs q (o .tree) (o .stands) in
+          let (m, is) = paired q (o .tree) (o .move) s′ in
+          record { tree = o .tree; stands = o .stands; move = m; forgotten = subst (λ (r : Rule). T (forgets? r k)) (sym is) (subst T (sym (low-forget (o .move .rule) (s′ .rule) k h)) (o .forgotten)) }
+
+      right-forgets : (k i : ℕ) → k ≡ A .tags + i → (q : List ℕ) → Forgets B t (w .run) i q → Forgets P t ρ k q
+      right-forgets k i ek q o =
+          let s = v .runs q (o .tree) (o .stands) in
+          let (m, is) = paired q (o .tree) s (o .move) in
+          subst (λ z. Forgets P t ρ z q) (sym ek)
+          (record { tree = o .tree; stands = o .stands; move = m; forgotten = subst (λ (r : Rule). T (forgets? r (A .tags + i))) (sym is) (subst T (sym (high-forget (s .rule) (o .move .rule) (s .listed) i)) (o .forgotten)) })
 
       accepts′ : T (final? P (ρ []))
       accepts′ = subst T (sym (final-pair (v .run []) (w .run []) (left-in [] t refl) (right-in [] t refl))) (and-T (final? A (v .run [])) (final? B (w .run [])) (v .accepting) (w .accepting))
@@ -238,12 +277,12 @@ module _ (A B : Automaton) (sa : Wellformed A) (sb : Wellformed B) (same : A .ar
       high : (k i : ℕ) → k ≡ A .tags + i → (p : List ℕ) (u : Tree) → at t p ≡ some u → T (carries? P (ρ p) k) → T (carries? B (w .run p) i)
       high k i ek p u e c = subst T (high-tag (v .run p) (w .run p) (left-in p u e) (right-in p u e) i) (subst (λ z. T (carries? P (ρ p) z)) ek c)
 
-      consistent-if : (k : ℕ) → k < P .tags → Dec (k < A .tags) → (p p′ : List ℕ) (u u′ : Tree) → at t p ≡ some u → at t p′ ≡ some u′ → T (carries? P (ρ p) k) → T (carries? P (ρ p′) k) → u ≡ u′
-      consistent-if k h (yes l) p p′ u u′ e e′ c c′ = v .consistent k l p p′ u u′ e e′ (low k l p u e c) (low k l p′ u′ e′ c′)
-      consistent-if k h (no l) p p′ u u′ e e′ c c′ =
+      consistent-if : (k : ℕ) → k < P .tags → Dec (k < A .tags) → (p p′ : List ℕ) (u u′ : Tree) → at t p ≡ some u → at t p′ ≡ some u′ → T (carries? P (ρ p) k) → T (carries? P (ρ p′) k) → Together P t ρ k p p′ → u ≡ u′
+      consistent-if k h (yes l) p p′ u u′ e e′ c c′ g = v .consistent k l p p′ u u′ e e′ (low k l p u e c) (low k l p′ u′ e′ c′) (λ q o. g q (left-forgets k l q o))
+      consistent-if k h (no l) p p′ u u′ e e′ c c′ g =
           let i : ℕ = k - A .tags in
           let ek : k ≡ A .tags + i = omega arith in
-          w .consistent i (omega arith) p p′ u u′ e e′ (high k i ek p u e c) (high k i ek p′ u′ e′ c′)
+          w .consistent i (omega arith) p p′ u u′ e e′ (high k i ek p u e c) (high k i ek p′ u′ e′ c′) (λ q o. g q (right-forgets k i ek q o))
 
       consistent′ : Consistent P t ρ
       consistent′ k h = consistent-if k h (decLt k (A .tags))

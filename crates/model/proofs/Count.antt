@@ -2,11 +2,16 @@
 use mathlib.Core.Path.{_≡_, refl, sym, ap, _∙_, subst}
 use mathlib.Core.Logic.{_⊎_, inl, inr, ⊎-elim}
 use mathlib.Core.List.{List, [], _∷_, _++_, List·Memᴰ as In, List·Memᴰ·head as here, List·Memᴰ·tail as there, List·Memᴰ·cases-cons as in-cons, Memᴰ·cast}
+use mathlib.Core.Bool.{Bool, true, false}
 use Prim.Native.Nat.{ℕ, zero, suc, _<_, _≤_, zero-le}
 use native.Mathlib.Omega.{arith}
 use native.Mathlib.Nat.{eq-or-lt-of-le}
+use lib.Dec.{T}
 use lib.ListN.{length, getD, length-append, List·getD-append}
 use lib.Seq.{getD-append-seam}
+use Rattle.model.specs.Lists.{all, allBelow}
+use Rattle.model.proofs.Members.{T-true, all-in, in-all}
+use Rattle.model.proofs.Below.{all-at, all-of}
 use Rattle.model.proofs.Rows.{in-getD}
 
 module _ {B : Type 0} where
@@ -62,3 +67,15 @@ module _ {B : Type 0} where
   pub no-longer : (d : B) (xs ys : List B) → NoRepeats d xs → ((x : B) → In x xs → In x ys) → length xs ≤ length ys
   no-longer d xs ys once h =
       pigeonhole (λ i y. getD xs i d ≡ y) (length xs) ys (λ i l. (getD xs i d, h (getD xs i d) (in-getD d xs i l), refl)) (λ i j y li lj e e′. once i j li lj (e ∙ sym e′))
+
+-- a test of each of a list, asked index by index
+same-test : (a b : Bool) → (T a → T b) → (T b → T a) → a ≡ b
+same-test true b h g = sym (T-true b .0 (h tt))
+same-test false true h g = absurd (g tt)
+same-test false false h g = refl
+
+pub all-below : {B : Type 0} (f : B → Bool) (d : B) (xs : List B) → allBelow (length xs) (λ i. f (getD xs i d)) ≡ all f xs
+all-below f d xs =
+    same-test (allBelow (length xs) (λ i. f (getD xs i d))) (all f xs)
+    (λ h. in-all f xs (λ x m. let (i, l, e) = place-of d m in subst (λ z. T (f z)) e (all-at (length xs) (λ i. f (getD xs i d)) h i l)))
+    (λ h. all-of (length xs) (λ i. f (getD xs i d)) (λ i l. all-in f xs h (in-getD d xs i l)))

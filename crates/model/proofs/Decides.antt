@@ -7,7 +7,7 @@ use Prim.Native.Nat.{ℕ, _-_, _<_}
 use native.Mathlib.Omega.{arith}
 use lib.Dec.{T, eqb, eqb→eq, eqb-refl}
 use lib.ListN.{length}
-use Rattle.model.specs.Automaton.{Automaton, final?}
+use Rattle.model.specs.Automaton.{Automaton, OneRule, final?}
 use Rattle.model.specs.Run.{Accepts}
 use Rattle.model.specs.Table.{Row, treeOf, Lower, Distinct}
 use Rattle.model.specs.Annotation.{Memory, annotation, Derivable, annotations, accepting?, accepts?}
@@ -41,14 +41,14 @@ module _ (A : Automaton) (rows : List Row) (lower : Lower rows) where
         (and-T (eqb last last) (final? A (f .state)) (eqb-refl last) (f .final)),
   )
 
-module _ (A : Automaton) (rows : List Row) (some-row : 0 < length rows) (lower : Lower rows) (distinct : Distinct rows) where
+module _ (A : Automaton) (rows : List Row) (some-row : 0 < length rows) (lower : Lower rows) (once : OneRule A) (distinct : Distinct rows) where
   pub final-accepts : Final A rows ↔ Accepts A (treeOf rows)
   final-accepts = (
     λ f.
-        let g = derivable-run A rows lower distinct (f .derivable) in
+        let g = derivable-run A rows lower once distinct (f .derivable) in
         record { run = g .run; runs = g .runs; accepting = subst (λ z. T (final? A z)) (sym (g .root)) (f .final); consistent = g .consistent },
     λ w.
-        let g = consistent-left A rows lower distinct (length rows - 1) (omega arith) (w .run) (w .runs) (w .consistent) in
+        let g = consistent-left A rows lower once distinct (length rows - 1) (omega arith) (w .run) (w .runs) (w .consistent) in
         record { state = w .run []; memory = g .memory; final = w .accepting; derivable = g .derivable },
   )
 

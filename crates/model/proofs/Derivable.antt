@@ -6,15 +6,24 @@ use Prim.Native.Nat.{ℕ, zero, suc, _<_}
 use native.Mathlib.Omega.{arith}
 use lib.Dec.{T}
 use lib.ListN.{length, getD}
-use Rattle.model.specs.Automaton.{Automaton, carries?}
+use Rattle.model.specs.Automaton.{Rule, Automaton, carries?, forgets?}
 use Rattle.model.specs.Table.{Row, rowAt}
-use Rattle.model.specs.Annotation.{Memory, agree?, joined, ownMemory, finish, Derivable, derived, Joins, joins-none, joins-more}
+use Rattle.model.specs.Annotation.{Memory, agree?, joined, ownMemory, kept, finish, Derivable, derived, Joins, joins-none, joins-more}
 use Rattle.model.proofs.Members.{in-only}
-use Rattle.model.proofs.Memory.{Within, within-left, within-right, length-joined, cond-at}
-use Rattle.model.proofs.Tab.{tab-at, length-tab}
+use Rattle.model.proofs.Memory.{Within, within-left, within-right, length-joined, cond-at, drop-from, drop-other}
+use Rattle.model.proofs.Tab.{tab-at, tab-from, length-tab}
 
--- the last step
+-- what is left of a memory, and the last step
 module _ (A : Automaton) where
+  pub kept-from : (r : Rule) (m : Memory) (k j : ℕ) → getD (kept A r m) k 0 ≡ suc j → (k < A .tags) × (T (forgets? r k) → ⊥) × (getD m k 0 ≡ suc j)
+  kept-from r m k j h = let (l, e) = tab-from (A .tags) _ k j h in let (n, e′) = drop-from (forgets? r k) (getD m k 0) j e in (l, n, e′)
+
+  pub kept-at : (r : Rule) (m : Memory) (k : ℕ) → k < A .tags → (T (forgets? r k) → ⊥) → getD (kept A r m) k 0 ≡ getD m k 0
+  kept-at r m k l n = tab-at 0 (A .tags) _ k l ∙ drop-other (forgets? r k) (getD m k 0) n
+
+  pub kept-width : (r : Rule) (m : Memory) → length (kept A r m) ≡ A .tags
+  kept-width r m = length-tab (A .tags) (λ k. cond (forgets? r k) 0 (getD m k 0))
+
   pub finish-joined : (q i : ℕ) (m : Memory) {y : Memory} → In y (finish A q i m) → T (agree? m (ownMemory A q i)) × (y ≡ joined m (ownMemory A q i))
   finish-joined q i m h = let (t, g) = in-only (agree? m (ownMemory A q i)) _ h in (t, eq-of-singleton g)
 
@@ -38,9 +47,9 @@ module _ (A : Automaton) (rows : List Row) where
   -- every memory has a place for each tag
   mutual
     pub width : {i q : ℕ} {m : Memory} → Derivable A rows i q m → length m ≡ A .tags
-    width (derived {i = i} {q = q} {m = m} l ir es et js iy) = finish-width A q i m iy (joins-width js (length-tab (A .tags) (λ k. 0)))
+    width (derived {i = i} {q = q} {r = r} {m = m} l ir es et js iy) = finish-width A q i (kept A r m) iy (kept-width A r m)
 
-    joins-width : {m y : Memory} {cs qs : List ℕ} → Joins A rows m cs qs y → length m ≡ A .tags → length y ≡ A .tags
+    pub joins-width : {m y : Memory} {cs qs : List ℕ} → Joins A rows m cs qs y → length m ≡ A .tags → length y ≡ A .tags
     joins-width joins-none h = h
     joins-width (joins-more {m = m} {x = x} d t js) h = joins-width js (length-joined m x (h ∙ sym (width d)) ∙ width d)
 
@@ -58,8 +67,11 @@ module _ (A : Automaton) (rows : List Row) where
   as-many joins-none = refl
   as-many (joins-more d t js) = ap suc (as-many js)
 
-  -- Each child's memory is within the annotation's.
-  pub children-within : {i q : ℕ} {y : Memory} → Derivable A rows i q y → (j : ℕ) → j < length ((rowAt rows i) .children) → (p : ℕ) × (x : Memory) × Derivable A rows (getD ((rowAt rows i) .children) j 0) p x × Within x y
-  children-within (derived {i = i} {q = q} {r = r} {m = m} l ir es et js iy) j h =
-      let (x, d, w) = child-within js j h in
-      (getD (r .children) j 0, x, d, λ k n e. finish-within A q i m iy k n (w k n e))
+  -- Each child's memory is within the annotation's, but for what the rule forgets.
+  pub children-within : {i q : ℕ} {y : Memory} → Derivable A rows i q y → (r : Rule) × ((j : ℕ) → j < length ((rowAt rows i) .children) → (x : Memory) × Derivable A rows (getD ((rowAt rows i) .children) j 0) (getD (r .children) j 0) x × Within (kept A r x) y)
+  children-within (derived {i = i} {q = q} {r = r} {m = m} l ir es et js iy) = (
+    r,
+    λ j h.
+        let (x, d, w) = child-within js j h in
+        (x, d, λ k n e. let (lk, o, e′) = kept-from A r x k n e in finish-within A q i (kept A r m) iy k n (kept-at A r m k lk o ∙ w k n e′)),
+  )

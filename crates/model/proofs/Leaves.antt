@@ -5,22 +5,24 @@ use mathlib.Core.Option.{some, Option·some-injective}
 use mathlib.Core.List.{List, [], _∷_, List·Memᴰ as In, List·Memᴰ·head as here}
 use Prim.Native.Nat.{ℕ, zero, suc, _<_}
 use native.Mathlib.Omega.{arith}
+use native.Mathlib.Decide.{ℕ-discrete}
 use lib.Dec.{T}
 use lib.ListN.{length, getD}
 use Rattle.model.specs.Tree.{Tree, at}
-use Rattle.model.specs.Automaton.{Rule, Automaton, carries?}
-use Rattle.model.specs.Run.{Labelling, Move, IsRun, Consistent}
+use Rattle.model.specs.Automaton.{Rule, Automaton, OneRule, carries?, forgets?}
+use Rattle.model.specs.Run.{Labelling, Move, IsRun, Forgets, Together, Consistent}
 use Rattle.model.specs.Table.{Row, rowAt, treeAt, Lower, Distinct}
-use Rattle.model.specs.Annotation.{Memory, emptyMemory, agree?, joined, ownMemory, finish, Derivable, derived, Joins, joins-none, joins-more}
-use Rattle.model.specs.Leaves.{Tagged, RunLeaving}
+use Rattle.model.specs.Annotation.{Memory, emptyMemory, agree?, joined, ownMemory, kept, finish, Derivable, derived, Joins, joins-none, joins-more}
+use Rattle.model.specs.Leaves.{Remembered, Tagged, RunLeaving}
 use Rattle.model.proofs.Members.{only-in}
 use Rattle.model.proofs.Memory.{within-left, within-right, joined-from, agree-of, cond-from, same-memory}
 use Rattle.model.proofs.Tab.{tab-from}
 use Rattle.model.proofs.Rows.{in-getD, below, above, row-at, as-many-kids, equal-trees}
-use Rattle.model.proofs.Derivable.{finish-joined, finish-within, finish-own, width, as-many}
+use Rattle.model.proofs.Derivable.{kept-from, kept-at, finish-joined, finish-within, finish-own, width, as-many}
+use Rattle.model.proofs.Forgetting.{move-down, forgets-here, remembered-up, remembered-down, together-down, together-kept, consistent-down, both-remembered, below-remembered}
 
 module _ (A : Automaton) (rows : List Row) where
-  -- the tagged subtrees of the labelling ρ of t are exactly the rows that m names
+  -- the tagged subtrees of the labelling ρ of t, as far as they are not forgotten, are exactly the rows that m names
   abbrev pub Leaves : Tree → Labelling → Memory → Type 0
   Leaves t ρ m = (k j : ℕ) → (getD m k 0 ≡ suc j) ↔ Tagged A rows t ρ k j
 
@@ -59,11 +61,7 @@ module _ (A : Automaton) (rows : List Row) where
   own-tagged i l ρ k j h =
       let (lk, c) = tab-from (A .tags) _ k j h in
       let (tk, e) = cond-from (carries? A (ρ []) k) i j c in
-      subst (Tagged A rows (treeAt rows i) ρ k) e (record { tag = lk; row = l; place = []; stands = refl; carried = tk })
-
-  -- no tag stands at two rows
-  abbrev pub OneRow : Tree → Labelling → Type 0
-  OneRow t ρ = (k j j′ : ℕ) → Tagged A rows t ρ k j → Tagged A rows t ρ k j′ → j ≡ j′
+      subst (Tagged A rows (treeAt rows i) ρ k) e (record { tag = lk; row = l; place = []; stands = refl; carried = tk; remembered = λ v f a. a })
 
   -- an annotation that derives and says what the labelling ρ leaves
   pub record Left (i : ℕ) (ρ : Labelling) : Type 0 where
@@ -71,39 +69,65 @@ module _ (A : Automaton) (rows : List Row) where
     pub derivable : Derivable A rows i (ρ []) memory
     pub leaves : Leaves (treeAt rows i) ρ memory
 
-  abbrev Seen : Tree → Labelling → Memory → Type 0
-  Seen t ρ m = (k j : ℕ) → getD m k 0 ≡ suc j → Tagged A rows t ρ k j
-
-  agrees : (t : Tree) (ρ : Labelling) → OneRow t ρ → (a b : Memory) → Seen t ρ a → Seen t ρ b → T (agree? a b)
-  agrees t ρ one a b sa sb = agree-of a b (λ k j j′ e e′. one k j j′ (sa k j e) (sb k j′ e′))
+  -- memories whose entries are all among those of S, which has one row for a tag
+  agrees : (S : ℕ → ℕ → Type 0) → ((k j j′ : ℕ) → S k j → S k j′ → j ≡ j′) → (a b : Memory) → ((k j : ℕ) → getD a k 0 ≡ suc j → S k j) → ((k j : ℕ) → getD b k 0 ≡ suc j → S k j) → T (agree? a b)
+  agrees S one a b sa sb = agree-of a b (λ k j j′ e e′. one k j j′ (sa k j e) (sb k j′ e′))
 
   module _ (lower : Lower rows) where
-    under-tagged : (i : ℕ) → i < length rows → (ρ : Labelling) (k j : ℕ) → Under ((rowAt rows i) .children) (λ n p. ρ (n ∷ p)) k j → Tagged A rows (treeAt rows i) ρ k j
-    under-tagged i l ρ k j u =
-        let g = u .tagged in
-        record { tag = g .tag; row = g .row; place = u .child ∷ g .place; stands = above rows lower i l (u .child) (u .is-child) (g .place) ∙ g .stands; carried = g .carried }
+    -- the rows and labels of the children of row i
+    abbrev kids : ℕ → List ℕ
+    kids i = (rowAt rows i) .children
 
-    -- after the last step: a row's memory is what its labelling leaves, if the row has no equal where its state is tagged
-    finish-leaves : (i : ℕ) → i < length rows → (ρ : Labelling) (m y : Memory) → ((k j : ℕ) → k < A .tags → T (carries? A (ρ []) k) → j < length rows → treeAt rows i ≡ treeAt rows j → i ≡ j) → JoinLeaves (emptyMemory A) ((rowAt rows i) .children) (λ n p. ρ (n ∷ p)) m → In y (finish A (ρ []) i m) → Leaves (treeAt rows i) ρ y
-    finish-leaves i l ρ m y one lm iy k j = (
+    abbrev parts : Labelling → ℕ → Labelling
+    parts ρ n = λ p. ρ (n ∷ p)
+
+    abbrev kid : ℕ → ℕ → Tree
+    kid i n = treeAt rows (getD (kids i) n 0)
+
+    under-tagged : (i : ℕ) → i < length rows → (ρ : Labelling) (k j : ℕ) → (Forgets A (treeAt rows i) ρ k [] → ⊥) → Under (kids i) (parts ρ) k j → Tagged A rows (treeAt rows i) ρ k j
+    under-tagged i l ρ k j root u =
+        let g = u .tagged in
+        let n = u .child in
+        record {
+          tag = g .tag;
+          row = g .row;
+          place = n ∷ g .place;
+          stands = above rows lower i l n (u .is-child) (g .place) ∙ g .stands;
+          carried = g .carried;
+          remembered = remembered-up A (treeAt rows i) (kid i n) ρ n (above rows lower i l n (u .is-child)) k (g .place) root (g .remembered);
+        }
+
+    -- a position below a child at which the tag is remembered as far as the child
+    tagged-under : (i : ℕ) → i < length rows → (ρ : Labelling) (k j n : ℕ) (p : List ℕ) → k < A .tags → j < length rows → n < length (kids i) → at (kid i n) p ≡ some (treeAt rows j) → T (carries? A (ρ (n ∷ p)) k) → Remembered A (kid i n) (parts ρ n) k p → Under (kids i) (parts ρ) k j
+    tagged-under i l ρ k j n p lk lj h e c g = record { child = n; is-child = h; tagged = record { tag = lk; row = lj; place = p; stands = e; carried = c; remembered = g } }
+
+    -- after the last step: a row's memory is what its labelling leaves, if the row has no equal where its state is tagged; r is the rule at the root
+    finish-leaves : (i : ℕ) → i < length rows → (ρ : Labelling) (r : Rule) → ((k : ℕ) → Forgets A (treeAt rows i) ρ k [] ↔ T (forgets? r k)) → (m y : Memory) → ((k j : ℕ) → k < A .tags → T (carries? A (ρ []) k) → j < length rows → treeAt rows i ≡ treeAt rows j → i ≡ j) → JoinLeaves (emptyMemory A) (kids i) (parts ρ) m → In y (finish A (ρ []) i (kept A r m)) → Leaves (treeAt rows i) ρ y
+    finish-leaves i l ρ r root m y one lm iy k j = (
       λ h.
-          ⊎-elim (λ e. ⊎-elim (λ z. absurd (no-entry k j z)) (under-tagged i l ρ k j) (lm k j .0 e)) (own-tagged i l ρ k j)
-          (joined-from m (ownMemory A (ρ []) i) k j (subst (λ z. getD z k 0 ≡ suc j) (finish-joined A (ρ []) i m iy .1) h)),
-      λ g. back (g .place) (g .tag) (g .row) (g .stands) (g .carried),
+          ⊎-elim
+          (λ e. let (lk, o, e′) = kept-from A r m k j e in ⊎-elim (λ z. absurd (no-entry k j z)) (under-tagged i l ρ k j (λ f. o (root k .0 f))) (lm k j .0 e′))
+          (own-tagged i l ρ k j)
+          (joined-from (kept A r m) (ownMemory A (ρ []) i) k j (subst (λ z. getD z k 0 ≡ suc j) (finish-joined A (ρ []) i (kept A r m) iy .1) h)),
+      λ g. back (g .place) (g .tag) (g .row) (g .stands) (g .carried) (g .remembered),
     )
       where
-        back : (p : List ℕ) → k < A .tags → j < length rows → at (treeAt rows i) p ≡ some (treeAt rows j) → T (carries? A (ρ p) k) → getD y k 0 ≡ suc j
-        back [] lk lj e c = finish-own A (ρ []) i m iy k lk c ∙ ap suc (one k j lk c lj (Option·some-injective _ _ e))
-        back (n ∷ p) lk lj e c =
+        back : (p : List ℕ) → k < A .tags → j < length rows → at (treeAt rows i) p ≡ some (treeAt rows j) → T (carries? A (ρ p) k) → Remembered A (treeAt rows i) ρ k p → getD y k 0 ≡ suc j
+        back [] lk lj e c g = finish-own A (ρ []) i (kept A r m) iy k lk c ∙ ap suc (one k j lk c lj (Option·some-injective _ _ e))
+        back (n ∷ p) lk lj e c g =
             let (h, e′) = below rows lower i l n p _ e in
-            finish-within A (ρ []) i m iy k j (lm k j .1 (inr (record { child = n; is-child = h; tagged = record { tag = lk; row = lj; place = p; stands = e′; carried = c } })))
+            let u = tagged-under i l ρ k j n p lk lj h e′ c (remembered-down A (treeAt rows i) (kid i n) ρ n (above rows lower i l n h) k p g) in
+            finish-within A (ρ []) i (kept A r m) iy k j (kept-at A r m k lk (λ t. g [] (root k .1 t) tt) ∙ lm k j .1 (inr u))
 
-    -- a run on each child, and a rule at the root
-    row-run : (i : ℕ) → i < length rows → (r : Rule) → In r (A .rules) → r .symbol ≡ (rowAt rows i) .symbol → length (r .children) ≡ length ((rowAt rows i) .children) → (ρ : Labelling) → r .target ≡ ρ [] → ((n : ℕ) → n < length ((rowAt rows i) .children) → ρ (n ∷ []) ≡ getD (r .children) n 0) → ((n : ℕ) → n < length ((rowAt rows i) .children) → IsRun A (treeAt rows (getD ((rowAt rows i) .children) n 0)) (λ p. ρ (n ∷ p))) → IsRun A (treeAt rows i) ρ
-    row-run i l r ir es el ρ et roots runs [] u e =
+    -- a rule at the root
+    abbrev root-move : (i : ℕ) → i < length rows → (r : Rule) → In r (A .rules) → r .symbol ≡ (rowAt rows i) .symbol → length (r .children) ≡ length (kids i) → (ρ : Labelling) → r .target ≡ ρ [] → ((n : ℕ) → n < length (kids i) → ρ (n ∷ []) ≡ getD (r .children) n 0) → Move A ρ [] (treeAt rows i)
+    root-move i l r ir es el ρ et roots =
         let many = as-many-kids rows lower i l in
-        subst (Move A ρ []) (Option·some-injective _ _ e)
-        (record { rule = r; listed = ir; same-symbol = es; leads = et; as-many = el ∙ sym many; from = λ n h. sym (roots n (omega arith)) })
+        record { rule = r; listed = ir; same-symbol = es; leads = et; as-many = el ∙ sym many; from = λ n h. sym (roots n (omega arith)) }
+
+    -- .. and a run on each child
+    row-run : (i : ℕ) → i < length rows → (r : Rule) → In r (A .rules) → r .symbol ≡ (rowAt rows i) .symbol → length (r .children) ≡ length ((rowAt rows i) .children) → (ρ : Labelling) → r .target ≡ ρ [] → ((n : ℕ) → n < length ((rowAt rows i) .children) → ρ (n ∷ []) ≡ getD (r .children) n 0) → ((n : ℕ) → n < length ((rowAt rows i) .children) → IsRun A (treeAt rows (getD ((rowAt rows i) .children) n 0)) (λ p. ρ (n ∷ p))) → IsRun A (treeAt rows i) ρ
+    row-run i l r ir es el ρ et roots runs [] u e = subst (Move A ρ []) (Option·some-injective _ _ e) (root-move i l r ir es el ρ et roots)
     row-run i l r ir es el ρ et roots runs (n ∷ p) u e =
         let (h, e′) = below rows lower i l n p u e in
         let s = runs n h p u e′ in
@@ -112,15 +136,45 @@ module _ (A : Automaton) (rows : List Row) where
     row-child : (i : ℕ) → i < length rows → (n : ℕ) → n < length ((rowAt rows i) .children) → getD ((rowAt rows i) .children) n 0 < i
     row-child i l n h = lower i l _ (in-getD 0 ((rowAt rows i) .children) n h)
 
-    -- a labelling that leaves a memory is consistent
-    leaves-consistent : (i : ℕ) → i < length rows → (ρ : Labelling) (m : Memory) → Leaves (treeAt rows i) ρ m → Consistent A (treeAt rows i) ρ
-    leaves-consistent i l ρ m lm k lk p p′ u u′ e e′ c c′ =
-        let (j, lj, q) = row-at rows lower p i l u e in
-        let (j′, lj′, q′) = row-at rows lower p′ i l u′ e′ in
-        let a = lm k j .1 (record { tag = lk; row = lj; place = p; stands = e ∙ ap some q; carried = c }) in
-        let a′ = lm k j′ .1 (record { tag = lk; row = lj′; place = p′; stands = e′ ∙ ap some q′; carried = c′ }) in
-        let same : j ≡ j′ = omega arith in
-        q ∙ ap (treeAt rows) same ∙ sym q′
+    -- Children that are consistent, what they leave joined without a clash, and what is left with the root's tags added without a clash, make a consistent labelling.
+    leaves-consistent : (i : ℕ) → i < length rows → (ρ : Labelling) (m y : Memory) → ((n : ℕ) → n < length (kids i) → Consistent A (kid i n) (parts ρ n)) → JoinLeaves (emptyMemory A) (kids i) (parts ρ) m → Leaves (treeAt rows i) ρ y → Consistent A (treeAt rows i) ρ
+    leaves-consistent i l ρ m y each lm ly k lk p p′ u u′ e e′ c c′ g = go p p′ e e′ c c′ g
+      where
+        -- by an entry of a memory
+        by : (z : Memory) → ((j : ℕ) → j < length rows → u ≡ treeAt rows j → getD z k 0 ≡ suc j) → ((j : ℕ) → j < length rows → u′ ≡ treeAt rows j → getD z k 0 ≡ suc j) → (q q′ : List ℕ) → at (treeAt rows i) q ≡ some u → at (treeAt rows i) q′ ≡ some u′ → u ≡ u′
+        by z h h′ q q′ e e′ =
+            let (j, lj, o) = row-at rows lower q i l u e in
+            let (j′, lj′, o′) = row-at rows lower q′ i l u′ e′ in
+            let a = h j lj o in
+            let a′ = h′ j′ lj′ o′ in
+            let same : j ≡ j′ = omega arith in
+            o ∙ ap (treeAt rows) same ∙ sym o′
+
+        -- a position that is remembered up to the root
+        seen : (q : List ℕ) (w : Tree) → at (treeAt rows i) q ≡ some w → T (carries? A (ρ q) k) → Remembered A (treeAt rows i) ρ k q → (j : ℕ) → j < length rows → w ≡ treeAt rows j → getD y k 0 ≡ suc j
+        seen q w e c g j lj o = ly k j .1 (record { tag = lk; row = lj; place = q; stands = e ∙ ap some o; carried = c; remembered = g })
+
+        -- .. or up to a child
+        seen-below : (n : ℕ) (q : List ℕ) (w : Tree) → n < length (kids i) → at (kid i n) q ≡ some w → T (carries? A (ρ (n ∷ q)) k) → Remembered A (kid i n) (parts ρ n) k q → (j : ℕ) → j < length rows → w ≡ treeAt rows j → getD m k 0 ≡ suc j
+        seen-below n q w h e c g j lj o = lm k j .1 (inr (tagged-under i l ρ k j n q lk lj h (e ∙ ap some o) c g))
+
+        go : (p p′ : List ℕ) → at (treeAt rows i) p ≡ some u → at (treeAt rows i) p′ ≡ some u′ → T (carries? A (ρ p) k) → T (carries? A (ρ p′) k) → Together A (treeAt rows i) ρ k p p′ → u ≡ u′
+        go [] p′ e e′ c c′ g = by y (seen [] u e c (λ v f a. a)) (seen p′ u′ e′ c′ (λ v f a. g v f .1 a)) [] p′ e e′
+        go (n ∷ p) [] e e′ c c′ g = by y (seen (n ∷ p) u e c (λ v f a. g v f .0 a)) (seen [] u′ e′ c′ (λ v f a. a)) (n ∷ p) [] e e′
+        go (n ∷ p) (n′ ∷ p′) e e′ c c′ g =
+            let (h, d) = below rows lower i l n p u e in
+            let (h′, d′) = below rows lower i l n′ p′ u′ e′ in
+            cases (ℕ-discrete n n′) h h′ d d′
+          where
+            cases : Dec (n ≡ n′) → n < length (kids i) → n′ < length (kids i) → at (kid i n) p ≡ some u → at (kid i n′) p′ ≡ some u′ → u ≡ u′
+            cases (yes q) h h′ d d′ =
+                each n h k lk p p′ u u′ d (subst (λ z. at (kid i z) p′ ≡ some u′) (sym q) d′) c (subst (λ z. T (carries? A (ρ (z ∷ p′)) k)) (sym q) c′)
+                (together-down A (treeAt rows i) (kid i n) ρ n (above rows lower i l n h) k p p′ (subst (λ z. Together A (treeAt rows i) ρ k (n ∷ p) (z ∷ p′)) (sym q) g))
+            cases (no q) h h′ d d′ =
+                by m
+                (seen-below n p u h d c (together-kept A (treeAt rows i) (kid i n) ρ n (above rows lower i l n h) k n′ p p′ q (λ v f. g v f .0)))
+                (seen-below n′ p′ u′ h′ d′ c′ (together-kept A (treeAt rows i) (kid i n′) ρ n′ (above rows lower i l n′ h′) k n p′ p (λ z. q (sym z)) (λ v f. g v f .1)))
+                (n ∷ p) (n′ ∷ p′) e e′
 
     -- FROM DERIVATIONS TO RUNS
     -- a run on each child, and what they leave together
@@ -128,6 +182,7 @@ module _ (A : Automaton) (rows : List Row) where
       labels : ℕ → Labelling
       roots : (n : ℕ) → n < length cs → labels n [] ≡ getD qs n 0
       runs : (n : ℕ) → n < length cs → IsRun A (treeAt rows (getD cs n 0)) (labels n)
+      consistent : (n : ℕ) → n < length cs → Consistent A (treeAt rows (getD cs n 0)) (labels n)
       leaves : JoinLeaves m cs labels y
 
     no-runs : (m : Memory) → ChildRuns m [] [] m
@@ -136,6 +191,7 @@ module _ (A : Automaton) (rows : List Row) where
           labels = λ n p. 0;
           roots = λ n h. let z : ⊥ = omega arith in absurd z;
           runs = λ n h. let z : ⊥ = omega arith in absurd z;
+          consistent = λ n h. let z : ⊥ = omega arith in absurd z;
           leaves = leave-none m (λ n p. 0);
         }
 
@@ -149,6 +205,7 @@ module _ (A : Automaton) (rows : List Row) where
           labels = first (g .run) (rest .labels);
           roots = λ n. elim n [ zero ↦ λ h. g .root | suc n′ ↦ λ h. rest .roots n′ (omega arith) ];
           runs = λ n. elim n [ zero ↦ λ h. g .runs | suc n′ ↦ λ h. rest .runs n′ (omega arith) ];
+          consistent = λ n. elim n [ zero ↦ λ h. g .consistent | suc n′ ↦ λ h. rest .consistent n′ (omega arith) ];
           leaves = leave-more m x y c cs (first (g .run) (rest .labels)) t (g .leaves) (rest .leaves);
         }
 
@@ -156,16 +213,18 @@ module _ (A : Automaton) (rows : List Row) where
     under q ρs [] = q
     under q ρs (n ∷ p) = ρs n p
 
-    module _ (distinct : Distinct rows) where
-      built : (i q : ℕ) (r : Rule) (m y : Memory) → i < length rows → In r (A .rules) → r .symbol ≡ (rowAt rows i) .symbol → r .target ≡ q → length (r .children) ≡ length ((rowAt rows i) .children) → ChildRuns (emptyMemory A) ((rowAt rows i) .children) (r .children) m → In y (finish A q i m) → length y ≡ A .tags → RunLeaving A rows i q y
+    module _ (once : OneRule A) (distinct : Distinct rows) where
+      built : (i q : ℕ) (r : Rule) (m y : Memory) → i < length rows → In r (A .rules) → r .symbol ≡ (rowAt rows i) .symbol → r .target ≡ q → length (r .children) ≡ length ((rowAt rows i) .children) → ChildRuns (emptyMemory A) ((rowAt rows i) .children) (r .children) m → In y (finish A q i (kept A r m)) → length y ≡ A .tags → RunLeaving A rows i q y
       built i q r m y l ir es et el g iy w =
           let ρ = under q (g .labels) in
-          let lv = finish-leaves i l ρ m y (λ k j lk c lj e. equal-trees rows lower distinct i j l lj .0 e) (g .leaves) iy in
+          let runs = row-run i l r ir es el ρ et (g .roots) (g .runs) in
+          let root : (k : ℕ) → Forgets A (treeAt rows i) ρ k [] ↔ T (forgets? r k) = λ k. forgets-here A once (treeAt rows i) ρ k [] (treeAt rows i) refl (root-move i l r ir es el ρ et (g .roots)) in
+          let lv = finish-leaves i l ρ r root m y (λ k j lk c lj e. equal-trees rows lower distinct i j l lj .0 e) (g .leaves) iy in
           record {
             run = ρ;
             root = refl;
-            runs = row-run i l r ir es el ρ et (g .roots) (g .runs);
-            consistent = leaves-consistent i l ρ y lv;
+            runs = runs;
+            consistent = leaves-consistent i l ρ m y (g .consistent) (g .leaves) lv;
             width = w;
             leaves = lv;
           }
@@ -181,58 +240,77 @@ module _ (A : Automaton) (rows : List Row) where
         joins-runs (joins-more {m = m} {x = x} {y = y} {c = c} {q = q} {cs = cs} {qs = qs} d t js) = more-runs m x y c q cs qs (derivable-run d) t (joins-runs js)
 
     -- FROM RUNS TO DERIVATIONS
-    -- the children of a position of a run, joined
-    join-all : (t : Tree) (ρ : Labelling) → OneRow t ρ → (cs qs : List ℕ) (ρs : ℕ → Labelling) (m : Memory) → Seen t ρ m → length qs ≡ length cs → ((n : ℕ) → n < length cs → Left (getD cs n 0) (ρs n)) → ((n : ℕ) → n < length cs → ρs n [] ≡ getD qs n 0) → ((k j : ℕ) → Under cs ρs k j → Tagged A rows t ρ k j) → (y : Memory) × Joins A rows m cs qs y × JoinLeaves m cs ρs y
-    join-all t ρ one [] [] ρs m sm e each roots up = (m, joins-none, leave-none m ρs)
-    join-all t ρ one [] (q ∷ qs) ρs m sm e each roots up = let z : ⊥ = omega arith in absurd z
-    join-all t ρ one (c ∷ cs) [] ρs m sm e each roots up = let z : ⊥ = omega arith in absurd z
-    join-all t ρ one (c ∷ cs) (q ∷ qs) ρs m sm e each roots up =
+    -- the children of a position of a run, joined: S has one row for a tag, and what the children leave is in S
+    join-all : (S : ℕ → ℕ → Type 0) → ((k j j′ : ℕ) → S k j → S k j′ → j ≡ j′) → (cs qs : List ℕ) (ρs : ℕ → Labelling) (m : Memory) → ((k j : ℕ) → getD m k 0 ≡ suc j → S k j) → length qs ≡ length cs → ((n : ℕ) → n < length cs → Left (getD cs n 0) (ρs n)) → ((n : ℕ) → n < length cs → ρs n [] ≡ getD qs n 0) → ((k j : ℕ) → Under cs ρs k j → S k j) → (y : Memory) × Joins A rows m cs qs y × JoinLeaves m cs ρs y
+    join-all S one [] [] ρs m sm e each roots up = (m, joins-none, leave-none m ρs)
+    join-all S one [] (q ∷ qs) ρs m sm e each roots up = let z : ⊥ = omega arith in absurd z
+    join-all S one (c ∷ cs) [] ρs m sm e each roots up = let z : ⊥ = omega arith in absurd z
+    join-all S one (c ∷ cs) (q ∷ qs) ρs m sm e each roots up =
         let g = each 0 (omega arith) in
         let x = g .memory in
-        let sx : Seen t ρ x = λ k j h. up k j (record { child = 0; is-child = omega arith; tagged = g .leaves k j .0 h }) in
-        let ag = agrees t ρ one m x sm sx in
+        let sx : (k j : ℕ) → getD x k 0 ≡ suc j → S k j = λ k j h. up k j (record { child = 0; is-child = omega arith; tagged = g .leaves k j .0 h }) in
+        let ag = agrees S one m x sm sx in
         let (y, js, ly) =
-        join-all t ρ one cs qs (λ n. ρs (suc n)) (joined m x) (λ k j h. ⊎-elim (sm k j) (sx k j) (joined-from m x k j h)) (omega arith) (λ n h. each (suc n) (omega arith)) (λ n h. roots (suc n) (omega arith))
+        join-all S one cs qs (λ n. ρs (suc n)) (joined m x) (λ k j h. ⊎-elim (sm k j) (sx k j) (joined-from m x k j h)) (omega arith) (λ n h. each (suc n) (omega arith)) (λ n h. roots (suc n) (omega arith))
         (λ k j u. up k j (record { child = suc (u .child); is-child = omega (arith, u .is-child); tagged = u .tagged })) in
         (y, joins-more (subst (λ z. Derivable A rows c z x) (roots 0 (omega arith)) (g .derivable)) ag js, leave-more m x y c cs ρs ag (g .leaves) ly)
 
-    -- a run in which no tag stands at two rows gives an annotation that derives
-    run-left : (n i : ℕ) → i < n → i < length rows → (ρ : Labelling) → IsRun A (treeAt rows i) ρ → OneRow (treeAt rows i) ρ → Left i ρ
-    run-left zero i h l ρ runs one = let z : ⊥ = omega arith in absurd z
-    run-left (suc n) i h l ρ runs one =
-        let t = treeAt rows i in
-        let s = runs [] t refl in
-        let many = as-many-kids rows lower i l in
-        let up = under-tagged i l ρ in
-        let each : (c : ℕ) → c < length ((rowAt rows i) .children) → Left (getD ((rowAt rows i) .children) c 0) (λ p. ρ (c ∷ p)) = λ c lc.
-        let b = row-child i l c lc in
-        run-left n (getD ((rowAt rows i) .children) c 0) (omega arith) (omega arith) (λ p. ρ (c ∷ p))
-        (λ p u e. let s′ = runs (c ∷ p) u (above rows lower i l c lc p ∙ e) in record { rule = s′ .rule; listed = s′ .listed; same-symbol = s′ .same-symbol; leads = s′ .leads; as-many = s′ .as-many; from = s′ .from })
-        (λ k j j′ g g′. one k j j′ (up k j (record { child = c; is-child = lc; tagged = g })) (up k j′ (record { child = c; is-child = lc; tagged = g′ }))) in
-        let (m, js, lm) =
-        join-all t ρ one ((rowAt rows i) .children) (s .rule .children) (λ c p. ρ (c ∷ p)) (emptyMemory A) (λ k j z. absurd (no-entry k j z)) (s .as-many ∙ many) each (λ c lc. sym (s .from c (omega arith))) up in
-        let ag = agrees t ρ one m (ownMemory A (ρ []) i) (λ k j e. ⊎-elim (λ z. absurd (no-entry k j z)) (up k j) (lm k j .0 e)) (own-tagged i l ρ) in
-        let iy : In (joined m (ownMemory A (ρ []) i)) (finish A (ρ []) i m) = only-in (agree? m (ownMemory A (ρ []) i)) ag (here refl) in
-        record {
-          memory = joined m (ownMemory A (ρ []) i);
-          derivable = derived l (s .listed) (s .same-symbol) (s .leads) js iy;
-          leaves = finish-leaves i l ρ m (joined m (ownMemory A (ρ []) i))
-              (λ k j lk c lj e. one k i j (record { tag = lk; row = l; place = []; stands = refl; carried = c }) (record { tag = lk; row = lj; place = []; stands = ap some e; carried = c })) lm iy;
-        }
+    module _ (once : OneRule A) (distinct : Distinct rows) where
+      -- in a consistent labelling what is remembered below the root's children has one row for a tag
+      one-under : (i : ℕ) → i < length rows → (ρ : Labelling) → Consistent A (treeAt rows i) ρ → (k j j′ : ℕ) → Under (kids i) (parts ρ) k j → Under (kids i) (parts ρ) k j′ → j ≡ j′
+      one-under i l ρ con k j j′ a b =
+          let g = a .tagged in
+          let g′ = b .tagged in
+          let is = above rows lower i l (a .child) (a .is-child) in
+          let is′ = above rows lower i l (b .child) (b .is-child) in
+          equal-trees rows lower distinct j j′ (g .row) (g′ .row) .0
+          (con k (g .tag) (a .child ∷ g .place) (b .child ∷ g′ .place) _ _ (is (g .place) ∙ g .stands) (is′ (g′ .place) ∙ g′ .stands) (g .carried) (g′ .carried)
+          (below-remembered A (treeAt rows i) (kid i (a .child)) (kid i (b .child)) ρ (a .child) (b .child) is is′ k (g .place) (g′ .place) (g .remembered) (g′ .remembered)))
 
-    -- A run that leaves a memory gives an annotation that derives; rows may be equal here.
-    pub leaving-derivable : (i q : ℕ) (m : Memory) → i < length rows → RunLeaving A rows i q m → Derivable A rows i q m
-    leaving-derivable i q m l g =
-        let d = run-left (suc i) i (omega arith) l (g .run) (g .runs) (λ k j j′ a b. let e = g .leaves k j .1 a in let e′ = g .leaves k j′ .1 b in omega arith) in
-        let same = same-memory (d .memory) m (width A rows (d .derivable) ∙ sym (g .width)) (λ k j h. g .leaves k j .1 (d .leaves k j .0 h)) (λ k j h. d .leaves k j .1 (g .leaves k j .0 h)) in
-        subst (Derivable A rows i q) same (subst (λ z. Derivable A rows i z (d .memory)) (g .root) (d .derivable))
+      -- .. and so has what is remembered at the root
+      one-tagged : (i : ℕ) (ρ : Labelling) → Consistent A (treeAt rows i) ρ → (k j j′ : ℕ) → Tagged A rows (treeAt rows i) ρ k j → Tagged A rows (treeAt rows i) ρ k j′ → j ≡ j′
+      one-tagged i ρ con k j j′ g g′ =
+          equal-trees rows lower distinct j j′ (g .row) (g′ .row) .0
+          (con k (g .tag) (g .place) (g′ .place) _ _ (g .stands) (g′ .stands) (g .carried) (g′ .carried) (both-remembered A (treeAt rows i) ρ k (g .place) (g′ .place) (g .remembered) (g′ .remembered)))
 
-    -- a run that is consistent in its tags leaves a memory, where no two rows are equal
-    pub consistent-left : Distinct rows → (i : ℕ) → i < length rows → (ρ : Labelling) → IsRun A (treeAt rows i) ρ → Consistent A (treeAt rows i) ρ → Left i ρ
-    consistent-left distinct i l ρ runs con =
-        run-left (suc i) i (omega arith) l ρ runs
-        (λ k j j′ a b. equal-trees rows lower distinct j j′ (a .row) (b .row) .0 (con k (a .tag) (a .place) (b .place) _ _ (a .stands) (b .stands) (a .carried) (b .carried)))
+      -- a consistent run gives an annotation that derives
+      run-left : (n i : ℕ) → i < n → i < length rows → (ρ : Labelling) → IsRun A (treeAt rows i) ρ → Consistent A (treeAt rows i) ρ → Left i ρ
+      run-left zero i h l ρ runs con = let z : ⊥ = omega arith in absurd z
+      run-left (suc n) i h l ρ runs con =
+          let t = treeAt rows i in
+          let s = runs [] t refl in
+          let r = s .rule in
+          let many = as-many-kids rows lower i l in
+          let root : (k : ℕ) → Forgets A t ρ k [] ↔ T (forgets? r k) = λ k. forgets-here A once t ρ k [] t refl s in
+          let each : (c : ℕ) → c < length (kids i) → Left (getD (kids i) c 0) (parts ρ c) = λ c lc.
+          let b = row-child i l c lc in
+          let is = above rows lower i l c lc in
+          run-left n (getD (kids i) c 0) (omega arith) (omega arith) (parts ρ c) (λ p u e. move-down (runs (c ∷ p) u (is p ∙ e))) (consistent-down A t (kid i c) ρ c is con) in
+          let (m, js, lm) =
+          join-all (Under (kids i) (parts ρ)) (one-under i l ρ con) (kids i) (r .children) (parts ρ) (emptyMemory A) (λ k j z. absurd (no-entry k j z)) (s .as-many ∙ many) each (λ c lc. sym (s .from c (omega arith))) (λ k j u. u) in
+          let x = kept A r m in
+          let own = ownMemory A (ρ []) i in
+          let ag = agrees (Tagged A rows t ρ) (one-tagged i ρ con) x own
+          (λ k j e. let (lk, o, e′) = kept-from A r m k j e in ⊎-elim (λ z. absurd (no-entry k j z)) (under-tagged i l ρ k j (λ f. o (root k .0 f))) (lm k j .0 e′))
+          (own-tagged i l ρ) in
+          let iy : In (joined x own) (finish A (ρ []) i x) = only-in (agree? x own) ag (here refl) in
+          record {
+            memory = joined x own;
+            derivable = derived l (s .listed) (s .same-symbol) (s .leads) js iy;
+            leaves = finish-leaves i l ρ r root m (joined x own) (λ k j lk c lj e. equal-trees rows lower distinct i j l lj .0 e) lm iy;
+          }
 
-    -- THE THEOREM: an annotation derives exactly where its row's tree has a run in its state, consistent in its tags, that leaves exactly its memory.
-    pub derivable-leaves : Distinct rows → (i q : ℕ) (m : Memory) → i < length rows → Derivable A rows i q m ↔ RunLeaving A rows i q m
-    derivable-leaves distinct i q m l = (derivable-run distinct, leaving-derivable i q m l)
+      -- a run that is consistent in its tags leaves a memory
+      pub consistent-left : (i : ℕ) → i < length rows → (ρ : Labelling) → IsRun A (treeAt rows i) ρ → Consistent A (treeAt rows i) ρ → Left i ρ
+      consistent-left i l ρ runs con = run-left (suc i) i (omega arith) l ρ runs con
+
+      -- A run that leaves a memory gives an annotation that derives.
+      pub leaving-derivable : (i q : ℕ) (m : Memory) → i < length rows → RunLeaving A rows i q m → Derivable A rows i q m
+      leaving-derivable i q m l g =
+          let d = consistent-left i l (g .run) (g .runs) (g .consistent) in
+          let same = same-memory (d .memory) m (width A rows (d .derivable) ∙ sym (g .width)) (λ k j h. g .leaves k j .1 (d .leaves k j .0 h)) (λ k j h. d .leaves k j .1 (g .leaves k j .0 h)) in
+          subst (Derivable A rows i q) same (subst (λ z. Derivable A rows i z (d .memory)) (g .root) (d .derivable))
+
+      -- THE THEOREM: an annotation derives exactly where its row's tree has a run in its state, consistent in its tags, that leaves exactly its memory.
+      pub derivable-leaves : (i q : ℕ) (m : Memory) → i < length rows → Derivable A rows i q m ↔ RunLeaving A rows i q m
+      derivable-leaves i q m l = (derivable-run once distinct, leaving-derivable i q m l)

@@ -5,14 +5,17 @@ pub mod Space
 pub mod Below
 pub mod Levels
 pub mod WrittenTest
+pub mod ByTag
 pub mod Rows
 pub mod Runs
 pub mod Count
 pub mod Derivable
+pub mod Forgetting
 pub mod Listed
 pub mod Leaves
 pub mod Decides
 pub mod Written
+pub mod OneRow
 pub mod Needed
 pub mod ShortRun
 pub mod Combine
@@ -23,6 +26,8 @@ pub mod SoundUnion
 pub mod SoundProduct
 pub mod Scalars
 pub mod Papers
+pub mod Isolating
+pub mod Isolation
 pub mod Witness
 pub mod Rounds
 pub mod FirstRound

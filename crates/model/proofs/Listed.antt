@@ -11,7 +11,7 @@ use lib.ListN.{length}
 use Rattle.model.specs.Lists.{concatMap, only, any}
 use Rattle.model.specs.Automaton.{Rule, Automaton}
 use Rattle.model.specs.Table.{Row, rowAt, Lower}
-use Rattle.model.specs.Annotation.{Memory, Annotation, annotation, emptyMemory, agree?, joined, finish, Derivable, derived, Joins, joins-none, joins-more, eqAnnotation, memories, choices, byRule, addNew, annotationsBelow, annotations}
+use Rattle.model.specs.Annotation.{Memory, Annotation, annotation, emptyMemory, agree?, joined, kept, finish, Derivable, derived, Joins, joins-none, joins-more, eqAnnotation, memories, choices, byRule, addNew, annotationsBelow, annotations}
 use Rattle.model.proofs.Members.{any-in, eqAnnotation-refl, in-concatMap, concatMap-in, in-map, map-in, in-only, only-in, in-addNew, addNew-known, addNew-new, in-memories, memories-in}
 use Rattle.model.proofs.Count.{NoRepeats, one-more, no-longer}
 use Rattle.model.proofs.Derivable.{row-known}
@@ -38,7 +38,7 @@ module _ (A : Automaton) (rows : List Row) where
   rule-derives known h i l r ir a ia =
       let (t, im) = in-only (eqb (r .symbol) ((rowAt rows i) .symbol)) _ ia in
       let (y, iy, e) = in-map (annotation i (r .target)) _ im in
-      let (m, ic, ifin) = in-concatMap (finish A (r .target) i) (choices known (emptyMemory A) ((rowAt rows i) .children) (r .children)) iy in
+      let (m, ic, ifin) = in-concatMap (λ m. finish A (r .target) i (kept A r m)) (choices known (emptyMemory A) ((rowAt rows i) .children) (r .children)) iy in
       (ap (λ z. z .row) e, subst Derives (sym e) (derived l ir (eqb→eq _ _ t) refl (choices-join known h _ _ _ ic) ifin))
 
   listed-derives : (n : ℕ) → n ≤ length rows → (a : Annotation) → In a (annotationsBelow A rows n) → (a .row < n) × Derives a
@@ -60,14 +60,14 @@ module _ (A : Automaton) (rows : List Row) where
       (λ l. addNew-known (concatMap (byRule A rows (annotationsBelow A rows n′) n′) (A .rules)) (annotationsBelow A rows n′) (listed-more n n′ (le-of-suc-le-suc l) i))
       (eq-or-lt-of-le h)
 
-  listed-by-rule : (i q : ℕ) (r : Rule) (m y : Memory) → In r (A .rules) → r .symbol ≡ (rowAt rows i) .symbol → r .target ≡ q → In m (choices (annotationsBelow A rows i) (emptyMemory A) ((rowAt rows i) .children) (r .children)) → In y (finish A q i m) → In (annotation i q y) (annotationsBelow A rows (suc i))
+  listed-by-rule : (i q : ℕ) (r : Rule) (m y : Memory) → In r (A .rules) → r .symbol ≡ (rowAt rows i) .symbol → r .target ≡ q → In m (choices (annotationsBelow A rows i) (emptyMemory A) ((rowAt rows i) .children) (r .children)) → In y (finish A q i (kept A r m)) → In (annotation i q y) (annotationsBelow A rows (suc i))
   listed-by-rule i q r m y ir es et im iy =
       let known = annotationsBelow A rows i in
       addNew-new _ known
       (concatMap-in (byRule A rows known i) ir
       (only-in (eqb (r .symbol) ((rowAt rows i) .symbol)) (subst (λ z. T (eqb (r .symbol) z)) es (eqb-refl (r .symbol)))
-      (subst (λ z. In (annotation i z y) (map (annotation i (r .target)) (concatMap (finish A (r .target) i) (choices known (emptyMemory A) ((rowAt rows i) .children) (r .children))))) et
-      (map-in (annotation i (r .target)) (concatMap-in (finish A (r .target) i) im (rw et iy))))))
+      (subst (λ z. In (annotation i z y) (map (annotation i (r .target)) (concatMap (λ m. finish A (r .target) i (kept A r m)) (choices known (emptyMemory A) ((rowAt rows i) .children) (r .children))))) et
+      (map-in (annotation i (r .target)) (concatMap-in (λ m. finish A (r .target) i (kept A r m)) im (rw et iy))))))
 
   module _ (lower : Lower rows) where
     -- an annotation that derives is computed with its row

@@ -29,7 +29,7 @@ few-levels A (suc n) q t e =
         let l = highest-least (b .under-it) n (each-tree (λ u. levels u ≤ n) (rounds A n) h (b .rule .children) (b .under-it) (b .marked)) in
         subst (λ z. levels z ≤ suc n) (b .is) (omega arith)
 
--- THE WITNESS IS ACCEPTED: where two positions carry a tag, their states are the same, and so are the trees marked for them
+-- THE WITNESS IS ACCEPTED: where two positions carry a tag, their states are the same, and so are the trees marked for them, whether the tag is forgotten between them or not
 pub live-accepted : (A : Automaton) → Apart A → (w : Tree) → witness A ≡ some w → Accepts A w
 live-accepted A d w e =
     let (n, h) = first-round A w e in
@@ -39,7 +39,7 @@ live-accepted A d w e =
       run = ρ;
       runs = g .runs;
       accepting = subst (λ z. T (final? A z)) (sym (g .root)) (v .final);
-      consistent = λ k l p p′ u u′ e e′ c c′. Option·some-injective u u′ (sym (g .all p u e) ∙ ap (λ z. getD (rounds A n) z none) (d k l (ρ p) (ρ p′) c c′) ∙ g .all p′ u′ e′);
+      consistent = λ k l p p′ u u′ e e′ c c′ g′. Option·some-injective u u′ (sym (g .all p u e) ∙ ap (λ z. getD (rounds A n) z none) (d k l (ρ p) (ρ p′) c c′) ∙ g .all p′ u′ e′);
     }
 
 module _ (A : Automaton) (wellformed : Wellformed A) where

@@ -7,7 +7,7 @@ use Prim.Native.Nat.{ℕ, zero, suc, _<_}
 use native.Mathlib.Omega.{arith}
 use lib.Dec.{T, eqb, eqb→eq, eqb-refl}
 use lib.ListN.{length, getD}
-use Rattle.model.specs.Lists.{concatMap, only, any, eqList, tab}
+use Rattle.model.specs.Lists.{concatMap, only, any, all, eqList, tab}
 use Rattle.model.specs.Annotation.{Annotation, eqAnnotation, addNew, memories}
 
 pub T-and : (a b : Bool) → T (a && b) → T a × T b
@@ -73,6 +73,16 @@ module _ {A : Type 0} where
   pub any-in : (f : A → Bool) {xs : List A} {x : A} → In x xs → T (f x) → T (any f xs)
   any-in f (here {x = y} {xs = ys} e) h = or-left (f y) (any f ys) (subst (λ z. T (f z)) e h)
   any-in f (there {x = y} {xs = ys} m) h = or-right (f y) (any f ys) (any-in f m h)
+
+pub all-in : {A : Type 0} (f : A → Bool) (xs : List A) → T (all f xs) → {x : A} → In x xs → T (f x)
+all-in f [] h m = absurd (not-nil m)
+all-in f (y ∷ ys) h {x} m =
+    let (one, more) = T-and (f y) (all f ys) h in
+    ⊎-elim (λ e. subst (λ z. T (f z)) (sym e) one) (λ n. all-in f ys more n) (in-cons m)
+
+pub in-all : {A : Type 0} (f : A → Bool) (xs : List A) → ((x : A) → In x xs → T (f x)) → T (all f xs)
+in-all f [] h = tt
+in-all f (y ∷ ys) h = and-T (f y) (all f ys) (h y (here refl)) (in-all f ys (λ x m. h x (there m)))
 
 pub eqList→eq : (a b : List ℕ) → T (eqList a b) → a ≡ b
 eqList→eq [] [] h = refl

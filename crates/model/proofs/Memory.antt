@@ -66,6 +66,15 @@ pub cond-at : (b : Bool) (i : ℕ) → T b → cond b (suc i) 0 ≡ suc i
 cond-at true i h = refl
 cond-at false i h = absurd h
 
+-- a place that is dropped, or not
+pub drop-from : (b : Bool) (x j : ℕ) → cond b 0 x ≡ suc j → (T b → ⊥) × (x ≡ suc j)
+drop-from true x j h = let z : ⊥ = omega arith in absurd z
+drop-from false x j h = (λ t. t, h)
+
+pub drop-other : (b : Bool) (x : ℕ) → (T b → ⊥) → cond b 0 x ≡ x
+drop-other true x h = absurd (h tt)
+drop-other false x h = refl
+
 pub length-joined : (a b : List ℕ) → length a ≡ length b → length (joined a b) ≡ length b
 length-joined [] b h = refl
 length-joined (x ∷ a) [] h = h

@@ -1,4 +1,4 @@
--- What a root needs, each pair of row and state once, lowest rows first: from nodes whose kids stand on lower rows. Assumes nothing.
+-- What a root needs, each pair of row and key once, lowest rows first: from nodes whose kids stand on lower rows. Assumes nothing.
 use mathlib.Core.Path.{_≡_, refl, sym, ap, _∙_, subst}
 use mathlib.Core.Logic.{_⊎_, inl, inr, ⊎-elim}
 use mathlib.Core.Bool.{Bool, true, false, _&&_, cond}
@@ -8,23 +8,23 @@ use native.Mathlib.Omega.{arith}
 use native.Mathlib.Nat.{eq-or-lt-of-le}
 use lib.Dec.{T, eqb, eqb→eq, eqb-refl}
 use lib.ListN.{length, getD}
-use Rattle.model.specs.Lists.{concatMap, any}
-use Rattle.model.proofs.Members.{T-and, and-T, in-concatMap, concatMap-in, in-any, any-in}
+use Rattle.model.specs.Lists.{concatMap, any, eqList}
+use Rattle.model.proofs.Members.{T-and, and-T, eqList→eq, eqList-refl, in-concatMap, concatMap-in, in-any, any-in}
 use Rattle.model.proofs.Rows.{in-getD}
 use Rattle.model.proofs.Count.{place-of}
 
-module _ {N : Type 0} (row state : N → ℕ) (kids : N → List N) where
+module _ {N : Type 0} (row : N → ℕ) (key : N → List ℕ) (kids : N → List N) where
   abbrev pub Same : N → N → Type 0
-  Same a b = (row a ≡ row b) × (state a ≡ state b)
+  Same a b = (row a ≡ row b) × (key a ≡ key b)
 
   abbrev same? : N → N → Bool
-  same? a b = eqb (row a) (row b) && eqb (state a) (state b)
+  same? a b = eqb (row a) (row b) && eqList (key a) (key b)
 
   same-T : (a b : N) → Same a b → T (same? a b)
-  same-T a b (e, e′) = and-T (eqb (row a) (row b)) (eqb (state a) (state b)) (subst (λ z. T (eqb (row a) z)) e (eqb-refl (row a))) (subst (λ z. T (eqb (state a) z)) e′ (eqb-refl (state a)))
+  same-T a b (e, e′) = and-T (eqb (row a) (row b)) (eqList (key a) (key b)) (subst (λ z. T (eqb (row a) z)) e (eqb-refl (row a))) (subst (λ z. T (eqList (key a) z)) e′ (eqList-refl (key a)))
 
   T-same : (a b : N) → T (same? a b) → Same a b
-  T-same a b h = let (t, t′) = T-and (eqb (row a) (row b)) (eqb (state a) (state b)) h in (eqb→eq (row a) (row b) t, eqb→eq (state a) (state b) t′)
+  T-same a b h = let (t, t′) = T-and (eqb (row a) (row b)) (eqList (key a) (key b)) h in (eqb→eq (row a) (row b) t, eqList→eq (key a) (key b) t′)
 
   -- the place of the first node with the pair of k
   abbrev pub placeIn : List N → N → ℕ
@@ -37,7 +37,7 @@ module _ {N : Type 0} (row state : N → ℕ) (kids : N → List N) where
     where
       go : (b : Bool) → same? x k ≡ b → (In y l → (placeIn l k < length l) × Same (getD l (placeIn l k) d) k) → (cond b 0 (suc (placeIn l k)) < suc (length l)) × Same (getD (x ∷ l) (cond b 0 (suc (placeIn l k))) d) k
       go true e ih = (omega arith, T-same x k (subst T (sym e) tt))
-      go false e ih = ⊎-elim (λ q. absurd (subst T e (same-T x k (ap row (sym q) ∙ s .0, ap state (sym q) ∙ s .1)))) (λ g. let (l, s′) = ih g in (omega arith, s′)) (in-cons iy)
+      go false e ih = ⊎-elim (λ q. absurd (subst T e (same-T x k (ap row (sym q) ∙ s .0, ap key (sym q) ∙ s .1)))) (λ g. let (l, s′) = ih g in (omega arith, s′)) (in-cons iy)
 
   -- rows ascend, no pair stands twice, and each node but the root, the last, is a kid of a later one
   pub data Chain (root : N) : List N → Type 0 where
@@ -118,7 +118,7 @@ module _ {N : Type 0} (row state : N → ℕ) (kids : N → List N) where
           high = λ z iz. ⊎-elim (λ q. let g = ap row q in omega arith) (f .high z) (in-cons iz);
           from = λ z iz. ⊎-elim (λ q. inr (ap row q ∙ e)) (f .from z) (in-cons iz);
           old = λ z iz. there (f .old z iz);
-          has = λ z iz e′. ⊎-elim (λ q. (c, here refl, (ap row (sym q), ap state (sym q)))) (λ g. let (y, iy, s) = f .has z g e′ in (y, there iy, s)) (in-cons iz);
+          has = λ z iz e′. ⊎-elim (λ q. (c, here refl, (ap row (sym q), ap key (sym q)))) (λ g. let (y, iy, s) = f .has z g e′ in (y, there iy, s)) (in-cons iz);
         }
 
     fill : (n : ℕ) (l : List N) → Level (suc n) l → (cs : List N) → ((c : N) → In c cs → (y : N) × In y l × In c (kids y)) → Filled n l cs

@@ -11,7 +11,7 @@ use lib.Seq.{ext-getD, getD-at}
 use lib.ListN.{length, getD, List·getD-append}
 use Rattle.model.specs.Limits.{maxChildren, unused}
 use Rattle.model.specs.Lists.{tab}
-use Rattle.model.specs.Automaton.{Rule}
+use Rattle.model.specs.Automaton.{Rule, Automaton, OneRule}
 use Rattle.model.specs.Order.{place, key, lower?, before?, Ascending, insert, sorted}
 use Rattle.model.proofs.Members.{T-and, and-T, or-left, or-right}
 use Rattle.model.proofs.Tab.{tab-at, length-tab}
@@ -100,11 +100,12 @@ key-target r s e =
     ∙ ap (λ (a : List ℕ). getD a (suc maxChildren) 0) e
     ∙ getD-at (tab maxChildren (place s)) (s .target) [] 0 maxChildren (length-tab maxChildren (place s))
 
--- Rules with as many children are told apart by their keys.
-pub key-injective : (r s : Rule) → length (r .children) ≡ length (s .children) → length (r .children) ≤ maxChildren → key r ≡ key s → r ≡ s
-key-injective r s same few e =
-    let kids : r .children ≡ s .children = ext-getD unused (r .children) (s .children) same (λ i l. key-place r s e i (omega arith)) in
-    λ i. record { symbol = key-symbol r s e i; children = kids i; target = key-target r s e i }
+-- Rules with as many children have one key only where they have the same children; what they forget is not in the key.
+pub key-children : (r s : Rule) → length (r .children) ≡ length (s .children) → length (r .children) ≤ maxChildren → key r ≡ key s → r .children ≡ s .children
+key-children r s same few e = ext-getD unused (r .children) (s .children) same (λ i l. key-place r s e i (omega arith))
+
+pub same-key : (r s : Rule) → r .symbol ≡ s .symbol → r .children ≡ s .children → r .target ≡ s .target → key r ≡ key s
+same-key r s es ec et = λ i. es i ∷ tab maxChildren (λ k. getD (ec i) k unused) ++ et i ∷ []
 
 -- In an ascending list each earlier rule stands before each later one.
 pub ascending-pairwise : (rs : List Rule) → Ascending rs → Pairwise Before rs
@@ -135,6 +136,19 @@ ascending-next d rs = (λ h i l. ascending-at d rs .0 h i (suc i) (omega arith) 
 -- .. so no two of its rules have one key
 pub ascending-other : (rs : List Rule) → Ascending rs → Pairwise OtherKey rs
 ascending-other rs h = pairwise-weaken Before OtherKey rs before-other (ascending-pairwise rs h)
+
+-- .. and two of its rules with one key are one rule: the key tells what a rule forgets
+pub one-key : (rs : List Rule) → Pairwise OtherKey rs → {r s : Rule} → In r rs → In s rs → key r ≡ key s → r ≡ s
+one-key [] h m n e = absurd (not-nil m)
+one-key (x ∷ rs) h {r} {s} m n e =
+    ⊎-elim
+    (λ q. ⊎-elim (λ q′. q ∙ sym q′) (λ n′. absurd (h .0 s n′ (ap key (sym q) ∙ e))) (in-cons n))
+    (λ m′. ⊎-elim (λ q′. absurd (h .0 r m′ (ap key (sym q′) ∙ sym e))) (λ n′. one-key rs (h .1) m′ n′ e) (in-cons n))
+    (in-cons m)
+
+-- A rule stands once.
+pub ascending-once : (A : Automaton) → Ascending (A .rules) → OneRule A
+ascending-once A h r s ir is es ec et = ap (λ (x : Rule). x .forget) (one-key (A .rules) (ascending-other (A .rules) h) ir is (same-key r s es ec et))
 
 -- sorting keeps the members
 in-insert : (r : Rule) (rs : List Rule) {y : Rule} → In y (insert r rs) → In y (r ∷ rs)

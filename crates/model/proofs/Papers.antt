@@ -1,4 +1,4 @@
--- Where each tag has exactly one state and no state has two tags, acceptance is that of source document 004. Assumes nothing.
+-- Where each tag has exactly one state, no state has two tags and nothing is forgotten, acceptance is that of source document 004. Assumes nothing.
 use mathlib.Core.Path.{_≡_, refl, sym, ap, _∙_, subst}
 use mathlib.Core.Logic.{⊎-elim, _↔_}
 use mathlib.Core.List.{List, [], _∷_, _++_, List·Memᴰ as In, List·Memᴰ·cases-cons as in-cons}
@@ -12,7 +12,7 @@ use lib.Seq.{ext-getD}
 use lib.ListN.{length, getD, List·getD-eq-default}
 use Rattle.model.specs.Lists.{tab, concatMap, allBelow, anyBelow}
 use Rattle.model.specs.Tree.{Tree, node, at, symbolOf, childrenOf}
-use Rattle.model.specs.Automaton.{State, Automaton, Wellformed, noState, arityOf, final?, carries?}
+use Rattle.model.specs.Automaton.{State, Automaton, Wellformed, ForgetsNothing, noState, arityOf, final?, carries?}
 use Rattle.model.specs.Run.{Move, Accepts}
 use Rattle.model.specs.Table.{Row, treeOf, SoundTable}
 use Rattle.model.specs.Fit.{Fit, FitNode, FitTree}
@@ -23,9 +23,10 @@ use Rattle.model.proofs.Below.{all-at, all-of, any-below, below-any}
 use Rattle.model.proofs.Tab.{tab-at, length-tab, tab-in}
 use Rattle.model.proofs.Scalars.{few-scalars}
 use Rattle.model.proofs.Apart.{carried, apart-of, apart-exactly}
+use Rattle.model.proofs.Forgetting.{consistent-equal, equal-consistent}
 use Rattle.model.proofs.BuiltTable.{at-fit, fit-at, fit-tree}
 
-letter-symbol : (u : Tree) → symbolOf u ≡ (letterAt u) .symbol
+pub letter-symbol : (u : Tree) → symbolOf u ≡ (letterAt u) .symbol
 letter-symbol (node s k p f) = refl
 
 final-inside : (A : Automaton) (q : ℕ) → T (final? A q) → q < length (A .states)
@@ -81,8 +82,12 @@ module _ (A : Automaton) (w : Wellformed A) where
       }
 
   module _ (t : Tree) where
-    to-paper : FitTree A t → Accepts A t → Recognizes (rigidOf A) t
-    to-paper fits a =
+    -- a tree that a table may have is a ground term over the letters
+    pub fit-ground : FitTree A t → Ground (rigidOf A) t
+    fit-ground fits p u e = letter-fit A u .0 (fit-at A t fits p u e)
+
+    to-paper : ForgetsNothing A → FitTree A t → Accepts A t → Recognizes (rigidOf A) t
+    to-paper none fits a =
         record {
           ground = ground;
           labels = a .run;
@@ -93,13 +98,13 @@ module _ (A : Automaton) (w : Wellformed A) where
                       states = λ p u e. let s = a .runs p u e in subst (_< length (A .states)) (s .leads) (w .targets (s .rule) (s .listed));
                       rules = λ p u e. rule-at p u (ground p u e) (a .runs p u e);
                     };
-                equal = λ p₁ p₂ u₁ u₂ e₁ e₂ same (k, l, c). a .consistent k l p₁ p₂ u₁ u₂ e₁ e₂ c (subst (λ q. T (carries? A q k)) same c);
+                equal = λ p₁ p₂ u₁ u₂ e₁ e₂ same (k, l, c). consistent-equal A none t (a .run) .0 (a .consistent) k l p₁ p₂ u₁ u₂ e₁ e₂ c (subst (λ q. T (carries? A q k)) same c);
               };
           success = a .accepting;
         }
       where
         ground : Ground (rigidOf A) t
-        ground p u e = letter-fit A u .0 (fit-at A t fits p u e)
+        ground = fit-ground fits
 
         rule-at : (p : List ℕ) (u : Tree) → rigidOf A .signature (letterAt u) (length (childrenOf u)) → Move A (a .run) p u → rigidOf A .rule (letterAt u) (tab (length (childrenOf u)) (λ j. a .run (p ++ j ∷ []))) (a .run p)
         rule-at p u h s = (
@@ -113,7 +118,7 @@ module _ (A : Automaton) (w : Wellformed A) where
         )
 
     -- a ground term over the letters is a tree that a table may have
-    of-ground : Ground (rigidOf A) t → FitTree A t
+    pub of-ground : Ground (rigidOf A) t → FitTree A t
     of-ground g = at-fit A t (λ p u e. letter-fit A u .1 (g p u e))
 
     -- of the two conditions on tags only this is needed: no tag has two states
@@ -123,7 +128,7 @@ module _ (A : Automaton) (w : Wellformed A) where
           run = m .labels;
           runs = λ p u e. move p u (m .run .run .rules p u e);
           accepting = m .success;
-          consistent = λ k l p p′ u u′ e e′ c c′. m .run .equal p p′ u u′ e e′ (one k l (m .labels p) (m .labels p′) c c′) (k, l, c);
+          consistent = equal-consistent A t (m .labels) (λ k l p p′ u u′ e e′ c c′. m .run .equal p p′ u u′ e e′ (one k l (m .labels p) (m .labels p′) c c′) (k, l, c));
         }
       where
         move : (p : List ℕ) (u : Tree) → rigidOf A .rule (letterAt u) (tab (length (childrenOf u)) (λ j. m .labels (p ++ j ∷ []))) (m .labels p) → Move A (m .labels) p u
@@ -137,14 +142,14 @@ module _ (A : Automaton) (w : Wellformed A) where
               from = λ j h. ap (λ (l : List ℕ). getD l j 0) ec ∙ tab-at 0 _ _ j h;
             }
 
-  -- Where each tag has exactly one state and no state has two tags, the paper decides: a tree whose scalars are those of rows is accepted if and only if the
-  -- rigid tree automaton has it in its language, and the language has no other trees.
-  pub papers : Papers A → (t : Tree) → (FitTree A t × Accepts A t) ↔ Recognizes (rigidOf A) t
-  papers h t = (λ (f, a). to-paper t f a, λ m. (of-ground t (m .ground), of-paper t (h .one-state) m))
+  -- Where each tag has exactly one state, no state has two tags and nothing is forgotten, the paper decides: a tree whose scalars are those of rows is accepted
+  -- if and only if the rigid tree automaton has it in its language, and the language has no other trees.
+  pub papers : Papers A → ForgetsNothing A → (t : Tree) → (FitTree A t × Accepts A t) ↔ Recognizes (rigidOf A) t
+  papers h none t = (λ (f, a). to-paper t none f a, λ m. (of-ground t (m .ground), of-paper t (h .one-state) m))
 
   -- The same of a document: its tree is such a tree.
-  pub papers-document : Papers A → (rows : List Row) → SoundTable A rows → Accepts A (treeOf rows) ↔ Recognizes (rigidOf A) (treeOf rows)
-  papers-document h rows sound = (λ a. papers h (treeOf rows) .0 (fit-tree A rows sound, a), λ m. papers h (treeOf rows) .1 m .1)
+  pub papers-document : Papers A → ForgetsNothing A → (rows : List Row) → SoundTable A rows → Accepts A (treeOf rows) ↔ Recognizes (rigidOf A) (treeOf rows)
+  papers-document h none rows sound = (λ a. papers h none (treeOf rows) .0 (fit-tree A rows sound, a), λ m. papers h none (treeOf rows) .1 m .1)
 
 -- THE TEST SAYS WHAT IT SHOULD: each tag has exactly one state, and no state has two tags
 module _ (A : Automaton) where

@@ -4,7 +4,7 @@ use mathlib.Core.Logic.{_⊎_, inl, inr, ⊎-elim, _↔_}
 use mathlib.Core.List.{List, [], _∷_, _++_, map, List·Memᴰ as In}
 use Prim.Native.Nat.{ℕ, zero, suc, _+_, _-_, _^_, _<_, _≤_}
 use native.Mathlib.Omega.{arith}
-use native.Mathlib.Nat.{lt-of-lt-of-le}
+use native.Mathlib.Nat.{lt-of-lt-of-le, zero-mul}
 use native.Mathlib.Decide.{decLt}
 use lib.Dec.{T}
 use lib.Pow.{pow-mono, pow-pos}
@@ -12,7 +12,7 @@ use lib.ListN.{length, getD, length-append, length-map, List·getD-eq-default}
 use Rattle.model.specs.Limits.{maxChildren, maxStates, maxTags, maxRules, unused}
 use Rattle.model.specs.Lists.{tab}
 use Rattle.model.specs.Tree.{Tree}
-use Rattle.model.specs.Automaton.{Rule, Automaton, Wellformed, stateAt, arityOf}
+use Rattle.model.specs.Automaton.{Rule, Automaton, ForgetsNothing, Wellformed, stateAt, arityOf}
 use Rattle.model.specs.Order.{place, lower?, Ascending}
 use Rattle.model.specs.Sound.{Sound}
 use Rattle.model.specs.Run.{Accepts}
@@ -38,36 +38,36 @@ lower-rest (suc m) f g f′ g′ a b a′ b′ h t l =
     (lower-cons (f 0) (g 0) (rest m (λ k. f (suc k)) a) (rest m (λ k. g (suc k)) b) .0 l))
 
 -- Shifting keeps the order of rules where a symbol has one number of children: an unused place stays what it is.
-pub shift-before : (n : ℕ) (r s : Rule) → (r .symbol ≡ s .symbol → length (r .children) ≡ length (s .children)) → Before r s → Before (shiftRule n r) (shiftRule n s)
-shift-before n r s many h =
-    lower-cons (r .symbol) (s .symbol) (rest maxChildren (place (shiftRule n r)) (n + r .target)) (rest maxChildren (place (shiftRule n s)) (n + s .target)) .1
+pub shift-before : (n t : ℕ) (r s : Rule) → (r .symbol ≡ s .symbol → length (r .children) ≡ length (s .children)) → Before r s → Before (shiftRule n t r) (shiftRule n t s)
+shift-before n t r s many h =
+    lower-cons (r .symbol) (s .symbol) (rest maxChildren (place (shiftRule n t r)) (n + r .target)) (rest maxChildren (place (shiftRule n t s)) (n + s .target)) .1
     (⊎-elim inl
-    (λ (e, l). inr (e, lower-rest maxChildren (place r) (place s) (place (shiftRule n r)) (place (shiftRule n s)) (r .target) (s .target) (n + r .target) (n + s .target) (at (many e)) (λ d. omega arith) l))
+    (λ (e, l). inr (e, lower-rest maxChildren (place r) (place s) (place (shiftRule n t r)) (place (shiftRule n t s)) (r .target) (s .target) (n + r .target) (n + s .target) (at (many e)) (λ d. omega arith) l))
     (lower-cons (r .symbol) (s .symbol) (rest maxChildren (place r) (r .target)) (rest maxChildren (place s) (s .target)) .0 h))
   where
-    used : (x : Rule) (k : ℕ) → k < length (x .children) → place (shiftRule n x) k ≡ n + place x k
+    used : (x : Rule) (k : ℕ) → k < length (x .children) → place (shiftRule n t x) k ≡ n + place x k
     used x k l = map-at (n +_) unused unused (x .children) k l
 
-    free : (x : Rule) (k : ℕ) → length (x .children) ≤ k → (place x k ≡ unused) × (place (shiftRule n x) k ≡ unused)
+    free : (x : Rule) (k : ℕ) → length (x .children) ≤ k → (place x k ≡ unused) × (place (shiftRule n t x) k ≡ unused)
     free x k l = (List·getD-eq-default (x .children) unused l, List·getD-eq-default (map (n +_) (x .children)) unused (omega (arith, length-map (x .children) (n +_))))
 
-    at : length (r .children) ≡ length (s .children) → (k : ℕ) → (place r k < place s k → place (shiftRule n r) k < place (shiftRule n s) k) × (place r k ≡ place s k → place (shiftRule n r) k ≡ place (shiftRule n s) k)
+    at : length (r .children) ≡ length (s .children) → (k : ℕ) → (place r k < place s k → place (shiftRule n t r) k < place (shiftRule n t s) k) × (place r k ≡ place s k → place (shiftRule n t r) k ≡ place (shiftRule n t s) k)
     at m k = go (decLt k (length (r .children)))
       where
-        go : Dec (k < length (r .children)) → (place r k < place s k → place (shiftRule n r) k < place (shiftRule n s) k) × (place r k ≡ place s k → place (shiftRule n r) k ≡ place (shiftRule n s) k)
+        go : Dec (k < length (r .children)) → (place r k < place s k → place (shiftRule n t r) k < place (shiftRule n t s) k) × (place r k ≡ place s k → place (shiftRule n t r) k ≡ place (shiftRule n t s) k)
         go (yes l) = let ur = used r k l in let us = used s k (omega arith) in (λ d. omega (arith, ur, us), λ e. omega (arith, ur, us))
         go (no l) = let (pr, qr) = free r k (omega arith) in let (ps, qs) = free s k (omega arith) in (λ d. let z : ⊥ = omega (arith, pr, ps) in absurd z, λ e. qr ∙ sym qs)
 
-pub shift-ascending : (A : Automaton) → Wellformed A → Ascending (A .rules) → (n : ℕ) → Ascending (map (shiftRule n) (A .rules))
-shift-ascending A w h n =
-    pairwise-ascending (map (shiftRule n) (A .rules))
-    (pairwise-map Before Before (shiftRule n) (A .rules)
-    (λ r s ir is. shift-before n r s (λ e. w .as-many r ir ∙ ap (arityOf A) e ∙ sym (w .as-many s is)))
+pub shift-ascending : (A : Automaton) → Wellformed A → Ascending (A .rules) → (n t : ℕ) → Ascending (map (shiftRule n t) (A .rules))
+shift-ascending A w h n t =
+    pairwise-ascending (map (shiftRule n t) (A .rules))
+    (pairwise-map Before Before (shiftRule n t) (A .rules)
+    (λ r s ir is. shift-before n t r s (λ e. w .as-many r ir ∙ ap (arityOf A) e ∙ sym (w .as-many s is)))
     (ascending-pairwise (A .rules) h))
 
 -- the rules of the union before they are sorted
 abbrev pub unionRules : Automaton → Automaton → List Rule
-unionRules A B = A .rules ++ map (shiftRule (length (A .states))) (B .rules)
+unionRules A B = A .rules ++ map (shiftRule (length (A .states)) (A .tags)) (B .rules)
 
 -- How many states and rules the union has.
 pub union-states : (A B : Automaton) → length ((union A B) .states) ≡ length (A .states) + length (B .states)
@@ -76,8 +76,8 @@ union-states A B = length-append (A .states) _ ∙ ap (length (A .states) +_) (l
 pub union-rules : (A B : Automaton) → length ((union A B) .rules) ≡ length (A .rules) + length (B .rules)
 union-rules A B =
     length-sorted (unionRules A B)
-    ∙ length-append (A .rules) (map (shiftRule (length (A .states))) (B .rules))
-    ∙ ap (length (A .rules) +_) (length-map (B .rules) (shiftRule (length (A .states))))
+    ∙ length-append (A .rules) (map (shiftRule (length (A .states)) (A .tags)) (B .rules))
+    ∙ ap (length (A .rules) +_) (length-map (B .rules) (shiftRule (length (A .states)) (A .tags)))
 
 module _ (A B : Automaton) (wa : Wellformed A) (wb : Wellformed B) where
   abbrev U : Automaton
@@ -89,11 +89,15 @@ module _ (A B : Automaton) (wa : Wellformed A) (wb : Wellformed B) where
   -- no two rules of the union have one key: the targets of the first's are below n, the others' are not
   pub union-other : Ascending (A .rules) → Ascending (B .rules) → Pairwise OtherKey (unionRules A B)
   union-other a b =
-      pairwise-append OtherKey (A .rules) (map (shiftRule n) (B .rules)) (ascending-other (A .rules) a) (ascending-other (map (shiftRule n) (B .rules)) (shift-ascending B wb b n))
-      (λ r s ir is e. let (s′, is′, q) = in-map (shiftRule n) (B .rules) is in omega (arith, wa .targets r ir, key-target r s e, ap (λ (x : Rule). x .target) q))
+      pairwise-append OtherKey (A .rules) (map (shiftRule n (A .tags)) (B .rules)) (ascending-other (A .rules) a) (ascending-other (map (shiftRule n (A .tags)) (B .rules)) (shift-ascending B wb b n (A .tags)))
+      (λ r s ir is e. let (s′, is′, q) = in-map (shiftRule n (A .tags)) (B .rules) is in omega (arith, wa .targets r ir, key-target r s e, ap (λ (x : Rule). x .target) q))
 
-  by-rule : (C : Rule → Type 0) → ((r : Rule) → In r (A .rules) → C r) → ((r : Rule) → In r (B .rules) → C (shiftRule n r)) → (r : Rule) → In r (U .rules) → C r
+  by-rule : (C : Rule → Type 0) → ((r : Rule) → In r (A .rules) → C r) → ((r : Rule) → In r (B .rules) → C (shiftRule n (A .tags) r)) → (r : Rule) → In r (U .rules) → C r
   by-rule C a b r ir = ⊎-elim (a r) (λ (s, is, e). subst C (sym e) (b s is)) (rule-of A B wa wb r ir)
+
+  -- Where neither forgets a tag, the union forgets none.
+  pub union-nothing : ForgetsNothing A → ForgetsNothing B → ForgetsNothing U
+  union-nothing a b = by-rule _ a (λ r ir. rw (b r ir) (zero-mul (2 ^ A .tags)))
 
   module _ (same : A .arities ≡ B .arities) where
     pub union-wellformed : Wellformed U
@@ -106,6 +110,7 @@ module _ (A B : Automaton) (wa : Wellformed A) (wb : Wellformed B) where
           symbols = by-rule _ (wa .symbols) (λ r ir. omega (arith, wb .symbols r ir, ap length same));
           as-many = by-rule _ (wa .as-many) (λ r ir. length-map (r .children) (n +_) ∙ wb .as-many r ir ∙ ap (λ (l : List ℕ). getD l (r .symbol) 0) (sym same));
           masks = λ q. mask q (decLt q n);
+          forgets = by-rule _ (λ r ir. lt-of-lt-of-le (wa .forgets r ir) (pow-mono (omega arith))) (λ r ir. omega (arith, mask-bound 0 (r .forget) (A .tags) (B .tags) (pow-pos (A .tags)) (wb .forgets r ir)));
         }
       where
         mask : (q : ℕ) → Dec (q < n) → (stateAt U q) .mask < 2 ^ (A .tags + B .tags)

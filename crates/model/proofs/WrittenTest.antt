@@ -1,34 +1,76 @@
 -- The tests of a written run are its conditions: what passes them is a written run, and every written run passes. Assumes nothing.
 use mathlib.Core.Path.{_≡_, refl, sym, ap, _∙_, subst}
-use mathlib.Core.List.{List, [], _∷_, List·Memᴰ as In}
-use mathlib.Core.Bool.{Bool, true, false, _&&_, _||_, not, cond}
+use mathlib.Core.Logic.{⊎-elim}
+use mathlib.Core.List.{List, [], _∷_, _++_, map, List·Memᴰ as In, List·Memᴰ·head as here, List·Memᴰ·not-nil as not-nil, List·Memᴰ·eq-of-singleton as eq-of-singleton}
+use mathlib.Core.Bool.{Bool, true, false, _&&_, cond}
 use Prim.Native.Nat.{ℕ, zero, suc, _-_, _<_, _≤_}
 use native.Mathlib.Omega.{arith}
+use native.Mathlib.Nat.{eq-or-lt-of-le, le-of-suc-le-suc}
 use borrow.Author.Tests.{lt-ltb, le-ltb, ltb-true, ltb-false}
 use lib.Dec.{T, eqb, ltb, eqb→eq, eqb-refl, ltb→lt, lt→ltb}
-use lib.ListN.{length, getD, List·getD-eq-default}
+use lib.Seq.{getD-append-seam}
+use lib.ListN.{length, getD, length-append, List·getD-append, List·getD-eq-default}
 use Rattle.model.specs.Limits.{maxChildren, unused}
-use Rattle.model.specs.Lists.{any, tab, allBelow, uses?}
-use Rattle.model.specs.Automaton.{Automaton, arityOf, final?, carries?}
+use Rattle.model.specs.Lists.{any, tab, allBelow, only, concatMap, uses?}
+use Rattle.model.specs.Automaton.{Rule, Automaton, arityOf, final?}
 use Rattle.model.specs.Order.{place}
 use Rattle.model.specs.Sound.{Sound}
 use Rattle.model.specs.Table.{Row, SoundTable}
-use Rattle.model.specs.Written.{Step, stepAt, noRule, ruleOf, rowOf, StepFits, WrittenRun}
-use Rattle.model.specs.WrittenTest.{known?, childFits?, placeFits?, stepFits?, sameRow?, oneRow?, ends?, used?}
-use Rattle.model.proofs.Members.{T-and, and-T, in-any, any-in}
+use Rattle.model.specs.Annotation.{Memory, emptyMemory, agree?, joined, ownMemory, kept, finish}
+use Rattle.model.specs.Written.{Step, stepAt, noRule, ruleOf, rowOf, StepFits, joinedAll, leftBy, WrittenRun}
+use Rattle.model.specs.WrittenTest.{known?, childFits?, placeFits?, stepFits?, leftAt, firstOr, some?, memoriesBelow, clear?, oneRow?, ends?, used?}
+use Rattle.model.proofs.Members.{T-and, and-T, in-any, any-in, in-concatMap, map-same}
 use Rattle.model.proofs.Tab.{tab-at, length-tab}
 use Rattle.model.proofs.Below.{all-at, all-of, any-below, below-any}
 use Rattle.model.proofs.Rows.{in-getD}
+use Rattle.model.proofs.Count.{place-of}
 
-implied : (a b c : Bool) → T (not (a && b) || c) → T a → T b → T c
-implied true true c h ta tb = h
-implied true false c h ta tb = absurd tb
-implied false b c h ta tb = absurd ta
+first-in : (l : List Memory) → T (some? l) → In (firstOr l) l
+first-in [] h = absurd h
+first-in (m ∷ ms) h = here refl
 
-implies : (a b c : Bool) → (T a → T b → T c) → T (not (a && b) || c)
-implies true true c h = h tt tt
-implies true false c h = tt
-implies false b c h = tt
+-- there is at most one memory
+only-one : (b : Bool) (x : Memory) {y : Memory} → In y (only b (x ∷ [])) → only b (x ∷ []) ≡ y ∷ []
+only-one false x h = absurd (not-nil h)
+only-one true x h = ap {B = List Memory} (λ z. z ∷ []) (sym (eq-of-singleton h))
+
+joined-one : (m : Memory) (xs : List Memory) {y : Memory} → In y (joinedAll m xs) → joinedAll m xs ≡ y ∷ []
+joined-one m [] h = ap {B = List Memory} (λ z. z ∷ []) (sym (eq-of-singleton h))
+joined-one m (x ∷ xs) {y} h = go (agree? m x) h (λ g. joined-one (joined m x) xs g)
+  where
+    go : (b : Bool) → In y (only b (joinedAll (joined m x) xs)) → (In y (joinedAll (joined m x) xs) → joinedAll (joined m x) xs ≡ y ∷ []) → only b (joinedAll (joined m x) xs) ≡ y ∷ []
+    go false h ih = absurd (not-nil h)
+    go true h ih = ih h
+
+pub left-one : (A : Automaton) (r : Rule) (i : ℕ) (xs : List Memory) {y : Memory} → In y (leftBy A r i xs) → leftBy A r i xs ≡ y ∷ []
+left-one A r i xs h =
+    let (m, im, iy) = in-concatMap (λ m. finish A (r .target) i (kept A r m)) (joinedAll (emptyMemory A) xs) h in
+    ap (concatMap (λ m. finish A (r .target) i (kept A r m))) (joined-one (emptyMemory A) xs im)
+    ∙ ap {B = List Memory} (_++ []) (only-one (agree? (kept A r m) (ownMemory A (r .target) i)) (joined (kept A r m) (ownMemory A (r .target) i)) iy)
+
+-- the memories that are worked out
+module _ (A : Automaton) (run : List Step) where
+  abbrev pub memoryOf : ℕ → Memory
+  memoryOf i = firstOr (leftAt A run (memoriesBelow A run i) i)
+
+  length-memories : (n : ℕ) → length (memoriesBelow A run n) ≡ n
+  length-memories zero = refl
+  length-memories (suc n) = let e = length-memories n in length-append (memoriesBelow A run n) (memoryOf n ∷ []) ∙ omega arith
+
+  pub memory-at : (n c : ℕ) → c < n → getD (memoriesBelow A run n) c [] ≡ memoryOf c
+  memory-at zero c l = let z : ⊥ = omega arith in absurd z
+  memory-at (suc n) c l =
+      let ms = memoriesBelow A run n in
+      ⊎-elim
+      (λ e. ap (λ z. getD (ms ++ memoryOf n ∷ []) z []) (e ∙ sym (length-memories n)) ∙ getD-append-seam ms (memoryOf n) [] [] ∙ ap memoryOf (sym e))
+      (λ h. List·getD-append ms (memoryOf n ∷ []) [] c (omega (arith, length-memories n)) ∙ memory-at n c h)
+      (eq-or-lt-of-le (le-of-suc-le-suc l))
+
+  -- the steps that a step names are lower, so their memories are those
+  pub kids-memories : (rows : List Row) (i : ℕ) → StepFits A rows run i → map (λ c. getD (memoriesBelow A run i) c []) ((stepAt run i) .steps) ≡ map memoryOf ((stepAt run i) .steps)
+  kids-memories rows i s =
+      map-same (λ c. getD (memoriesBelow A run i) c []) memoryOf ((stepAt run i) .steps)
+      (λ c ic. let (j, lj, e) = place-of 0 ic in memory-at i c (subst (_< i) e (s .lower j (omega (arith, s .one-each)))))
 
 equal : (a b : ℕ) → a ≡ b → T (eqb a b)
 equal a b e = subst (λ (c : ℕ). T (eqb a c)) e (eqb-refl a)
@@ -61,6 +103,12 @@ module _ (A : Automaton) (rows : List Row) (run : List Step) where
 
     pub known-row : (stepAt run i) .row < length rows
     known-row = ltb→lt _ _ (T-and (ltb ((stepAt run i) .rule) (length (A .rules))) _ known .1)
+
+  -- where no step clashes, each leaves the memory that is worked out
+  pub clear-leaves : ((i : ℕ) → i < length run → StepFits A rows run i) → T (oneRow? A run) → (i : ℕ) → i < length run → In (memoryOf A run i) (leftBy A (ruleOf A run i) ((stepAt run i) .row) (map (memoryOf A run) ((stepAt run i) .steps)))
+  clear-leaves each h i l =
+      subst (λ (xs : List Memory). In (memoryOf A run i) (leftBy A (ruleOf A run i) ((stepAt run i) .row) xs)) (kids-memories A run rows i (each i l))
+      (first-in (leftAt A run (memoriesBelow A run i) i) (all-at (length run) (clear? A run) h i l))
 
   module _ (sound : Sound A) (table : SoundTable A rows) (places : ℕ → ℕ → ℕ) where
     module _ (i : ℕ) (known : T (known? A rows run i)) (fit : T (stepFits? A rows run places i)) where
@@ -119,6 +167,10 @@ module _ (A : Automaton) (rows : List Row) (run : List Step) where
                   ∙ any-default ((ruleOf A run i) .children) k unused 0 (let e = as-many in omega arith);
             }
 
+    -- what passes 22 and 23 fits at each step
+    pub tested-steps : T (allBelow (length run) (known? A rows run)) → T (allBelow (length run) (stepFits? A rows run places)) → ((i : ℕ) → i < length run → (stepAt run i) .steps ≡ tab (length (kids i)) (places i)) → (i : ℕ) → i < length run → StepFits A rows run i
+    tested-steps known fit steps i l = step-fits i (all-at (length run) (known? A rows run) known i l) (all-at (length run) (stepFits? A rows run places) fit i l) (steps i l)
+
     pub tested-run : 0 < length run → T (allBelow (length run) (known? A rows run)) → T (allBelow (length run) (stepFits? A rows run places)) → ((i : ℕ) → i < length run → (stepAt run i) .steps ≡ tab (length (kids i)) (places i)) → T (oneRow? A run) → T (ends? A rows run) → T (allBelow (length run - 1) (used? run)) → WrittenRun A rows run
     unfolding uses?
     tested-run some known fit steps one ends used =
@@ -126,10 +178,9 @@ module _ (A : Automaton) (rows : List Row) (run : List Step) where
         let (e₁, e₂) = T-and (eqb ((stepAt run (n - 1)) .row) (length rows - 1)) (final? A ((ruleOf A run (n - 1)) .target)) ends in
         record {
           some-step = some;
-          each = λ i l. step-fits i (all-at n (known? A rows run) known i l) (all-at n (stepFits? A rows run places) fit i l) (steps i l);
-          one-row = λ k lk i j li lj ti tj.
-              eqb→eq _ _ (implied (carries? A ((ruleOf A run i) .target) k) (carries? A ((ruleOf A run j) .target) k) _
-              (all-at n (sameRow? A run k i) (all-at n (λ i. allBelow n (sameRow? A run k i)) (all-at (A .tags) (λ k. allBelow n (λ i. allBelow n (sameRow? A run k i))) one k lk) i li) j lj) ti tj);
+          each = tested-steps known fit steps;
+          memory = memoryOf A run;
+          leaves = clear-leaves (tested-steps known fit steps) one;
           last-row = eqb→eq _ _ e₁;
           last-final = e₂;
           used = λ i l.
@@ -177,12 +228,25 @@ module _ (A : Automaton) (rows : List Row) (run : List Step) where
           all-of (length run) (stepFits? A rows run places)
           (λ i l. and-T (eqb ((ruleOf A run i) .symbol) ((rowOf rows run i) .symbol)) _ (equal _ _ (w .each i l .same-symbol)) (all-of maxChildren (λ k. placeFits? A rows run i k (places i k)) (place-passes i l)))
 
+    -- a written run has the memories that are worked out, and passes 24
+    pub written-memory : (n i : ℕ) → i < n → i < length run → (leftAt A run (memoriesBelow A run i) i ≡ w .memory i ∷ []) × (memoryOf A run i ≡ w .memory i)
+    written-memory zero i h l = let z : ⊥ = omega arith in absurd z
+    written-memory (suc n) i h l =
+        let fits = w .each i l in
+        let steps = (stepAt run i) .steps in
+        let same : map (λ c. getD (memoriesBelow A run i) c []) steps ≡ map (w .memory) steps =
+        kids-memories A run rows i fits
+        ∙ map-same (memoryOf A run) (w .memory) steps
+        (λ c ic.
+        let (j, lj, e) = place-of 0 ic in
+        let lc : c < i = subst (_< i) e (fits .lower j (omega (arith, fits .one-each))) in
+        written-memory n c (omega arith) (omega arith) .1) in
+        let one : leftAt A run (memoriesBelow A run i) i ≡ w .memory i ∷ [] =
+        ap (leftBy A (ruleOf A run i) ((stepAt run i) .row)) same ∙ left-one A (ruleOf A run i) ((stepAt run i) .row) (map (w .memory) steps) (w .leaves i l) in
+        (one, ap firstOr one)
+
     pub one-row-passes : T (oneRow? A run)
-    one-row-passes =
-        all-of (A .tags) (λ k. allBelow (length run) (λ i. allBelow (length run) (λ j. sameRow? A run k i j)))
-        (λ k m. all-of (length run) (λ i. allBelow (length run) (λ j. sameRow? A run k i j))
-        (λ i li. all-of (length run) (sameRow? A run k i)
-        (λ j lj. implies (carries? A ((ruleOf A run i) .target) k) (carries? A ((ruleOf A run j) .target) k) _ (λ ci cj. equal _ _ (w .one-row k m i j li lj ci cj)))))
+    one-row-passes = all-of (length run) (clear? A run) (λ i l. subst (λ (ms : List Memory). T (some? ms)) (sym (written-memory (suc i) i (omega arith) l .0)) tt)
 
     pub ends-passes : T (ends? A rows run)
     ends-passes = and-T (eqb ((stepAt run (length run - 1)) .row) (length rows - 1)) _ (equal _ _ (w .last-row)) (w .last-final)

@@ -6,7 +6,7 @@ use Prim.Native.Nat.{ℕ, zero, suc, _-_, _<_}
 use lib.Dec.{T, eqb}
 use lib.ListN.{length, getD}
 use Rattle.model.specs.Lists.{concatMap, only, any, eqList, tab}
-use Rattle.model.specs.Automaton.{Rule, Automaton, final?, carries?}
+use Rattle.model.specs.Automaton.{Rule, Automaton, final?, carries?, forgets?}
 use Rattle.model.specs.Table.{Row, rowAt}
 
 -- A memory from tags to rows: its place k is 0 where tag k has no row, else the row's number and 1.
@@ -41,7 +41,11 @@ joined (x ∷ a) (y ∷ b) = joinedPlace x y ∷ joined a b
 abbrev pub ownMemory : Automaton → ℕ → ℕ → Memory
 ownMemory A q i = tab (A .tags) (λ k. cond (carries? A q k) (suc i) 0)
 
--- The last step: the target's tags are added to what the children's memories joined to, provided no tag gets two rows.
+-- what is left of a memory once a rule's tags are dropped
+abbrev pub kept : Automaton → Rule → Memory → Memory
+kept A r m = tab (A .tags) (λ k. cond (forgets? r k) 0 (getD m k 0))
+
+-- The last step: the target's tags are added to what is left of the children's memories joined, provided no tag gets two rows.
 abbrev pub finish : Automaton → ℕ → ℕ → Memory → List Memory
 finish A q i m = only (agree? m (ownMemory A q i)) (joined m (ownMemory A q i) ∷ [])
 
@@ -53,10 +57,10 @@ pub record Annotation : Type 0 where
 abbrev pub annotation : ℕ → ℕ → Memory → Annotation
 annotation i q m = record { row = i; state = q; memory = m }
 
--- The annotations that derive: a rule on a row, an annotation for each child with the row and the state that are asked, their memories joined from the empty one, then the last step.
+-- The annotations that derive: a rule on a row, an annotation for each child with the row and the state that are asked, their memories joined from the empty one, the rule's tags dropped, then the last step.
 mutual
   pub data Derivable (A : Automaton) (rows : List Row) : ℕ → ℕ → Memory → Type 0 where
-    derived : {i q : ℕ} {r : Rule} {m y : Memory} → i < length rows → In r (A .rules) → r .symbol ≡ (rowAt rows i) .symbol → r .target ≡ q → Joins A rows (emptyMemory A) ((rowAt rows i) .children) (r .children) m → In y (finish A q i m) → Derivable A rows i q y
+    derived : {i q : ℕ} {r : Rule} {m y : Memory} → i < length rows → In r (A .rules) → r .symbol ≡ (rowAt rows i) .symbol → r .target ≡ q → Joins A rows (emptyMemory A) ((rowAt rows i) .children) (r .children) m → In y (finish A q i (kept A r m)) → Derivable A rows i q y
 
   -- from the memory m, children in the rows and states listed join to the last memory
   pub data Joins (A : Automaton) (rows : List Row) : Memory → List ℕ → List ℕ → Memory → Type 0 where
@@ -82,7 +86,7 @@ choices known m (c ∷ cs) (q ∷ qs) = concatMap (λ x. only (agree? m x) (choi
 abbrev pub byRule : Automaton → List Row → List Annotation → ℕ → Rule → List Annotation
 byRule A rows known i r =
     only (eqb (r .symbol) ((rowAt rows i) .symbol))
-    (map (annotation i (r .target)) (concatMap (finish A (r .target) i) (choices known (emptyMemory A) ((rowAt rows i) .children) (r .children))))
+    (map (annotation i (r .target)) (concatMap (λ m. finish A (r .target) i (kept A r m)) (choices known (emptyMemory A) ((rowAt rows i) .children) (r .children))))
 
 abbrev pub addNew : List Annotation → List Annotation → List Annotation
 addNew known [] = known

@@ -11,8 +11,9 @@ use Rattle.model.specs.Order.{sorted}
 abbrev pub shiftState : ℕ → State → State
 shiftState t q = record { final = q .final; mask = q .mask * 2 ^ t }
 
-abbrev pub shiftRule : ℕ → Rule → Rule
-shiftRule n r = record { symbol = r .symbol; children = map (n +_) (r .children); target = n + r .target }
+-- states shifted by n, tags by t
+abbrev pub shiftRule : ℕ → ℕ → Rule → Rule
+shiftRule n t r = record { symbol = r .symbol; children = map (n +_) (r .children); target = n + r .target; forget = r .forget * 2 ^ t }
 
 -- The first's states and tags, then the second's, shifted.
 abbrev pub union : Automaton → Automaton → Automaton
@@ -21,7 +22,7 @@ union A B =
       arities = A .arities;
       states = A .states ++ map (shiftState (A .tags)) (B .states);
       tags = A .tags + B .tags;
-      rules = sorted (A .rules ++ map (shiftRule (length (A .states))) (B .rules));
+      rules = sorted (A .rules ++ map (shiftRule (length (A .states)) (A .tags)) (B .rules));
     }
 
 -- A pair of states is final if both are, and carries the tags of the first and the shifted tags of the second.
@@ -34,12 +35,14 @@ pairNumbers n [] qs = []
 pairNumbers n (p ∷ ps) [] = []
 pairNumbers n (p ∷ ps) (q ∷ qs) = (p * n + q) ∷ pairNumbers n ps qs
 
-abbrev pub pairRule : ℕ → Rule → Rule → Rule
-pairRule n r s = record { symbol = r .symbol; children = pairNumbers n (r .children) (s .children); target = r .target * n + s .target }
+-- .. forgets every tag that either forgets, the second's shifted
+abbrev pub pairRule : ℕ → ℕ → Rule → Rule → Rule
+pairRule n t r s =
+    record { symbol = r .symbol; children = pairNumbers n (r .children) (s .children); target = r .target * n + s .target; forget = r .forget + s .forget * 2 ^ t }
 
 -- one rule for each pair of rules with the same symbol
-abbrev pub pairRules : ℕ → List Rule → List Rule → List Rule
-pairRules n rs ss = concatMap (λ r. concatMap (λ s. only (eqb (r .symbol) (s .symbol)) (pairRule n r s ∷ [])) ss) rs
+abbrev pub pairRules : ℕ → ℕ → List Rule → List Rule → List Rule
+pairRules n t rs ss = concatMap (λ r. concatMap (λ s. only (eqb (r .symbol) (s .symbol)) (pairRule n t r s ∷ [])) ss) rs
 
 abbrev pub product : Automaton → Automaton → Automaton
 product A B =
@@ -47,5 +50,5 @@ product A B =
       arities = A .arities;
       states = tab (length (A .states) * length (B .states)) (λ n. pairState (A .tags) (stateAt A (n / length (B .states))) (stateAt B (n % length (B .states))));
       tags = A .tags + B .tags;
-      rules = sorted (pairRules (length (B .states)) (A .rules) (B .rules));
+      rules = sorted (pairRules (length (B .states)) (A .tags) (A .rules) (B .rules));
     }

@@ -9,18 +9,23 @@ use lib.ListN.{length, getD}
 use Rattle.model.specs.Tree.{Tree, at}
 use Rattle.model.specs.Automaton.{Automaton, carries?}
 use Rattle.model.specs.Table.{Row, treeAt}
-use Rattle.model.specs.Run.{Labelling, IsRun, Consistent}
+use Rattle.model.specs.Run.{Labelling, Above, Forgets, IsRun, Consistent}
 use Rattle.model.specs.Annotation.{Memory}
 
--- a position of t whose state carries tag k, with the tree of row j
+-- no position strictly above p forgets tag k
+abbrev pub Remembered : Automaton → Tree → Labelling → ℕ → List ℕ → Type 0
+Remembered A t ρ k p = (v : List ℕ) → Forgets A t ρ k v → Above v p → ⊥
+
+-- a position of t whose state carries tag k, with the tree of row j, and no position above it forgets the tag
 pub record Tagged (A : Automaton) (rows : List Row) (t : Tree) (ρ : Labelling) (k j : ℕ) : Type 0 where
   pub tag : k < A .tags
   pub row : j < length rows
   pub place : List ℕ
   pub stands : at t place ≡ some (treeAt rows j)
   pub carried : T (carries? A (ρ place) k)
+  pub remembered : Remembered A t ρ k place
 
--- a run on the tree of row i in state q, consistent in its tags, whose tagged subtrees are exactly the rows that m names
+-- a run on the tree of row i in state q, consistent in its tags, whose tagged subtrees, as far as they are not forgotten, are exactly the rows that m names
 pub record RunLeaving (A : Automaton) (rows : List Row) (i q : ℕ) (m : Memory) : Type 0 where
   pub run : Labelling
   pub root : run [] ≡ q

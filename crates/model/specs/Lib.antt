@@ -8,6 +8,7 @@ pub mod Order
 pub mod Sound
 pub mod Run
 pub mod Papers
+pub mod Isolating
 pub mod Table
 pub mod Fit
 pub mod Build
@@ -15,5 +16,6 @@ pub mod Annotation
 pub mod Leaves
 pub mod Written
 pub mod WrittenTest
+pub mod ByTag
 pub mod Boolean
 pub mod Witness

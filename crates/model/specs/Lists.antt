@@ -18,6 +18,10 @@ abbrev pub any : {A : Type 0} → (A → Bool) → List A → Bool
 any f [] = false
 any f (x ∷ xs) = f x || any f xs
 
+abbrev pub all : {A : Type 0} → (A → Bool) → List A → Bool
+all f [] = true
+all f (x ∷ xs) = f x && all f xs
+
 abbrev pub eqList : List ℕ → List ℕ → Bool
 eqList [] [] = true
 eqList [] (y ∷ ys) = false

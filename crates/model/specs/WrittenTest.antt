@@ -1,15 +1,16 @@
 -- The conditions of a written run as tests that compute, one for each of the numbers 22 to 26 (document 01, section "Turned away, by place"). Assumes nothing.
-use mathlib.Core.List.{List}
-use mathlib.Core.Bool.{Bool, _&&_, _||_, not, cond}
-use Prim.Native.Nat.{ℕ, _-_}
+use mathlib.Core.List.{List, [], _∷_, _++_, map}
+use mathlib.Core.Bool.{Bool, true, false, _&&_, cond}
+use Prim.Native.Nat.{ℕ, zero, suc, _-_}
 use lib.Dec.{eqb, ltb}
 use lib.ListN.{length, getD}
 use Rattle.model.specs.Limits.{maxChildren, unused}
 use Rattle.model.specs.Lists.{allBelow, anyBelow, uses?}
-use Rattle.model.specs.Automaton.{Automaton, final?, carries?}
+use Rattle.model.specs.Automaton.{Automaton, final?}
 use Rattle.model.specs.Order.{place}
 use Rattle.model.specs.Table.{Row}
-use Rattle.model.specs.Written.{Step, stepAt, ruleOf, rowOf}
+use Rattle.model.specs.Annotation.{Memory}
+use Rattle.model.specs.Written.{Step, stepAt, ruleOf, rowOf, leftBy}
 
 -- 22: rule and row are known
 abbrev pub known? : Automaton → List Row → List Step → ℕ → Bool
@@ -29,13 +30,29 @@ unfoldable pub stepFits? : Automaton → List Row → List Step → (ℕ → ℕ
 stepFits? A rows run places i =
     eqb ((ruleOf A run i) .symbol) ((rowOf rows run i) .symbol) && allBelow maxChildren (λ k. placeFits? A rows run i k (places i k))
 
--- 24: where the states of two steps carry a tag, both steps are on one row
-abbrev pub sameRow? : Automaton → List Step → ℕ → ℕ → ℕ → Bool
-sameRow? A run k i j =
-    not (carries? A ((ruleOf A run i) .target) k && carries? A ((ruleOf A run j) .target) k) || eqb ((stepAt run i) .row) ((stepAt run j) .row)
+-- the memory that step i leaves, those of the lower steps being ms: none where a tag gets two rows
+abbrev pub leftAt : Automaton → List Step → List Memory → ℕ → List Memory
+leftAt A run ms i = leftBy A (ruleOf A run i) ((stepAt run i) .row) (map (λ c. getD ms c []) ((stepAt run i) .steps))
+
+abbrev pub firstOr : List Memory → Memory
+firstOr [] = []
+firstOr (m ∷ ms) = m
+
+abbrev pub some? : List Memory → Bool
+some? [] = false
+some? (m ∷ ms) = true
+
+-- the memories of the steps below n, worked out step by step
+abbrev pub memoriesBelow : Automaton → List Step → ℕ → List Memory
+memoriesBelow A run zero = []
+memoriesBelow A run (suc i) = memoriesBelow A run i ++ firstOr (leftAt A run (memoriesBelow A run i) i) ∷ []
+
+-- 24: no clash at step i
+abbrev pub clear? : Automaton → List Step → ℕ → Bool
+clear? A run i = some? (leftAt A run (memoriesBelow A run i) i)
 
 abbrev pub oneRow? : Automaton → List Step → Bool
-oneRow? A run = allBelow (A .tags) (λ k. allBelow (length run) (λ i. allBelow (length run) (λ j. sameRow? A run k i j)))
+oneRow? A run = allBelow (length run) (clear? A run)
 
 -- 25: the last step is on the last row, in a final state
 abbrev pub ends? : Automaton → List Row → List Step → Bool
