@@ -11,7 +11,7 @@ use Rattle.model.specs.Sound.{Sound}
 use Rattle.automaton.specs.declared.Form.{Form}
 use Rattle.automaton.specs.declared.Written.{Written}
 use Rattle.automaton.specs.declared.Written.the-variants.{Length, Refused}
-use Rattle.automaton.specs.Form.{tagBits}
+use Rattle.automaton.specs.Form.{HasRoom}
 use Rattle.automaton.specs.Encode.{encode, encodedLength, spaceOf}
 use Rattle.automaton.specs.Answer.{writtenAnswer, Stores}
 use Rattle.automaton.proofs.Encoded.{encode-length}
@@ -40,6 +40,6 @@ module _ (form : Form) (A : Automaton) (space : List ℕ) where
       (refl, sym l, take-at (encode form A) (drop (encodedLength form A) space) n (encode-length form A ∙ l))
   given-length (suc k) n e = let z : _≡_ {A = ℕ} 0 1 = cc in absurd (omega arith)
 
-  -- .. which is a sound set where the automaton is sound and the form has bits for its tags.
-  pub given-stores : (k n : ℕ) → unless k (encodedLength form A) ≡ gives n → Sound A → A .tags ≤ tagBits form → Stores (take n (spaceOf k form A space)) A
+  -- .. which is a sound set where the automaton is sound and the form has room for it.
+  pub given-stores : (k n : ℕ) → unless k (encodedLength form A) ≡ gives n → Sound A → HasRoom form A → Stores (take n (spaceOf k form A space)) A
   given-stores k n e s b = subst (λ (z : List ℕ). Stores z A) (sym (given-length k n e .2)) (record { sound = encode-sound form A s b; decoded = decode-encode form A s b })

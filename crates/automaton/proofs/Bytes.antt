@@ -11,13 +11,14 @@ use lib.Seq.{take-add, take-all, drop-cons}
 use Rattle.model.specs.Limits.{maxChildren}
 use Rattle.model.specs.Lists.{concatMap, tab}
 use Rattle.model.specs.Order.{place}
-use Rattle.automaton.specs.Form.{headerWidth, tagsWidth, stateWidth, ruleWidth, statesOffset, rulesOffset, totalLength}
-use Rattle.automaton.specs.Stored.{word, symbolCount, stateCount, tagCount, ruleCount, symbolsAt, rulesAt, formOf, statePlace, symbolByte, finalByte, tagsAt, tagsOf, ruleWord, placeWord, stateOf, ruleOf, decode}
-use Rattle.automaton.specs.Encode.{encodeWord, encodeHeader, encodeSymbol, encodeTags, encodeState, encodePlaces, encodeRule, encode}
+use Rattle.automaton.specs.Form.{headerWidth, tagsWidth, stateWidth, ruleNumbers, ruleWidth, keptMask, statesOffset, rulesOffset, totalLength}
+use Rattle.automaton.specs.Stored.{word, symbolCount, stateCount, tagCount, ruleCount, symbolsAt, rulesAt, formOf, statePlace, symbolByte, finalByte, tagsAt, tagsOf, ruleWord, placeWord, forgetOf, stateOf, ruleOf, decode}
+use Rattle.automaton.specs.Encode.{encodeWord, encodeHeader, encodeSymbol, encodeTags, encodeState, maskNumbers, encodePlaces, encodeRule, encode}
 use Rattle.automaton.specs.Check.{checkOf}
 use Rattle.automaton.specs.declared.Form.{Form}
-use Rattle.automaton.specs.declared.Form.the-variants.{Narrow, Wide}
+use Rattle.automaton.specs.declared.Form.the-variants.{Narrow, Wide, Isolating}
 use Rattle.automaton.proofs.Parts.{inside, tab-same, part-tab, concat-tab}
+use Rattle.automaton.proofs.Widths.{width-numbers}
 use Rattle.automaton.proofs.Words.{bytes-back}
 use Rattle.automaton.proofs.Decode.{symbols-are, states-are, rules-are}
 use Rattle.automaton.proofs.Passes.{Passes, passes}
@@ -48,6 +49,7 @@ module _ (s : List ℕ) (bytes : (k : ℕ) → getD s k 0 < 256) where
       ap (λ (x : ℕ). x ∷ []) (mod-eq-of-lt (bytes k) ∙ ap (λ (n : ℕ). getD s n 0) (sym (add-zero k)))
       ∙ sym (part-tab 1 k s l)
   tags-part Wide k l = word-part k l
+  tags-part Isolating k l = word-part k l
 
   module _ (p : Passes s) where
     abbrev S : ℕ
@@ -91,11 +93,21 @@ module _ (s : List ℕ) (bytes : (k : ℕ) → getD s k 0 < 256) where
         let wide : suc (tagsWidth F) ≡ stateWidth F = omega arith in
         both ∙ sym (ap (λ (r : List ℕ). take (suc (tagsWidth F)) r) (drop-cons s o 0 (omega arith))) ∙ ap (λ (n : ℕ). take n (drop o s)) wide
 
-    rule-part : (i : ℕ) → i < R → encodeRule (ruleOf s i) ≡ take (ruleWidth F) (drop (rulesOffset F S Q + ruleWidth F * i) s)
-    unfolding encodePlaces ruleWord
+    -- the numbers of a rule are those that its form has
+    rule-numbers : (form : Form) (f : ℕ → ℕ) → tab (maxChildren + 2) f ++ maskNumbers form (keptMask form (f (maxChildren + 2))) ≡ tab (ruleNumbers form) f
+    unfolding maskNumbers keptMask ruleNumbers
+    rule-numbers Narrow f = refl
+    rule-numbers Wide f = refl
+    rule-numbers Isolating f = refl
+
+    rule-part : (i : ℕ) → i < R → encodeRule F (ruleOf s i) ≡ take (ruleWidth F) (drop (rulesOffset F S Q + ruleWidth F * i) s)
+    unfolding encodePlaces ruleWord forgetOf
     rule-part i l =
-        ap (λ (ps : List ℕ). concatMap encodeWord (ruleWord s i 0 ∷ ruleWord s i 1 ∷ ps)) (tab-same maxChildren (place (ruleOf s i)) (placeWord s i) (place-is s p i l))
-        ∙ words-part (maxChildren + 2) (rulesAt s + ruleWidth F * i) (omega (arith, p .offsets .whole, p .offsets .rules-at))
+        let w = width-numbers F in
+        ap (λ (ps : List ℕ). concatMap encodeWord (ruleWord s i 0 ∷ ruleWord s i 1 ∷ ps ++ maskNumbers F (forgetOf s i))) (tab-same maxChildren (place (ruleOf s i)) (placeWord s i) (place-is s p i l))
+        ∙ ap (concatMap encodeWord) (rule-numbers F (ruleWord s i))
+        ∙ words-part (ruleNumbers F) (rulesAt s + ruleWidth F * i) (omega (arith, p .offsets .whole, p .offsets .rules-at, inside (ruleWidth F) i R l))
+        ∙ ap (λ (n : ℕ). take n (drop (rulesAt s + ruleWidth F * i) s)) (sym w)
         ∙ ap (λ (n : ℕ). take (ruleWidth F) (drop (n + ruleWidth F * i) s)) (p .offsets .rules-at)
 
     symbols-part : concatMap encodeSymbol (tab S (symbolByte s)) ≡ take (1 * S) (drop headerWidth s)
@@ -104,8 +116,8 @@ module _ (s : List ℕ) (bytes : (k : ℕ) → getD s k 0 < 256) where
     states-part : concatMap (encodeOf F) (tab Q (stateOf s)) ≡ take (stateWidth F * Q) (drop (statesOffset S) s)
     states-part = concat-tab (encodeOf F) (stateWidth F) (state-width F) s Q (stateOf s) (statesOffset S) state-part
 
-    rules-part : concatMap encodeRule (tab R (ruleOf s)) ≡ take (ruleWidth F * R) (drop (rulesOffset F S Q) s)
-    rules-part = concat-tab encodeRule (ruleWidth F) rule-width s R (ruleOf s) (rulesOffset F S Q) rule-part
+    rules-part : concatMap (encodeRule F) (tab R (ruleOf s)) ≡ take (ruleWidth F * R) (drop (rulesOffset F S Q) s)
+    rules-part = concat-tab (encodeRule F) (ruleWidth F) (rule-width F) s R (ruleOf s) (rulesOffset F S Q) rule-part
 
     parts : take headerWidth s ++ take (1 * S) (drop headerWidth s) ++ take (stateWidth F * Q) (drop (statesOffset S) s) ++ take (ruleWidth F * R) (drop (rulesOffset F S Q) s) ≡ s
     parts =
@@ -116,7 +128,7 @@ module _ (s : List ℕ) (bytes : (k : ℕ) → getD s k 0 < 256) where
         ∙ sym (take-add (rulesOffset F S Q) (ruleWidth F * R) s)
         ∙ take-all (totalLength F S Q R) s (le-of-eq (p .offsets .whole))
 
-    back : encodeHeader F S Q (tagCount s) R ++ concatMap encodeSymbol (tab S (symbolByte s)) ++ concatMap (encodeOf F) (tab Q (stateOf s)) ++ concatMap encodeRule (tab R (ruleOf s)) ≡ s
+    back : encodeHeader F S Q (tagCount s) R ++ concatMap encodeSymbol (tab S (symbolByte s)) ++ concatMap (encodeOf F) (tab Q (stateOf s)) ++ concatMap (encodeRule F) (tab R (ruleOf s)) ≡ s
     back = rw (header-part, symbols-part, states-part, rules-part) parts
 
 -- Encoding in the form that the bytes are in undoes decoding.

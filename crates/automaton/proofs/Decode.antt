@@ -14,7 +14,7 @@ use Rattle.model.specs.Order.{place}
 use Rattle.model.specs.Written.{noRule, ruleAt}
 use Rattle.model.proofs.Tab.{tab-at, tab-past, length-tab}
 use Rattle.automaton.proofs.Parts.{tab-same}
-use Rattle.automaton.specs.Stored.{symbolCount, stateCount, tagCount, ruleCount, symbolByte, finalByte, tagsOf, ruleWord, placeWord, placeOf, stateOf, ruleOf, decode}
+use Rattle.automaton.specs.Stored.{symbolCount, stateCount, tagCount, ruleCount, symbolByte, finalByte, tagsOf, ruleWord, placeWord, placeOf, forgetOf, stateOf, ruleOf, decode}
 
 module _ (s : List ℕ) where
   pub symbols-are : length ((decode s) .arities) ≡ symbolCount s
@@ -85,6 +85,9 @@ module _ (s : List ℕ) (n x : ℕ) where
   pub read-target : (i : ℕ) → n ≡ length ((decode s) .rules) → i < n → x ≡ ruleWord s i 1 → x ≡ (ruleAt (decode s) i) .target
   read-target i e l h = h ∙ sym (ap (λ (r : Rule). r .target) (rule-known s i (rw (e ∙ rules-are s) at l)))
 
+  pub read-forget : (i : ℕ) → n ≡ length ((decode s) .rules) → i < n → x ≡ forgetOf s i → x ≡ (ruleAt (decode s) i) .forget
+  read-forget i e l h = h ∙ sym (ap (λ (r : Rule). r .forget) (rule-known s i (rw (e ∙ rules-are s) at l)))
+
 -- the symbol f, its arity a, and what was read of the places
 module _ (s : List ℕ) (n i f a : ℕ) (e : n ≡ length ((decode s) .rules)) (l : i < n) (ef : f ≡ ruleWord s i 0) (ea : a ≡ arityOf (decode s) f) where
   pub read-place : (x k : ℕ) → x ≡ placeOf s i a k → x ≡ place (ruleAt (decode s) i) k
@@ -110,10 +113,13 @@ module _ (s : List ℕ) (n : ℕ) where
   pub no-target : (i : ℕ) → n ≡ length ((decode s) .rules) → n ≤ i → 0 ≡ (ruleAt (decode s) i) .target
   no-target i e l = sym (ap (λ (r : Rule). r .target) (rule-unknown s i (rw (e ∙ rules-are s) at l)))
 
+  pub no-forget : (i : ℕ) → n ≡ length ((decode s) .rules) → n ≤ i → 0 ≡ (ruleAt (decode s) i) .forget
+  no-forget i e l = sym (ap (λ (r : Rule). r .forget) (rule-unknown s i (rw (e ∙ rules-are s) at l)))
+
   pub no-place : (i k : ℕ) → n ≡ length ((decode s) .rules) → n ≤ i → unused ≡ place (ruleAt (decode s) i) k
   no-place i k e l = sym (place-unknown s i k (rw (e ∙ rules-are s) at l))
 
   pub no-places : (i : ℕ) → n ≡ length ((decode s) .rules) → n ≤ i → tab maxChildren (λ (k : ℕ). unused) ≡ tab maxChildren (place (ruleAt (decode s) i))
   no-places i e l = tab-same maxChildren (λ (k : ℕ). unused) (place (ruleAt (decode s) i)) (λ k lk. no-place i k e l)
 
-pub ruleset reads = (read-place, no-place, read-arity, read-mask, read-final, read-symbol, read-target, no-arity, no-mask, no-final, no-symbol, no-target, needs)
+pub ruleset reads = (read-place, no-place, read-arity, read-mask, read-final, read-symbol, read-target, read-forget, no-arity, no-mask, no-final, no-symbol, no-target, no-forget, needs)

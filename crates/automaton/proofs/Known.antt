@@ -15,6 +15,7 @@ use Rattle.model.specs.Written.{noRule, ruleAt}
 use Rattle.model.proofs.Rows.{in-getD}
 use Rattle.automaton.specs.declared.Checked.{Checked}
 use Rattle.automaton.specs.declared.Checked.the-variants as checked
+use Rattle.automaton.specs.declared.Form.{Form}
 use Rattle.automaton.specs.declared.StoredRule.{StoredRule}
 use Rattle.automaton.specs.Answer.{checkAnswer, IsRule}
 use Rattle.automaton.specs.Encode.{encodePlaces, encodeRule}
@@ -50,6 +51,9 @@ module _ (A : Automaton) (h : Sound A) (x : ℕ) where
     pub known-symbol : x ≡ (ruleAt A i) .symbol → x < length (A .arities)
     known-symbol e = rw e (h .wellformed .symbols (ruleAt A i) (in-getD noRule (A .rules) i l))
 
+    pub known-forget : x ≡ (ruleAt A i) .forget → x < 2 ^ A .tags
+    known-forget e = rw e (h .wellformed .forgets (ruleAt A i) (in-getD noRule (A .rules) i l))
+
     pub known-target : x ≡ (ruleAt A i) .target → x < length (A .states)
     known-target e = rw e (h .wellformed .targets (ruleAt A i) (in-getD noRule (A .rules) i l))
 
@@ -60,7 +64,7 @@ module _ (A : Automaton) (h : Sound A) (x : ℕ) where
     pub known-child : (k : ℕ) → k < length ((ruleAt A i) .children) → x ≡ place (ruleAt A i) k → x < length (A .states)
     known-child k m e = rw e (place-child A h i l k m)
 
-pub ruleset sounds = (sound-decode, known-symbols, known-states, known-tags, known-rules, known-arity, known-mask, known-symbol, known-target, known-child, needs)
+pub ruleset sounds = (sound-decode, known-symbols, known-states, known-tags, known-rules, known-arity, known-mask, known-symbol, known-target, known-forget, known-child, needs)
 
 -- The rules of symbol f are those from the first whose symbol is not below f to before the first whose symbol is above it.
 module _ (A : Automaton) (f low high : ℕ) (a : FirstFrom A f low) (b : FirstFrom A (f + 1) high) where
@@ -78,8 +82,8 @@ pub known-first : (s : List ℕ) (f r : ℕ) → checkOf s ≡ 0 → r ≡ rules
 known-first s f r h e = rw e (rules-from-first s f h)
 
 -- a rule that was read, or made with its places, is stored as the rule that it is
-pub rule-bytes : (x : StoredRule) (r : Rule) → IsRule x r → encodePlaces (x .symbol) (x .target .0) (map (λ q. q .0) (x .places)) ≡ encodeRule r
-rule-bytes x r h = rw (h .symbol, h .target, h .places)
+pub rule-bytes : (form : Form) (x : StoredRule) (r : Rule) → IsRule x r → encodePlaces form (x .symbol) (x .target .0) (map (λ q. q .0) (x .places)) (x .forget) ≡ encodeRule form r
+rule-bytes form x r h = rw (h .symbol, h .target, h .places, h .forget)
 
 -- an answer without a number is of a sound automaton
 pub checked-sound : (s : List ℕ) (r : Checked) → checkAnswer r ≡ unless (checkOf s) tt → r ≡ checked.Passed → Sound (decode s)

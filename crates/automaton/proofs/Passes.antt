@@ -14,8 +14,8 @@ use Rattle.model.specs.Refusal.{demand}
 use Rattle.model.proofs.Below.{at}
 use Rattle.automaton.proofs.Parts.{all-of}
 use Rattle.automaton.specs.Form.{headerWidth, tagBits, statesOffset, rulesOffset, totalLength}
-use Rattle.automaton.specs.Stored.{symbolCount, stateCount, tagCount, ruleCount, symbolsAt, statesAt, rulesAt, statedTotal, formOf, symbolByte, finalByte, tagsOf, ruleWord, placeWord}
-use Rattle.automaton.specs.Check.{countsOk, offsetsOk, symbolOk, stateOk, placeOk, ruleOk, ascendsAt, checkOf}
+use Rattle.automaton.specs.Stored.{symbolCount, stateCount, tagCount, ruleCount, symbolsAt, statesAt, rulesAt, statedTotal, formOf, symbolByte, finalByte, tagsOf, ruleWord, placeWord, forgetOf}
+use Rattle.automaton.specs.Check.{countsOk, offsetsOk, symbolOk, stateOk, placeOk, ruleOk, ascendsAt, forgetOk, checkOf}
 
 pub split : (a b : Bool) → (a && b) ≡ true → (a ≡ true) × (b ≡ true)
 split true b h = (refl, h)
@@ -94,9 +94,10 @@ pub record Passes (s : List ℕ) : Type 0 where
   pub rules : (i : ℕ) → i < ruleCount s → (ruleWord s i 0 < symbolCount s) × (ruleWord s i 1 < stateCount s)
   pub places : (i : ℕ) → i < ruleCount s → (k : ℕ) → k < maxChildren → placeOk s i k ≡ true
   pub ascends : (i : ℕ) → i + 1 < ruleCount s → ascendsAt s i ≡ true
+  pub forgets : (i : ℕ) → i < ruleCount s → forgetOf s i < 2 ^ tagCount s
 
 pub passes : (s : List ℕ) → checkOf s ≡ 0 → Passes s
-unfolding checkOf symbolOk stateOk
+unfolding checkOf symbolOk stateOk forgetOk
 passes s h =
     let one = met (leb headerWidth (length s)) 0 _ h in
     let two = met (countsOk s) 1 _ (one .1) in
@@ -105,6 +106,7 @@ passes s h =
     let five = met (allBelow (stateCount s) (stateOk s)) 4 _ (four .1) in
     let six = met (allBelow (ruleCount s) (ruleOk s)) 5 _ (five .1) in
     let seven = met (allBelow (ruleCount s - 1) (ascendsAt s)) 6 _ (six .1) in
+    let nine = met (allBelow (ruleCount s) (forgetOk s)) 8 _ (seven .1) in
     record {
       header = leb-true headerWidth (length s) (one .0);
       counts = counted s (two .0);
@@ -116,6 +118,7 @@ passes s h =
       rules = λ i l. let p = rule-parts s i (at (ruleOk s) (ruleCount s) i (six .0) l) in (p .0, p .1);
       places = λ i l k lk. at (placeOk s i) maxChildren k (rule-parts s i (at (ruleOk s) (ruleCount s) i (six .0) l) .2) lk;
       ascends = λ i l. at (ascendsAt s) (ruleCount s - 1) i (seven .0) (omega arith);
+      forgets = λ i l. ltb-true (forgetOf s i) (2 ^ tagCount s) (at (forgetOk s) (ruleCount s) i (nine .0) l);
     }
 
 pub meets : (t : Bool) (n rest : ℕ) → t ≡ true → rest ≡ 0 → demand t n rest ≡ 0
@@ -124,7 +127,7 @@ meets t n rest y h = rw y h
 
 -- And back: bytes with all of that are refused by no number.
 pub passing : (s : List ℕ) → Passes s → checkOf s ≡ 0
-unfolding checkOf countsOk offsetsOk symbolOk stateOk ruleOk
+unfolding checkOf countsOk offsetsOk symbolOk stateOk ruleOk forgetOk
 passing s p =
     let c = p .counts in
     let o = p .offsets in
@@ -153,9 +156,29 @@ passing s p =
     (all-of (stateCount s) (stateOk s) (λ q l. rw (le-leb (finalByte s q) 1 (p .states q l .0), lt-ltb (tagsOf s q) (2 ^ tagCount s) (p .states q l .1))))
     (meets (allBelow (ruleCount s) (ruleOk s)) 6 _
     (all-of (ruleCount s) (ruleOk s) (λ i l. rw (lt-ltb (ruleWord s i 0) (symbolCount s) (p .rules i l .0), lt-ltb (ruleWord s i 1) (stateCount s) (p .rules i l .1)) (all-of maxChildren (placeOk s i) (p .places i l))))
-    (meets (allBelow (ruleCount s - 1) (ascendsAt s)) 7 0
+    (meets (allBelow (ruleCount s - 1) (ascendsAt s)) 7 _
     (all-of (ruleCount s - 1) (ascendsAt s) (λ i l. p .ascends i (omega arith)))
-    refl))))))
+    (meets (allBelow (ruleCount s) (forgetOk s)) 9 0
+    (all-of (ruleCount s) (forgetOk s) (λ i l. lt-ltb (forgetOf s i) (2 ^ tagCount s) (p .forgets i l)))
+    refl)))))))
+
+-- The highest number of a set is 9.
+demand-most : (t : Bool) (n rest : ℕ) → n ≤ 9 → rest ≤ 9 → demand t n rest ≤ 9
+unfolding demand
+demand-most true n rest h k = k
+demand-most false n rest h k = h
+
+pub check-most : (s : List ℕ) → checkOf s ≤ 9
+unfolding checkOf
+check-most s =
+    demand-most _ 1 _ (omega arith)
+    (demand-most _ 2 _ (omega arith)
+    (demand-most _ 3 _ (omega arith)
+    (demand-most _ 4 _ (omega arith)
+    (demand-most _ 5 _ (omega arith)
+    (demand-most _ 6 _ (omega arith)
+    (demand-most _ 7 _ (omega arith)
+    (demand-most _ 9 _ (omega arith) (omega arith))))))))
 
 -- a place of a rule, of the values that were read: the place x, the arity a of its symbol, the states q
 module _ (s : List ℕ) (i k x a q : ℕ) (ex : x ≡ placeWord s i k) (ea : a ≡ symbolByte s (ruleWord s i 0)) where

@@ -16,7 +16,7 @@ use Rattle.model.specs.Space.{putAt}
 use Rattle.model.proofs.Space.{put-fits, put-not, put-length, put-up-to, put-behind}
 use Rattle.automaton.specs.Form.{tagsWidth, stateWidth}
 use Rattle.automaton.specs.declared.Form.{Form}
-use Rattle.automaton.specs.declared.Form.the-variants.{Narrow, Wide}
+use Rattle.automaton.specs.declared.Form.the-variants.{Narrow, Wide, Isolating}
 use Rattle.automaton.specs.Encode.{encodeWord, encodeTags, encodeState, placeAfter, Put}
 use Rattle.automaton.proofs.Words.{length-words, low-at, high-at}
 
@@ -62,12 +62,14 @@ pub state-length : (form : Form) (final : Bool) (mask : ℕ) → length (encodeS
 unfolding stateWidth tagsWidth encodeState encodeTags
 state-length Narrow final mask = refl
 state-length Wide final mask = refl
+state-length Isolating final mask = refl
 
 -- the bytes of a state are the first of three
 pub state-bytes : (form : Form) (final : Bool) (mask n f l h : ℕ) → n ≡ stateWidth form → f ≡ cond final 1 0 → l ≡ mask % 256 → h ≡ mask / 256 % 256 → take n (f ∷ l ∷ h ∷ []) ≡ encodeState form final mask
 unfolding stateWidth tagsWidth encodeState encodeTags
 state-bytes Narrow final mask n f l h en ef el eh = rw (en, ef, el)
 state-bytes Wide final mask n f l h en ef el eh = rw (en, ef, el, eh)
+state-bytes Isolating final mask n f l h en ef el eh = rw (en, ef, el, eh)
 
 -- words pasted by a loop: at its head the first i stand in the space
 pub record Pasted (d : List ℕ) (at : ℕ) (ws out : List ℕ) (i : ℕ) : Type 0 where

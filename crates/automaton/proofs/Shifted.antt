@@ -11,7 +11,7 @@ use Rattle.model.specs.Automaton.{State, Automaton, noState, stateAt, final?}
 use Rattle.model.specs.Boolean.{shiftState}
 use Rattle.model.proofs.Members.{map-at}
 use Rattle.automaton.specs.declared.Form.{Form}
-use Rattle.automaton.specs.declared.Form.the-variants.{Narrow, Wide}
+use Rattle.automaton.specs.declared.Form.the-variants.{Narrow, Wide, Isolating}
 use Rattle.automaton.specs.Encode.{encodeTags, encodeState}
 use Rattle.automaton.proofs.Encoded.{encodeOf}
 use Rattle.automaton.proofs.Words.{low-cut, word-cut}
@@ -32,6 +32,7 @@ pub state-cut : (form : Form) (final : Bool) (x y : ℕ) → x ≡ y % 65536 →
 unfolding encodeState encodeTags
 state-cut Narrow final x y e = rw (e, low-cut y)
 state-cut Wide final x y e = rw (word-cut x y e)
+state-cut Isolating final x y e = rw (word-cut x y e)
 
 -- the bytes of state q of a set with its tags moved up by t
 pub shifted-bytes : (form : Form) (A : Automaton) (t q : ℕ) → q < length (A .states) → (accepting : Bool) (mask moved : ℕ) → accepting ≡ final? A q → mask ≡ (stateAt A q) .mask → moved ≡ mask * 2 ^ t % 65536 → encodeState form accepting moved ≡ encodeOf form (getD (map (shiftState t) (A .states)) q noState)

@@ -16,9 +16,11 @@ use Rattle.model.specs.Order.{place, key, lower?, before?, Ascending}
 use Rattle.model.specs.Sound.{Sound}
 use Rattle.model.proofs.Members.{T-true}
 use Rattle.model.proofs.Tab.{tab-at, tab-past, length-tab, in-tab}
-use Rattle.automaton.specs.Stored.{symbolCount, stateCount, tagCount, ruleCount, symbolByte, ruleWord, placeWord, ruleOf, decode}
+use Rattle.automaton.specs.Stored.{symbolCount, stateCount, tagCount, ruleCount, symbolByte, ruleWord, placeWord, formOf, forgetOf, ruleOf, decode}
+use Rattle.automaton.specs.Form.{HasRoom}
 use Rattle.automaton.specs.Check.{placeOk, keyWord, ascendsAt, checkOf}
 use Rattle.automaton.proofs.Parts.{below-or, tab-same}
+use Rattle.automaton.proofs.Widths.{kept-mask-twice}
 use Rattle.automaton.proofs.Decode.{symbols-are, states-are, rules-are, arity-known, arity-unknown, state-known, state-unknown}
 use Rattle.automaton.proofs.Passes.{Passes, passes}
 
@@ -80,6 +82,7 @@ module _ (s : List ℕ) (p : Passes s) where
     symbols = λ r m. let (i, l, e) = in-tab (ruleCount s) (ruleOf s) m in rw (e, symbols-are s) (p .rules i l .0);
     as-many = λ r m. let (i, l, e) = in-tab (ruleCount s) (ruleOf s) m in rw e (length-tab (arityOf (decode s) (ruleWord s i 0)) (placeWord s i));
     masks = λ q. ⊎-elim (λ l. rw (state-known s q l) (p .states q l .1)) (λ l. rw (state-unknown s q l) (pow-pos (tagCount s))) (below-or q (stateCount s));
+    forgets = λ r m. let (i, l, e) = in-tab (ruleCount s) (ruleOf s) m in rw e (p .forgets i l);
   }
 
 -- Bytes that the check passes stand for an automaton with every range and order of document 01.
@@ -101,4 +104,13 @@ sound-decode s h =
       few-children = arity-few s p;
       wellformed = well s p;
       ascending = ascending-tab (ruleCount s) (ruleOf s) (before-next s p);
+    }
+
+-- .. for which their own form has room.
+pub room-own : (s : List ℕ) → checkOf s ≡ 0 → HasRoom (formOf s) (decode s)
+unfolding decode forgetOf
+room-own s h =
+    record {
+      bits = passes s h .offsets .bits;
+      masks = λ r m. let (i, l, e) = in-tab (ruleCount s) (ruleOf s) m in rw e (kept-mask-twice (formOf s) (ruleWord s i (maxChildren + 2)));
     }

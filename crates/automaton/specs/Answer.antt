@@ -46,3 +46,4 @@ pub record IsRule (x : StoredRule) (r : Rule) : Type 0 where
   pub symbol : x .symbol ≡ r .symbol
   pub target : x .target .0 ≡ r .target
   pub places : map (λ q. q .0) (x .places) ≡ tab maxChildren (place r)
+  pub forget : x .forget ≡ r .forget

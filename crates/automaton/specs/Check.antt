@@ -1,4 +1,4 @@
--- Which number refuses stored bytes (document 01, section "Turned away, by place", place "set"; document 02, Wish 2); 0 for none. Assumes nothing.
+-- Which number refuses stored bytes (document 01, section "Turned away, by place", place "set"; document 02, Wishes 2 and 9); 0 for none. Assumes nothing.
 use mathlib.Core.List.{List}
 use mathlib.Core.Bool.{Bool, _&&_, cond}
 use Prim.Native.Nat.{ℕ, _+_, _-_, _^_}
@@ -9,7 +9,7 @@ use Rattle.model.specs.Lists.{tab, allBelow}
 use Rattle.model.specs.Order.{lower?}
 use Rattle.model.specs.Refusal.{demand}
 use Rattle.automaton.specs.Form.{headerWidth, tagBits, statesOffset, rulesOffset, totalLength}
-use Rattle.automaton.specs.Stored.{symbolCount, stateCount, tagCount, ruleCount, symbolsAt, statesAt, rulesAt, statedTotal, formOf, symbolByte, finalByte, tagsOf, ruleWord, placeWord}
+use Rattle.automaton.specs.Stored.{symbolCount, stateCount, tagCount, ruleCount, symbolsAt, statesAt, rulesAt, statedTotal, formOf, symbolByte, finalByte, tagsOf, ruleWord, placeWord, forgetOf}
 
 -- 2: each count in its range
 unfoldable pub countsOk : List ℕ → Bool
@@ -56,6 +56,10 @@ keyWord s i k = cond (eqb k 0) (ruleWord s i 0) (cond (leb k maxChildren) (place
 unfoldable pub ascendsAt : List ℕ → ℕ → Bool
 ascendsAt s i = lower? (tab (maxChildren + 2) (keyWord s i)) (tab (maxChildren + 2) (keyWord s (i + 1)))
 
+-- 9: the tags that rule i forgets are below the number of tags
+unfoldable pub forgetOk : List ℕ → ℕ → Bool
+forgetOk s i = ltb (forgetOf s i) (2 ^ tagCount s)
+
 -- The number, each test over the whole input before the next; 1 is fewer bytes than a header has.
 unfoldable pub checkOf : List ℕ → ℕ
 checkOf s =
@@ -65,4 +69,5 @@ checkOf s =
     (demand (allBelow (symbolCount s) (symbolOk s)) 4
     (demand (allBelow (stateCount s) (stateOk s)) 5
     (demand (allBelow (ruleCount s) (ruleOk s)) 6
-    (demand (allBelow (ruleCount s - 1) (ascendsAt s)) 7 0))))))
+    (demand (allBelow (ruleCount s - 1) (ascendsAt s)) 7
+    (demand (allBelow (ruleCount s) (forgetOk s)) 9 0)))))))

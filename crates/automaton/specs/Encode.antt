@@ -1,4 +1,4 @@
--- The stored forms of an automaton, and bytes put into a lent space (document 01, section "Sets"; document 02, Wish 2). Assumes nothing.
+-- The stored forms of an automaton, and bytes put into a lent space (document 01, section "Sets"; document 02, Wishes 2 and 9). Assumes nothing.
 use mathlib.Core.Path.{_≡_}
 use mathlib.Core.List.{List, [], _∷_, _++_}
 use mathlib.Core.Bool.{Bool, cond}
@@ -11,7 +11,7 @@ use Rattle.model.specs.Order.{place}
 use Rattle.model.specs.Space.{fitsAt?, putAt}
 use Rattle.automaton.specs.Form.{headerWidth, statesOffset, rulesOffset, totalLength}
 use Rattle.automaton.specs.declared.Form.{Form}
-use Rattle.automaton.specs.declared.Form.the-variants.{Narrow, Wide}
+use Rattle.automaton.specs.declared.Form.the-variants.{Narrow, Wide, Isolating}
 
 -- a number's lowest byte, alone
 abbrev pub encodeByte : ℕ → List ℕ
@@ -34,18 +34,25 @@ encodeSymbol arity = encodeByte arity
 unfoldable pub encodeTags : Form → ℕ → List ℕ
 encodeTags Narrow mask = encodeByte mask
 encodeTags Wide mask = encodeWord mask
+encodeTags Isolating mask = encodeWord mask
 
 -- a state: 1 where it is final, then its tags
 unfoldable pub encodeState : Form → Bool → ℕ → List ℕ
 encodeState form final mask = cond final 1 0 ∷ encodeTags form mask
 
--- a rule with these child places: its symbol, its target, the places
-unfoldable pub encodePlaces : ℕ → ℕ → List ℕ → List ℕ
-encodePlaces symbol target places = concatMap encodeWord (symbol ∷ target ∷ places)
+-- the tags that a rule forgets, where a form has a number for them
+unfoldable pub maskNumbers : Form → ℕ → List ℕ
+maskNumbers Narrow mask = []
+maskNumbers Wide mask = []
+maskNumbers Isolating mask = mask ∷ []
+
+-- a rule with these child places: its symbol, its target, the places, the tags that it forgets
+unfoldable pub encodePlaces : Form → ℕ → ℕ → List ℕ → ℕ → List ℕ
+encodePlaces form symbol target places mask = concatMap encodeWord (symbol ∷ target ∷ places ++ maskNumbers form mask)
 
 -- the same of a rule
-abbrev pub encodeRule : Rule → List ℕ
-encodeRule r = encodePlaces (r .symbol) (r .target) (tab maxChildren (place r))
+abbrev pub encodeRule : Form → Rule → List ℕ
+encodeRule form r = encodePlaces form (r .symbol) (r .target) (tab maxChildren (place r)) (r .forget)
 
 -- states in their order
 abbrev pub encodeStates : Form → List State → List ℕ
@@ -57,7 +64,7 @@ encode form A =
     encodeHeader form (length (A .arities)) (length (A .states)) (A .tags) (length (A .rules))
     ++ concatMap encodeSymbol (A .arities)
     ++ encodeStates form (A .states)
-    ++ concatMap encodeRule (A .rules)
+    ++ concatMap (encodeRule form) (A .rules)
 
 -- how many bytes that is
 abbrev pub encodedLength : Form → Automaton → ℕ

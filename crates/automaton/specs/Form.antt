@@ -1,9 +1,12 @@
--- The two stored forms: their widths and places, each stated once (document 01, section "Sets"; document 02, Wish 2). Assumes nothing.
-use Prim.Native.Nat.{ℕ, _+_, _*_}
+-- The three stored forms: their widths and places, each stated once (document 01, section "Sets"; document 02, Wishes 2 and 9). Assumes nothing.
+use mathlib.Core.Path.{_≡_}
+use mathlib.Core.List.{List·Memᴰ as In}
+use Prim.Native.Nat.{ℕ, _+_, _*_, _≤_}
+use Rattle.model.specs.Automaton.{Rule, Automaton}
 use Rattle.automaton.specs.declared.Form.{Form}
-use Rattle.automaton.specs.declared.Form.the-variants.{Narrow, Wide}
+use Rattle.automaton.specs.declared.Form.the-variants.{Narrow, Wide, Isolating}
 
--- the bytes of the header, in either form
+-- the bytes of the header, in every form
 abbrev pub headerWidth : ℕ
 headerWidth = 16
 
@@ -11,14 +14,21 @@ headerWidth = 16
 unfoldable pub tagsWidth : Form → ℕ
 tagsWidth Narrow = 1
 tagsWidth Wide = 2
+tagsWidth Isolating = 2
 
 -- a state: whether it is final, then its tags
 unfoldable pub stateWidth : Form → ℕ
 stateWidth form = 1 + tagsWidth form
 
--- a rule, the same in both
-abbrev pub ruleWidth : Form → ℕ
-ruleWidth form = 12
+-- how many numbers a rule has: its symbol, its target, four child places, and in the last form the tags that it forgets
+unfoldable pub ruleNumbers : Form → ℕ
+ruleNumbers Narrow = 6
+ruleNumbers Wide = 6
+ruleNumbers Isolating = 7
+
+-- a rule, two bytes a number
+unfoldable pub ruleWidth : Form → ℕ
+ruleWidth form = 2 * ruleNumbers form
 
 -- how many tags there are bits for
 abbrev pub tagBits : Form → ℕ
@@ -34,3 +44,14 @@ rulesOffset form S Q = statesOffset S + stateWidth form * Q
 -- the bytes of S symbols, Q states and R rules in all
 abbrev pub totalLength : Form → ℕ → ℕ → ℕ → ℕ
 totalLength form S Q R = rulesOffset form S Q + ruleWidth form * R
+
+-- what a form keeps of the mask of tags that a rule forgets: nothing where rules have no place for it
+unfoldable pub keptMask : Form → ℕ → ℕ
+keptMask Narrow mask = 0
+keptMask Wide mask = 0
+keptMask Isolating mask = mask
+
+-- A form has room for an automaton: bits for its tags, and a place for what its rules forget, if they do.
+pub record HasRoom (form : Form) (A : Automaton) : Type 0 where
+  pub bits : A .tags ≤ tagBits form
+  pub masks : (r : Rule) → In r (A .rules) → keptMask form (r .forget) ≡ r .forget

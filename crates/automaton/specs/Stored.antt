@@ -1,15 +1,15 @@
--- What stored bytes stand for, in whichever form they are (document 01, section "Sets"; document 02, Wish 2): a byte past the end counts as 0. Assumes nothing.
+-- What stored bytes stand for, in whichever form they are (document 01, section "Sets"; document 02, Wishes 2 and 9): a byte past the end counts as 0. Assumes nothing.
 use mathlib.Core.List.{List}
 use Prim.Native.Nat.{ℕ, _+_, _*_}
 use mathlib.Core.Bool.{cond}
 use lib.Dec.{eqb, ltb}
 use lib.ListN.{getD}
-use Rattle.model.specs.Limits.{unused}
+use Rattle.model.specs.Limits.{maxChildren, unused}
 use Rattle.model.specs.Lists.{tab}
 use Rattle.model.specs.Automaton.{Rule, State, Automaton}
-use Rattle.automaton.specs.Form.{stateWidth, ruleWidth}
+use Rattle.automaton.specs.Form.{stateWidth, ruleWidth, keptMask}
 use Rattle.automaton.specs.declared.Form.{Form}
-use Rattle.automaton.specs.declared.Form.the-variants.{Narrow, Wide}
+use Rattle.automaton.specs.declared.Form.the-variants.{Narrow, Wide, Isolating}
 
 -- the 16-bit number at byte k, low byte first
 unfoldable pub word : List ℕ → ℕ → ℕ
@@ -40,10 +40,14 @@ rulesAt s = word s 12
 abbrev pub statedTotal : List ℕ → ℕ
 statedTotal s = word s 14
 
--- Which form the bytes are in: the wide one where the rules begin as far behind the states as so many wide states are long, three bytes each; at any other
--- distance the narrow one, of which 3 refuses all but two bytes each.
+-- Which form the bytes are in. The distance from the states to the rules tells a wide one: so many wide states are as long, three bytes each; at any other
+-- distance it is the narrow one, of which 3 refuses all but two bytes each. The total then tells how long the rules are: 12 bytes each, as in the wide form, or
+-- else they forget tags, of which 3 refuses all but 14 bytes each. So a wide set with no rules is in the form without masks.
 unfoldable pub formOf : List ℕ → Form
-formOf s = cond (eqb (rulesAt s) (statesAt s + stateWidth Wide * stateCount s)) Wide Narrow
+formOf s =
+    cond (eqb (rulesAt s) (statesAt s + stateWidth Wide * stateCount s))
+    (cond (eqb (statedTotal s) (rulesAt s + ruleWidth Wide * ruleCount s)) Wide Isolating)
+    Narrow
 
 -- the byte of symbol i
 unfoldable pub symbolByte : List ℕ → ℕ → ℕ
@@ -61,6 +65,7 @@ finalByte s q = getD s (statePlace s q) 0
 unfoldable pub tagsAt : Form → List ℕ → ℕ → ℕ
 tagsAt Narrow s k = getD s k 0
 tagsAt Wide s k = word s k
+tagsAt Isolating s k = word s k
 
 -- the tags of state q
 unfoldable pub tagsOf : List ℕ → ℕ → ℕ
@@ -78,6 +83,10 @@ placeWord s i k = ruleWord s i (k + 2)
 unfoldable pub placeOf : List ℕ → ℕ → ℕ → ℕ → ℕ
 placeOf s i n k = cond (ltb k n) (placeWord s i k) unused
 
+-- the tags that rule i forgets, as its form has them: the number behind the child places
+unfoldable pub forgetOf : List ℕ → ℕ → ℕ
+forgetOf s i = keptMask (formOf s) (ruleWord s i (maxChildren + 2))
+
 -- the number of children of each symbol
 abbrev pub aritiesOf : List ℕ → List ℕ
 aritiesOf s = tab (symbolCount s) (symbolByte s)
@@ -92,9 +101,10 @@ ruleOf s i = record {
   symbol = ruleWord s i 0;
   children = tab (getD (aritiesOf s) (ruleWord s i 0) 0) (placeWord s i);
   target = ruleWord s i 1;
+  forget = forgetOf s i;
 }
 
--- The automaton that bytes stand for, in either form, sound or not.
+-- The automaton that bytes stand for, in any form, sound or not.
 unfoldable pub decode : List ℕ → Automaton
 decode s = record {
   arities = aritiesOf s;

@@ -14,7 +14,6 @@ use super::header;
 use super::is_final;
 use super::layout::rules_length;
 use super::layout::states_length;
-use super::raw::form_at;
 use super::rule;
 use super::tags_of;
 use super::write::fits;
@@ -70,17 +69,18 @@ pub fn put_states(out: &mut [u8], at: usize, form: Form, set: &[u8], t: u16) -> 
     end
 }
 
-pub fn put_rules(out: &mut [u8], at: usize, set: &[u8]) -> usize
-    ensures { λ r. ⌜ Put (now (out .entry)) at (concatMap encodeRule ((decode (now (set .entry))) .rules)) (now (out .exit)) r ⌝ }
+// The rules in a form; what it has no place for is left out.
+pub fn put_rules(out: &mut [u8], at: usize, form: Form, set: &[u8]) -> usize
+    ensures { λ r. ⌜ Put (now (out .entry)) at (concatMap (encodeRule form) ((decode (now (set .entry))) .rules)) (now (out .exit)) r ⌝ }
 {
     let n = header(set).rules;
-    if !fits(out.len(), at, rules_length(form_at(set), n)) {
+    if !fits(out.len(), at, rules_length(form, n)) {
         return at;
     }
     let mut end = at;
     let mut i = 0;
     while i < n {
-        end = put_rule(out, end, rule(set, i));
+        end = put_rule(out, end, form, rule(set, i));
         i += 1;
     }
     end

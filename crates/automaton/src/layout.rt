@@ -1,12 +1,12 @@
 // The stored forms: their widths and places, each stated once.
 ghost use mathlib.Core.Path.{_≡_};
 ghost use Prim.Native.Nat.{_+_, _*_, _<_};
-ghost use Rattle.automaton.specs.Form.{stateWidth, tagBits, ruleWidth, statesOffset, rulesOffset, totalLength};
+ghost use Rattle.automaton.specs.Form.{stateWidth, tagBits, ruleNumbers, ruleWidth, statesOffset, rulesOffset, totalLength};
 use super::Form;
 use super::State;
 use base::numbers::size;
 
-// The bytes of the header, in either form.
+// The bytes of the header, in every form.
 pub(crate) const HEADER_WIDTH: usize = 16;
 
 // The bytes of a state.
@@ -16,17 +16,26 @@ pub(crate) fn state_width(form: Form) -> usize
     match form {
         Form::Narrow => 2,
         Form::Wide => 3,
+        Form::Isolating => 3,
     }
 }
 
-// The bytes of a rule: the same in both forms.
-fn rule_width(form: Form) -> usize
-    ensures { λ r. ⌜ r ≡ ruleWidth form ⌝ }
+// The numbers of a rule: one more where rules forget tags.
+pub(crate) fn rule_numbers(form: Form) -> usize
+    ensures { λ r. ⌜ (r ≡ ruleNumbers form) × (r < 8) ⌝ }
 {
     match form {
-        Form::Narrow => 12,
-        Form::Wide => 12,
+        Form::Narrow => 6,
+        Form::Wide => 6,
+        Form::Isolating => 7,
     }
+}
+
+// The bytes of a rule.
+fn rule_width(form: Form) -> usize
+    ensures { λ r. ⌜ (r ≡ ruleWidth form) × (r < 15) ⌝ }
+{
+    2 * rule_numbers(form)
 }
 
 // How many tags a state has bits for.
@@ -36,6 +45,7 @@ pub fn tag_bits(form: Form) -> u16
     match form {
         Form::Narrow => 8,
         Form::Wide => 16,
+        Form::Isolating => 16,
     }
 }
 
@@ -48,7 +58,7 @@ pub(crate) fn states_length(form: Form, n: u16) -> usize
 
 // The bytes of n rules.
 pub(crate) fn rules_length(form: Form, n: u16) -> usize
-    ensures { λ r. ⌜ (r ≡ ruleWidth form * n) × (r < 786432) ⌝ }
+    ensures { λ r. ⌜ (r ≡ ruleWidth form * n) × (r < 917504) ⌝ }
 {
     rule_width(form) * size(n)
 }
@@ -62,7 +72,7 @@ pub(crate) fn state_place(form: Form, first: u16, q: State) -> usize
 
 // The byte at which rule i starts, where the rules start at byte `first`.
 pub(crate) fn rule_place(form: Form, first: u16, i: u16) -> usize
-    ensures { λ r. ⌜ (r ≡ first + ruleWidth form * i) × (r < 851968) ⌝ }
+    ensures { λ r. ⌜ (r ≡ first + ruleWidth form * i) × (r < 983040) ⌝ }
 {
     size(first) + rules_length(form, i)
 }

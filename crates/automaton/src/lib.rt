@@ -1,8 +1,9 @@
 // The stored forms of an automaton: their check, what they say by index, and their writing (`write`).
 ghost use mathlib.Core.Path.{_≡_};
 ghost use mathlib.Core.List.{map};
+ghost use lib.Dec.{eqb};
 ghost use lib.ListN.{length};
-ghost use Rattle.model.specs.Automaton.{stateAt, arityOf, final?};
+ghost use Rattle.model.specs.Automaton.{stateAt, arityOf, final?, forgetsNothing?};
 ghost use Rattle.model.specs.Limits.{maxChildren};
 ghost use Rattle.model.specs.Lists.{tab};
 ghost use Rattle.model.specs.Order.{place};
@@ -25,6 +26,7 @@ use base::limits::MAX_CHILDREN;
 use base::limits::UNUSED;
 use layout::HEADER_WIDTH;
 use raw::final_byte;
+use raw::forget_word;
 use raw::form_at;
 use raw::header_word;
 use raw::place_word;
@@ -35,10 +37,11 @@ use raw::symbol_byte;
 use raw::symbols_at;
 use raw::tags_word;
 
-// A stored form: one byte for a state's tags, or two.
+// A stored form: one byte for a state's tags, or two; and two with rules that may forget tags.
 pub enum Form {
     Narrow,
     Wide,
+    Isolating,
 }
 
 // A state's number.
@@ -53,14 +56,15 @@ pub struct StoredHeader {
     pub total: u16,
 }
 
-// A rule with its child places; an unused place is State(UNUSED).
+// A rule with its child places and the tags that it forgets, bit k for tag k; an unused place is State(UNUSED).
 pub struct StoredRule {
     pub symbol: u16,
     pub target: State,
     pub places: [State; 4],
+    pub forget: u16,
 }
 
-// The check's answer: passed, or refused with a number of document 01.
+// The check's answer: passed, or refused with a number of the documents.
 pub enum Checked {
     Passed,
     Refused(u16),
@@ -95,6 +99,9 @@ pub fn check(set: &[u8]) -> Checked
     }
     if !tests::ascending(set) {
         return Checked::Refused(7);
+    }
+    if !tests::forgetting(set) {
+        return Checked::Refused(9);
     }
     Checked::Passed
 }
@@ -176,6 +183,17 @@ pub fn rule_target(set: &[u8], i: u16) -> State
     }
 }
 
+// The tags that a rule forgets, bit k for tag k.
+pub fn rule_forget(set: &[u8], i: u16) -> u16
+    ensures { λ r. ⌜ r ≡ ruleAt (decode (now (set .entry))) i .forget ⌝ }
+{
+    if i < rules(set) {
+        forget_word(set, form_at(set), rules_at(set), i)
+    } else {
+        0
+    }
+}
+
 // The state in child place k of rule i, whose symbol has n children, where the rules start at byte `first`; UNUSED where there is no such child.
 fn place_of(set: &[u8], form: Form, first: u16, i: u16, n: u16, k: u16) -> State
     requires { ⌜ (form ≡ formOf (now set)) × (first ≡ rulesAt (now set)) ⌝ }
@@ -229,14 +247,39 @@ pub fn rule(set: &[u8], i: u16) -> StoredRule
             symbol: symbol,
             target: State(rule_word(set, form, first, i, 1)),
             places: places,
+            forget: forget_word(set, form, first, i),
         }
     } else {
         StoredRule {
             symbol: 0,
             target: State(0),
             places: [State(UNUSED); 4],
+            forget: 0,
         }
     }
+}
+
+// Rule i names no tag to forget.
+fn keeps_all(set: &[u8], i: u16) -> bool
+    ensures { λ r. ⌜ r ≡ eqb (ruleAt (decode (now (set .entry))) i .forget) 0 ⌝ }
+{
+    rule_forget(set, i) == 0
+}
+
+// No rule names a tag to forget.
+pub fn forgets_nothing(set: &[u8]) -> bool
+    ensures { λ r. ⌜ r ≡ forgetsNothing? (decode (now (set .entry))) ⌝ }
+{
+    let n = rules(set);
+    let mut i = 0;
+    while i < n {
+        if keeps_all(set, i) {
+            i += 1;
+        } else {
+            return false;
+        }
+    }
+    true
 }
 
 // Where bisection for the first rule whose symbol is the given one or higher ends; in a sound set that is the rule's number, or the number of rules.

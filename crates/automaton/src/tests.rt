@@ -1,11 +1,11 @@
-// The check's tests 2 to 7, each over the whole input.
+// The check's tests 2 to 7 and 9, each over the whole input.
 ghost use mathlib.Core.Path.{_≡_};
 ghost use Prim.Native.Nat.{_+_, _-_, _^_, _≤_, _<_};
 ghost use lib.Dec.{eqb};
 ghost use Rattle.model.specs.Limits.{maxChildren, maxTags};
 ghost use Rattle.model.specs.Lists.{allBelow};
 ghost use Rattle.automaton.specs.Stored.{word, symbolCount, stateCount, tagCount, ruleCount, symbolsAt, statesAt, rulesAt, formOf, symbolByte, ruleWord};
-ghost use Rattle.automaton.specs.Check.{countsOk, offsetsOk, symbolOk, stateOk, placeOk, ruleOk, keyWord, ascendsAt};
+ghost use Rattle.automaton.specs.Check.{countsOk, offsetsOk, symbolOk, stateOk, placeOk, ruleOk, keyWord, ascendsAt, forgetOk};
 ghost use Rattle.automaton.specs.Frame.{Framed};
 use super::Form;
 use super::State;
@@ -15,6 +15,7 @@ use super::layout::states_offset;
 use super::layout::tag_bits;
 use super::layout::total_length;
 use super::raw::final_byte;
+use super::raw::forget_word;
 use super::raw::form_at;
 use super::raw::header_word;
 use super::raw::place_word;
@@ -253,6 +254,33 @@ pub(crate) fn ascending(set: &[u8]) -> bool
     let mut i = 0;
     while i < n {
         if ascends(set, form, first, i) {
+            i += 1;
+        } else {
+            return false;
+        }
+    }
+    true
+}
+
+// The tags that rule i forgets, where the rules start at byte `first` and a mask is below `bound`.
+fn forgets(set: &[u8], form: Form, first: u16, i: u16, bound: usize) -> bool
+    requires { ⌜ (form ≡ formOf (now set)) × (first ≡ rulesAt (now set)) × (bound ≡ 2 ^ tagCount (now set)) ⌝ }
+    ensures { λ r. ⌜ r ≡ forgetOk (now (set .entry)) i ⌝ }
+{
+    size(forget_word(set, form, first, i)) < bound
+}
+
+pub(crate) fn forgetting(set: &[u8]) -> bool
+    requires { ⌜ tagCount (now set) ≤ maxTags ⌝ }
+    ensures { λ r. ⌜ r ≡ allBelow (ruleCount (now (set .entry))) (forgetOk (now (set .entry))) ⌝ }
+{
+    let n = header_word(set, 6);
+    let form = form_at(set);
+    let first = rules_at(set);
+    let bound = power(header_word(set, 4));
+    let mut i = 0;
+    while i < n {
+        if forgets(set, form, first, i, bound) {
             i += 1;
         } else {
             return false;

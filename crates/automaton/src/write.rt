@@ -123,8 +123,8 @@ pub fn put_state(out: &mut [u8], at: usize, form: Form, accepting: bool, mask: u
     at
 }
 
-pub fn put_rule(out: &mut [u8], at: usize, r: StoredRule) -> usize
-    ensures { λ n. ⌜ Put (now (out .entry)) at (encodePlaces (r .symbol) (r .target .0) (map (λ q. q .0) (r .places))) (now (out .exit)) n ⌝ }
+pub fn put_rule(out: &mut [u8], at: usize, form: Form, r: StoredRule) -> usize
+    ensures { λ n. ⌜ Put (now (out .entry)) at (encodePlaces form (r .symbol) (r .target .0) (map (λ q. q .0) (r .places)) (r .forget)) (now (out .exit)) n ⌝ }
 {
     let places = r.places;
     let words = [
@@ -134,6 +134,11 @@ pub fn put_rule(out: &mut [u8], at: usize, r: StoredRule) -> usize
         places[1].0,
         places[2].0,
         places[3].0,
+        r.forget,
     ];
-    put_words(out, at, &words)
+    match form {
+        Form::Narrow => put_words(out, at, &words[..6]),
+        Form::Wide => put_words(out, at, &words[..6]),
+        Form::Isolating => put_words(out, at, &words),
+    }
 }

@@ -50,14 +50,14 @@ module _ (first second : List ℕ) (h : Ready first second (union (decode first)
   pub space-count : (keys : List ℕ) → length keys ≡ length scratch → length (take (n + k) keys) ≡ n + k
   space-count keys e = length-take-le (n + k) keys (space-room keys e)
 
-  module _ (x : List ℕ) (ex : x ≡ map packed (map (shiftRule 0) (A .rules))) where
+  module _ (x : List ℕ) (ex : x ≡ map packed (map (shiftRule 0 0) (A .rules))) where
     x-long : length x ≡ n
-    x-long = ap length ex ∙ length-map (map (shiftRule 0) (A .rules)) packed ∙ length-map (A .rules) (shiftRule 0) ∙ sym en
+    x-long = ap length ex ∙ length-map (map (shiftRule 0 0) (A .rules)) packed ∙ length-map (A .rules) (shiftRule 0 0) ∙ sym en
 
     pub seconds-end : n + k ≤ length (x ++ drop n scratch)
     seconds-end = let l = x-long in let a = length-append x (drop n scratch) in let d = length-drop n scratch in let r = keys-room in omega arith
 
-    module _ (q : ℕ) (eq : q ≡ length (A .states)) (y : List ℕ) (ey : y ≡ map packed (map (shiftRule q) (B .rules))) where
+    module _ (q t : ℕ) (eq : q ≡ length (A .states)) (et : t ≡ A .tags) (y : List ℕ) (ey : y ≡ map packed (map (shiftRule q t) (B .rules))) where
       abbrev both : List ℕ
       both = putMid n (n + k - n) (x ++ drop n scratch) y
 
@@ -67,7 +67,7 @@ module _ (first second : List ℕ) (h : Ready first second (union (decode first)
       xy-long : length (x ++ y) ≡ n + k
       xy-long =
           let a = length-append x y in let l = x-long in
-          let m : length y ≡ k = ap length ey ∙ length-map (map (shiftRule q) (B .rules)) packed ∙ length-map (B .rules) (shiftRule q) ∙ sym ek in
+          let m : length y ≡ k = ap length ey ∙ length-map (map (shiftRule q t) (B .rules)) packed ∙ length-map (B .rules) (shiftRule q t) ∙ sym ek in
           omega arith
 
       parts : both ≡ x ++ y ++ rest
@@ -93,12 +93,12 @@ module _ (first second : List ℕ) (h : Ready first second (union (decode first)
           ∙ ap (λ (l : List ℕ). merged l (drop n (x ++ y))) (take-at x y n x-long)
           ∙ ap (merged x) (drop-at x y n x-long)
           ∙ ap (λ (l : List ℕ). merged l y) ex
-          ∙ ap (merged (map packed (map (shiftRule 0) (A .rules)))) (ey ∙ ap (λ (j : ℕ). map packed (map (shiftRule j) (B .rules))) eq)
+          ∙ ap (merged (map packed (map (shiftRule 0 0) (A .rules)))) (ey ∙ ap (λ (j : ℕ). map packed (map (shiftRule j t) (B .rules))) eq ∙ ap (λ (j : ℕ). map packed (map (shiftRule (length (A .states)) j) (B .rules))) et)
           ∙ union-keys A B (sound-decode first (h .first-sound)) (sound-decode second (h .second-sound)) (ready-union first second h))
           (ap (_+ k) en ∙ ap (length (A .rules) +_) ek ∙ sym (union-rules A B))
 
 -- A product: the keys of the pairs at the front of a space; and sorted.
-module _ (first second : List ℕ) (h : Ready first second (product (decode first) (decode second))) (before after : List ℕ) (n : ℕ) (p : Laid before after 0 n (map packed (pairRules (length ((decode second) .states)) ((decode first) .rules) ((decode second) .rules)))) where
+module _ (first second : List ℕ) (h : Ready first second (product (decode first) (decode second))) (before after : List ℕ) (n : ℕ) (p : Laid before after 0 n (map packed (pairRules (length ((decode second) .states)) ((decode first) .tags) ((decode first) .rules) ((decode second) .rules)))) where
   abbrev F : Automaton
   F = decode first
 
@@ -106,7 +106,7 @@ module _ (first second : List ℕ) (h : Ready first second (product (decode firs
   S = decode second
 
   abbrev pairs : List ℕ
-  pairs = map packed (pairRules (length (S .states)) (F .rules) (S .rules))
+  pairs = map packed (pairRules (length (S .states)) (F .tags) (F .rules) (S .rules))
 
   pub pairs-count : length (take n after) ≡ n
   pairs-count = length-take-le n after (let l = p .inside in let e = laid-length p in omega arith)
@@ -118,4 +118,4 @@ module _ (first second : List ℕ) (h : Ready first second (product (decode firs
   product-keyed z ez =
       keyed-front (product F S) z after n
       (ez ∙ ap ordered (laid-front p) ∙ product-keys F S (sound-decode first (h .first-sound)) (sound-decode second (h .second-sound)) (ready-product first second h))
-      (let l = length-map (pairRules (length (S .states)) (F .rules) (S .rules)) packed in let e = p .ends in let d = product-rules F S in omega arith)
+      (let l = length-map (pairRules (length (S .states)) (F .tags) (F .rules) (S .rules)) packed in let e = p .ends in let d = product-rules F S in omega arith)

@@ -1,29 +1,32 @@
 -- Keys of rules: they ascend as the rules do, and the rule is read off its key. Assumes nothing.
 use mathlib.Core.Path.{_≡_, refl, sym, ap, _∙_, subst}
 use mathlib.Core.Logic.{_⊎_, inl, inr, ⊎-elim}
-use mathlib.Core.List.{List, [], _∷_, _++_, map, List·Memᴰ as In, List·Memᴰ·head as here, List·Memᴰ·tail as there, List·Memᴰ·cases-cons as in-cons, List·Memᴰ·append-cases as in-append, List·Memᴰ·eq-of-singleton as eq-of-singleton}
+use mathlib.Core.List.{List, [], _∷_, _++_, map, List·Memᴰ as In, List·Memᴰ·head as here, List·Memᴰ·tail as there}
 use mathlib.Core.Bool.{Bool, true, false, cond}
 use Prim.Native.Nat.{ℕ, zero, suc, _+_, _-_, _*_, _/_, _%_, _^_, _<_, _≤_}
-use native.Mathlib.Nat.{div-one, mul-zero, mul-le-mul, lt-of-lt-of-le}
+use native.Mathlib.Nat.{div-one, mul-zero, mul-le-mul, lt-of-lt-of-le, mod-lt, mod-eq-of-lt}
 use native.Mathlib.Numerals.{add-one}
 use native.Mathlib.Omega.{arith}
 use native.Mathlib.Decide.{decLt}
-use borrow.Author.Tests.{lt-ltb, le-ltb, eq-eqb, ne-eqb}
-use lib.Dec.{ltb}
+use borrow.Author.Tests.{lt-ltb, le-ltb}
+use lib.Dec.{T, ltb, ltb→lt, lt→ltb}
 use lib.Arith.{digits-lt}
-use lib.Pow.{pow-add, pow-mono, shr-shr, high, low}
-use lib.ListN.{length, getD, List·getD-map}
+use lib.Pow.{pow-add, pow-mono, pow-pos, shr-shr, high, low}
+use lib.ListN.{length, getD, List·getD-map, List·getD-eq-default}
 use Rattle.model.specs.Limits.{maxChildren, maxStates, unused}
 use Rattle.model.specs.Lists.{concatMap, tab}
-use Rattle.model.specs.Automaton.{Rule}
+use Rattle.model.specs.Automaton.{Rule, Automaton}
 use Rattle.model.specs.Order.{place, key, lower?, before?, insert, sorted}
-use Rattle.model.proofs.Tab.{in-tab}
-use Rattle.model.proofs.Order.{in-sorted}
-use Rattle.automaton.specs.Encode.{encodePlaces, encodeRule}
+use Rattle.model.specs.Sound.{Sound}
+use Rattle.model.proofs.Rows.{in-getD}
+use Rattle.model.proofs.Tab.{tab-at, tab-past, tab-same, tab-snoc}
+use Rattle.model.proofs.Order.{Before, before-total, lower-cons, ascending-other, one-key, in-sorted}
+use Rattle.automaton.specs.declared.Form.{Form}
+use Rattle.automaton.specs.Encode.{encodeRule}
 use Rattle.automaton.specs.declared.State.{State}
-use Rattle.automaton.proofs.Parts.{tab-same}
+use Rattle.automaton.proofs.Parts.{tab-is}
 use Rattle.boolean.specs.Merge.{insertNumber, ordered}
-use Rattle.boolean.specs.Key.{digitWidth, keyDigit, placeOf, pushed, pushedAll, keyOf, packed, digitAt, placeAt, encodeKey}
+use Rattle.boolean.specs.Key.{digitWidth, maskWidth, pushed, pushedAll, digitsOf, masked, keyOf, packed, digitAt, placeAt, unpacked, encodeKey}
 
 -- the numbers of the states in a rule's places
 abbrev pub numbers : List State → List ℕ
@@ -32,51 +35,41 @@ numbers = map (λ q. q .0)
 pub number-at : (places : List State) (k : ℕ) → (getD places k (record { 0 = 0 })) .0 ≡ getD (numbers places) k 0
 number-at places k = sym (List·getD-map (λ q. q .0) places k (record { 0 = 0 }))
 
--- what a place holds: a state's number, or that it is unused
-abbrev pub Digit : ℕ → Type 0
-Digit p = (p < maxStates) ⊎ (p ≡ unused)
-
--- a rule of which each number is a state's, or low
-pub record Small (r : Rule) : Type 0 where
+-- a rule that a key has room for, with so many children for each symbol
+pub record Small (arities : List ℕ) (r : Rule) : Type 0 where
   pub symbol : r .symbol < maxStates
   pub target : r .target < maxStates
-  pub places : (k : ℕ) → Digit (place r k)
+  pub children : (q : ℕ) → In q (r .children) → q < maxStates
+  pub as-many : length (r .children) ≡ getD arities (r .symbol) 0
+  pub few : length (r .children) ≤ maxChildren
+  pub forget : r .forget < 2 ^ maskWidth
 
-digit-state : (p : ℕ) → p < maxStates → keyDigit p ≡ p
-unfolding keyDigit
-digit-state p l = rw (lt-ltb p maxStates l)
+-- the rules of a sound automaton are small
+pub small-of : (A : Automaton) → Sound A → (r : Rule) → In r (A .rules) → Small (A .arities) r
+small-of A sound r m = record {
+  symbol = omega (arith, sound .wellformed .symbols r m, sound .few-symbols);
+  target = omega (arith, sound .wellformed .targets r m, sound .few-states);
+  children = λ q i. omega (arith, sound .wellformed .children r m q i, sound .few-states);
+  as-many = sound .wellformed .as-many r m;
+  few = omega (arith, sound .wellformed .as-many r m, sound .few-children (r .symbol));
+  forget = lt-of-lt-of-le (sound .wellformed .forgets r m) (pow-mono (sound .few-tags));
+}
 
-digit-past : (p : ℕ) → maxStates ≤ p → keyDigit p ≡ maxStates
-unfolding keyDigit
-digit-past p l = rw (le-ltb p maxStates l)
-
-digit-unused : (p : ℕ) → p ≡ unused → keyDigit p ≡ maxStates
-digit-unused p e = digit-past p (omega arith)
-
-pub digit-bound : (p : ℕ) → keyDigit p ≤ maxStates
-digit-bound p = go (decLt p maxStates)
-  where
-    go : Dec (p < maxStates) → keyDigit p ≤ maxStates
-    go (yes l) = let e = digit-state p l in omega arith
-    go (no l) = let e = digit-past p (omega arith) in omega arith
-
-digit-less : (p q : ℕ) → Digit p → Digit q → p < q → keyDigit p < keyDigit q
-digit-less p q (inl a) (inl b) l = let d = digit-state p a in let e = digit-state q b in omega arith
-digit-less p q (inl a) (inr b) l = let d = digit-state p a in let e = digit-unused q b in omega arith
-digit-less p q (inr a) (inl b) l = absurd (omega arith)
-digit-less p q (inr a) (inr b) l = absurd (omega arith)
-
--- a place read off its digit
-digit-back : (p : ℕ) → Digit p → placeOf (keyDigit p) ≡ p
-unfolding placeOf
-digit-back p (inl a) = rw (digit-state p a, lt-ltb p maxStates a)
-digit-back p (inr a) = rw (digit-unused p a) (sym a)
-
+-- digits from the left: what is higher stays higher, whatever comes behind
 pushed-less : (x y p q : ℕ) → x < y → pushed x p < pushed y q
 unfolding pushed
-pushed-less x y p q l = let a = digit-bound p in let b : suc x * 2 ^ digitWidth ≤ y * 2 ^ digitWidth = omega arith in omega arith
+pushed-less x y p q l = omega (arith, mod-lt p (pow-pos digitWidth))
 
--- a key with the digits of a list more, from the left
+-- what stands at one place of two rules with one symbol: two states, or the same
+abbrev Alike : ℕ → ℕ → Type 0
+Alike p q = ((p < maxStates) × (q < maxStates)) ⊎ (p ≡ q)
+
+pushed-more : (x p q : ℕ) → Alike p q → p < q → pushed x p < pushed x q
+unfolding pushed
+pushed-more x p q (inl (a, b)) l = omega (arith, mod-eq-of-lt a, mod-eq-of-lt b)
+pushed-more x p q (inr e) l = absurd (omega arith)
+
+-- digits with those of a list more, from the left
 pushedOn : ℕ → List ℕ → ℕ
 pushedOn x [] = x
 pushedOn x (p ∷ ps) = pushedOn (pushed x p) ps
@@ -86,18 +79,17 @@ unfolding pushedOn
 pushedOn-last x [] p = refl
 pushedOn-last x (q ∷ ps) p = pushedOn-last (pushed x q) ps p
 
-tab-last : {A : Type 0} (n : ℕ) (f : ℕ → A) → tab (suc n) f ≡ tab n f ++ f n ∷ []
-tab-last zero f = refl
-tab-last (suc n) f = ap (f 0 ∷_) (tab-last n (λ k. f (suc k)))
-
 pushedOn-all : (x n : ℕ) (f : ℕ → ℕ) → pushedOn x (tab n f) ≡ pushedAll x n f
 unfolding pushedOn
 pushedOn-all x zero f = refl
-pushedOn-all x (suc n) f = ap (pushedOn x) (tab-last n f) ∙ pushedOn-last x (tab n f) (f n) ∙ ap (λ (y : ℕ). pushed y (f n)) (pushedOn-all x n f)
+pushedOn-all x (suc n) f = ap (pushedOn x) (tab-snoc n f) ∙ pushedOn-last x (tab n f) (f n) ∙ ap (λ (y : ℕ). pushed y (f n)) (pushedOn-all x n f)
 
-packed-on : (r : Rule) → pushedOn 0 (key r) ≡ packed r
+abbrev digits : Rule → ℕ
+digits r = digitsOf (r .symbol) (place r) (r .target)
+
+digits-on : (r : Rule) → pushedOn 0 (key r) ≡ digits r
 unfolding pushedOn
-packed-on r = pushedOn-last (pushed 0 (r .symbol)) (tab maxChildren (place r)) (r .target) ∙ ap (λ (y : ℕ). pushed y (r .target)) (pushedOn-all (pushed 0 (r .symbol)) maxChildren (place r))
+digits-on r = pushedOn-last (pushed 0 (r .symbol)) (tab maxChildren (place r)) (r .target) ∙ ap (λ (y : ℕ). pushed y (r .target)) (pushedOn-all (pushed 0 (r .symbol)) maxChildren (place r))
 
 pushedOn-less : (x y : ℕ) (ps qs : List ℕ) → length ps ≡ length qs → x < y → pushedOn x ps < pushedOn y qs
 unfolding pushedOn
@@ -106,110 +98,185 @@ pushedOn-less x y [] (q ∷ qs) e l = absurd (omega arith)
 pushedOn-less x y (p ∷ ps) [] e l = absurd (omega arith)
 pushedOn-less x y (p ∷ ps) (q ∷ qs) e l = pushedOn-less (pushed x p) (pushed y q) ps qs (omega arith) (pushed-less x y p q l)
 
-abbrev Digits : List ℕ → Type 0
-Digits ps = (p : ℕ) → In p ps → Digit p
+-- lists that are alike at each place
+abbrev Alikes : List ℕ → List ℕ → Type 0
+Alikes [] qs = Unit {0}
+Alikes (p ∷ ps) [] = Unit {0}
+Alikes (p ∷ ps) (q ∷ qs) = Alike p q × Alikes ps qs
 
-pushed-more : (x p q : ℕ) → Digit p → Digit q → p < q → pushed x p < pushed x q
-unfolding pushed
-pushed-more x p q dp dq l = let d = digit-less p q dp dq l in omega arith
+alikes-rest : (n : ℕ) (f g : ℕ → ℕ) (a b : ℕ) → ((k : ℕ) → Alike (f k) (g k)) → Alike a b → Alikes (tab n f ++ a ∷ []) (tab n g ++ b ∷ [])
+alikes-rest zero f g a b h t = (t, tt)
+alikes-rest (suc n) f g a b h t = (h 0, alikes-rest n (λ k. f (suc k)) (λ k. g (suc k)) a b (λ k. h (suc k)) t)
 
--- numbers of as many digits are in order as their digits are, the first that differ deciding
-pushedOn-order : (x : ℕ) (ps qs : List ℕ) → length ps ≡ length qs → Digits ps → Digits qs → ltb (pushedOn x ps) (pushedOn x qs) ≡ lower? ps qs
+-- the first digits that differ decide
+pushedOn-lower : (x : ℕ) (ps qs : List ℕ) → length ps ≡ length qs → Alikes ps qs → T (lower? ps qs) → pushedOn x ps < pushedOn x qs
 unfolding pushedOn
-pushedOn-order x [] [] e dp dq = le-ltb x x (omega arith)
-pushedOn-order x [] (q ∷ qs) e dp dq = absurd (omega arith)
-pushedOn-order x (p ∷ ps) [] e dp dq = absurd (omega arith)
-pushedOn-order x (p ∷ ps) (q ∷ qs) e dp dq =
-    go (decLt p q) (decLt q p) (pushedOn-order (pushed x p) ps qs (omega arith) (λ z m. dp z (there m)) (λ z m. dq z (there m)))
-  where
-    first : Digit p
-    first = dp p (here refl)
+pushedOn-lower x [] qs e h l = absurd l
+pushedOn-lower x (p ∷ ps) [] e h l = absurd l
+pushedOn-lower x (p ∷ ps) (q ∷ qs) e (a, h) l =
+    ⊎-elim
+    (λ d. pushedOn-less (pushed x p) (pushed x q) ps qs (omega arith) (pushed-more x p q a d))
+    (λ (s, m). subst (λ (z : ℕ). pushedOn (pushed x p) ps < pushedOn (pushed x z) qs) s (pushedOn-lower (pushed x p) ps qs (omega arith) h m))
+    (lower-cons p q ps qs .0 l)
 
-    second : Digit q
-    second = dq q (here refl)
+masked-less : (x y m n : ℕ) → x < y → masked x m < masked y n
+unfolding masked
+masked-less x y m n l = omega (arith, mod-lt m (pow-pos maskWidth))
 
-    go : Dec (p < q) → Dec (q < p) → ltb (pushedOn (pushed x p) ps) (pushedOn (pushed x p) qs) ≡ lower? ps qs → ltb (pushedOn (pushed x p) ps) (pushedOn (pushed x q) qs) ≡ lower? (p ∷ ps) (q ∷ qs)
-    go (yes l) d ih = rw (lt-ltb p q l) (lt-ltb _ _ (pushedOn-less (pushed x p) (pushed x q) ps qs (omega arith) (pushed-more x p q first second l)))
-    go (no n) (yes l) ih =
-        let z : pushedOn (pushed x q) qs < pushedOn (pushed x p) ps = pushedOn-less (pushed x q) (pushed x p) qs ps (omega arith) (pushed-more x q p second first l) in
-        rw (le-ltb p q (omega arith), ne-eqb p q (λ h. omega arith)) (le-ltb (pushedOn (pushed x p) ps) (pushedOn (pushed x q) qs) (omega arith))
-    go (no n) (no m) ih =
-        let same : p ≡ q = omega arith in
-        rw (le-ltb p q (omega arith), eq-eqb p q same) (ap (λ (z : ℕ). ltb (pushedOn (pushed x p) ps) (pushedOn (pushed x z) qs)) (sym same) ∙ ih)
+module _ (arities : List ℕ) (r s : Rule) (hr : Small arities r) (hs : Small arities s) where
+  places-alike : r .symbol ≡ s .symbol → (k : ℕ) → Alike (place r k) (place s k)
+  places-alike e k = go (decLt k (length (r .children)))
+    where
+      same : length (r .children) ≡ length (s .children)
+      same = hr .as-many ∙ ap (λ (f : ℕ). getD arities f 0) e ∙ sym (hs .as-many)
 
-key-digits : (r : Rule) → Small r → Digits (key r)
-key-digits r h p m = ⊎-elim (λ e. subst Digit (sym e) (inl (h .symbol))) rest (in-cons m)
-  where
-    rest : In p (tab maxChildren (place r) ++ r .target ∷ []) → Digit p
-    rest i = ⊎-elim (λ j. let (k, l, e) = in-tab maxChildren (place r) j in subst Digit (sym e) (h .places k)) (λ j. subst Digit (sym (eq-of-singleton j)) (inl (h .target))) (in-append (tab maxChildren (place r)) i)
+      go : Dec (k < length (r .children)) → Alike (place r k) (place s k)
+      go (yes l) = let z = same in inl (hr .children (place r k) (in-getD unused (r .children) k l), hs .children (place s k) (in-getD unused (s .children) k (omega arith)))
+      go (no l) = let z = same in inr (List·getD-eq-default (r .children) unused (omega arith) ∙ sym (List·getD-eq-default (s .children) unused (omega arith)))
 
--- Keys are in the order of their rules.
-pub packed-order : (r s : Rule) → Small r → Small s → ltb (packed r) (packed s) ≡ before? r s
-packed-order r s hr hs = ap (λ (x : ℕ). ltb x (packed s)) (sym (packed-on r)) ∙ ap (ltb (pushedOn 0 (key r))) (sym (packed-on s)) ∙ pushedOn-order 0 (key r) (key s) refl (key-digits r hr) (key-digits s hs)
+  key-less : Before r s → pushedOn 0 (key r) < pushedOn 0 (key s)
+  unfolding pushedOn
+  key-less h =
+      ⊎-elim
+      (λ d. pushedOn-less (pushed 0 (r .symbol)) (pushed 0 (s .symbol)) (rest r) (rest s) refl (pushed-more 0 (r .symbol) (s .symbol) (inl (hr .symbol, hs .symbol)) d))
+      (λ (e, l).
+      subst (λ (z : ℕ). pushedOn (pushed 0 (r .symbol)) (rest r) < pushedOn (pushed 0 z) (rest s)) e
+      (pushedOn-lower (pushed 0 (r .symbol)) (rest r) (rest s) refl (alikes-rest maxChildren (place r) (place s) (r .target) (s .target) (places-alike e) (inl (hr .target, hs .target))) l))
+      (lower-cons (r .symbol) (s .symbol) (rest r) (rest s) .0 h)
+    where
+      rest : Rule → List ℕ
+      rest x = tab maxChildren (place x) ++ x .target ∷ []
 
--- So sorting the keys of rules gives the keys of the rules sorted.
-insert-packed : (r : Rule) (rs : List Rule) → Small r → ((s : Rule) → In s rs → Small s) → insertNumber (packed r) (map packed rs) ≡ map packed (insert r rs)
-insert-packed r [] hr hs = refl
-insert-packed r (s ∷ rs) hr hs = go (before? s r) (packed-order s r (hs s (here refl)) hr) (insert-packed r rs hr (λ z m. hs z (there m)))
-  where
-    go : (b : Bool) → ltb (packed s) (packed r) ≡ b → insertNumber (packed r) (map packed rs) ≡ map packed (insert r rs) → cond (ltb (packed s) (packed r)) (packed s ∷ insertNumber (packed r) (map packed rs)) (packed r ∷ packed s ∷ map packed rs) ≡ map packed (cond b (s ∷ insert r rs) (r ∷ s ∷ rs))
-    go true e ih = ap (λ (t : Bool). cond t (packed s ∷ insertNumber (packed r) (map packed rs)) (packed r ∷ packed s ∷ map packed rs)) e ∙ ap (packed s ∷_) ih
-    go false e ih = ap (λ (t : Bool). cond t (packed s ∷ insertNumber (packed r) (map packed rs)) (packed r ∷ packed s ∷ map packed rs)) e
+  -- A rule that stands before another has the lower key.
+  packed-less : Before r s → packed r < packed s
+  packed-less h = masked-less (digits r) (digits s) (r .forget) (s .forget) (let l = key-less h in omega (arith, digits-on r, digits-on s))
 
-pub ordered-packed : (rs : List Rule) → ((r : Rule) → In r rs → Small r) → ordered (map packed rs) ≡ map packed (sorted rs)
-ordered-packed [] h = refl
-ordered-packed (r ∷ rs) h = ap (insertNumber (packed r)) (ordered-packed rs (λ s m. h s (there m))) ∙ insert-packed r (sorted rs) (h r (here refl)) (λ s m. h s (there (in-sorted rs m)))
+same-test : (a b : Bool) → (T a → T b) → (T b → T a) → a ≡ b
+same-test true true f g = refl
+same-test true false f g = absurd (f tt)
+same-test false true f g = absurd (g tt)
+same-test false false f g = refl
 
--- the digits of a key: the last, and those before it
-digit-last : (x p : ℕ) → digitAt (pushed x p) 0 ≡ keyDigit p
-unfolding digitAt pushed
-digit-last x p = ap (λ (z : ℕ). (x * 2 ^ digitWidth + keyDigit p) / 2 ^ z % 2 ^ digitWidth) (mul-zero digitWidth) ∙ ap (λ (z : ℕ). z % 2 ^ digitWidth) (div-one (x * 2 ^ digitWidth + keyDigit p)) ∙ low x digitWidth (let b = digit-bound p in omega arith)
+-- Of a sound automaton, in which a rule stands once, sorting the keys of rules gives the keys of the rules sorted.
+module _ (A : Automaton) (sound : Sound A) where
+  packed-order : (r s : Rule) → In r (A .rules) → In s (A .rules) → ltb (packed r) (packed s) ≡ before? r s
+  packed-order r s ir is = same-test (ltb (packed r) (packed s)) (before? r s) (λ l. back (ltb→lt (packed r) (packed s) l) (before-total r s)) (λ h. lt→ltb (packed r) (packed s) (less r s ir is h))
+    where
+      less : (r s : Rule) → In r (A .rules) → In s (A .rules) → Before r s → packed r < packed s
+      less r s ir is = packed-less (A .arities) r s (small-of A sound r ir) (small-of A sound s is)
 
-digit-before : (x p k : ℕ) → digitAt (pushed x p) (suc k) ≡ digitAt x k
-unfolding digitAt pushed
+      back : packed r < packed s → Before r s ⊎ ((key r ≡ key s) ⊎ Before s r) → Before r s
+      back l (inl h) = h
+      back l (inr (inl e)) = let z = ap packed (one-key (A .rules) (ascending-other (A .rules) (sound .ascending)) ir is e) in absurd (omega arith)
+      back l (inr (inr h)) = let z = less s r is ir h in absurd (omega arith)
+
+  insert-packed : (r : Rule) (rs : List Rule) → In r (A .rules) → ((s : Rule) → In s rs → In s (A .rules)) → insertNumber (packed r) (map packed rs) ≡ map packed (insert r rs)
+  insert-packed r [] ir is = refl
+  insert-packed r (s ∷ rs) ir is = go (before? s r) (packed-order s r (is s (here refl)) ir) (insert-packed r rs ir (λ z m. is z (there m)))
+    where
+      go : (b : Bool) → ltb (packed s) (packed r) ≡ b → insertNumber (packed r) (map packed rs) ≡ map packed (insert r rs) → cond (ltb (packed s) (packed r)) (packed s ∷ insertNumber (packed r) (map packed rs)) (packed r ∷ packed s ∷ map packed rs) ≡ map packed (cond b (s ∷ insert r rs) (r ∷ s ∷ rs))
+      go true e ih = ap (λ (t : Bool). cond t (packed s ∷ insertNumber (packed r) (map packed rs)) (packed r ∷ packed s ∷ map packed rs)) e ∙ ap (packed s ∷_) ih
+      go false e ih = ap (λ (t : Bool). cond t (packed s ∷ insertNumber (packed r) (map packed rs)) (packed r ∷ packed s ∷ map packed rs)) e
+
+  pub ordered-packed : (rs : List Rule) → ((r : Rule) → In r rs → In r (A .rules)) → ordered (map packed rs) ≡ map packed (sorted rs)
+  ordered-packed [] h = refl
+  ordered-packed (r ∷ rs) h = ap (insertNumber (packed r)) (ordered-packed rs (λ s m. h s (there m))) ∙ insert-packed r (sorted rs) (h r (here refl)) (λ s m. h s (there (in-sorted rs m)))
+
+-- digit k of digits alone, counted from their end
+digit : ℕ → ℕ → ℕ
+digit x k = x / 2 ^ (digitWidth * k) % 2 ^ digitWidth
+
+digit-masked : (x m k : ℕ) → digitAt (masked x m) k ≡ digit x k
+unfolding digitAt masked digit
+digit-masked x m k =
+    ap (λ (z : ℕ). z % 2 ^ digitWidth) (sym (shr-shr (x * 2 ^ maskWidth + m % 2 ^ maskWidth) maskWidth (digitWidth * k)))
+    ∙ ap (λ (z : ℕ). z / 2 ^ (digitWidth * k) % 2 ^ digitWidth) (high x maskWidth (mod-lt m (pow-pos maskWidth)))
+
+mask-masked : (x m : ℕ) → masked x m % 2 ^ maskWidth ≡ m % 2 ^ maskWidth
+unfolding masked
+mask-masked x m = low x maskWidth (mod-lt m (pow-pos maskWidth))
+
+-- the last of the digits, and those before it
+digit-last : (x p : ℕ) → digit (pushed x p) 0 ≡ p % 2 ^ digitWidth
+unfolding digit pushed
+digit-last x p =
+    ap (λ (z : ℕ). (x * 2 ^ digitWidth + p % 2 ^ digitWidth) / 2 ^ z % 2 ^ digitWidth) (mul-zero digitWidth)
+    ∙ ap (λ (z : ℕ). z % 2 ^ digitWidth) (div-one (x * 2 ^ digitWidth + p % 2 ^ digitWidth))
+    ∙ low x digitWidth (mod-lt p (pow-pos digitWidth))
+
+digit-before : (x p k : ℕ) → digit (pushed x p) (suc k) ≡ digit x k
+unfolding digit pushed
 digit-before x p k =
-    ap (λ (z : ℕ). (x * 2 ^ digitWidth + keyDigit p) / 2 ^ z % 2 ^ digitWidth) (let z : digitWidth * suc k ≡ digitWidth + digitWidth * k = omega arith in z)
-    ∙ ap (λ (z : ℕ). z % 2 ^ digitWidth) (sym (shr-shr (x * 2 ^ digitWidth + keyDigit p) digitWidth (digitWidth * k)))
-    ∙ ap (λ (z : ℕ). z / 2 ^ (digitWidth * k) % 2 ^ digitWidth) (high x digitWidth (let b = digit-bound p in omega arith))
+    ap (λ (z : ℕ). (x * 2 ^ digitWidth + p % 2 ^ digitWidth) / 2 ^ z % 2 ^ digitWidth) (let z : digitWidth * suc k ≡ digitWidth + digitWidth * k = omega arith in z)
+    ∙ ap (λ (z : ℕ). z % 2 ^ digitWidth) (sym (shr-shr (x * 2 ^ digitWidth + p % 2 ^ digitWidth) digitWidth (digitWidth * k)))
+    ∙ ap (λ (z : ℕ). z / 2 ^ (digitWidth * k) % 2 ^ digitWidth) (high x digitWidth (mod-lt p (pow-pos digitWidth)))
 
-digit-within : (x n : ℕ) (f : ℕ → ℕ) (k : ℕ) → k < n → digitAt (pushedAll x n f) (n - suc k) ≡ keyDigit (f k)
+digit-within : (x n : ℕ) (f : ℕ → ℕ) (k : ℕ) → k < n → digit (pushedAll x n f) (n - suc k) ≡ f k % 2 ^ digitWidth
 digit-within x zero f k l = absurd (omega arith)
 digit-within x (suc n) f k l = go (decLt k n) (digit-within x n f k)
   where
-    go : Dec (k < n) → (k < n → digitAt (pushedAll x n f) (n - suc k) ≡ keyDigit (f k)) → digitAt (pushed (pushedAll x n f) (f n)) (suc n - suc k) ≡ keyDigit (f k)
-    go (yes h) ih = ap (digitAt (pushed (pushedAll x n f) (f n))) (let z : suc n - suc k ≡ suc (n - suc k) = omega arith in z) ∙ digit-before (pushedAll x n f) (f n) (n - suc k) ∙ ih h
+    go : Dec (k < n) → (k < n → digit (pushedAll x n f) (n - suc k) ≡ f k % 2 ^ digitWidth) → digit (pushed (pushedAll x n f) (f n)) (suc n - suc k) ≡ f k % 2 ^ digitWidth
+    go (yes h) ih = ap (digit (pushed (pushedAll x n f) (f n))) (let z : suc n - suc k ≡ suc (n - suc k) = omega arith in z) ∙ digit-before (pushedAll x n f) (f n) (n - suc k) ∙ ih h
     go (no h) ih =
         let e : k ≡ n = omega arith in
-        ap (digitAt (pushed (pushedAll x n f) (f n))) (let z : suc n - suc k ≡ 0 = omega arith in z) ∙ digit-last (pushedAll x n f) (f n) ∙ ap (λ (z : ℕ). keyDigit (f z)) (sym e)
+        ap (digit (pushed (pushedAll x n f) (f n))) (let z : suc n - suc k ≡ 0 = omega arith in z) ∙ digit-last (pushedAll x n f) (f n) ∙ ap (λ (z : ℕ). f z % 2 ^ digitWidth) (sym e)
 
-digit-first : (x n : ℕ) (f : ℕ → ℕ) (k : ℕ) → digitAt (pushedAll x n f) (n + k) ≡ digitAt x k
-digit-first x zero f k = ap (digitAt x) (omega arith)
-digit-first x (suc n) f k = ap (digitAt (pushed (pushedAll x n f) (f n))) (let z : suc n + k ≡ suc (n + k) = omega arith in z) ∙ digit-before (pushedAll x n f) (f n) (n + k) ∙ digit-first x n f k
+digit-first : (x n : ℕ) (f : ℕ → ℕ) (k : ℕ) → digit (pushedAll x n f) (n + k) ≡ digit x k
+digit-first x zero f k = ap (digit x) (omega arith)
+digit-first x (suc n) f k = ap (digit (pushed (pushedAll x n f) (f n))) (let z : suc n + k ≡ suc (n + k) = omega arith in z) ∙ digit-before (pushedAll x n f) (f n) (n + k) ∙ digit-first x n f k
 
--- The stored form is read off the key.
-pub encode-packed : (r : Rule) → Small r → encodeKey (packed r) ≡ encodeRule r
-encode-packed r h =
-    ap (λ (z : ℕ). encodePlaces z (digitAt (packed r) 0) (tab maxChildren (placeAt (packed r)))) symbol
-    ∙ ap (λ (z : ℕ). encodePlaces (r .symbol) z (tab maxChildren (placeAt (packed r)))) (digit-last body (r .target) ∙ digit-state (r .target) (h .target))
-    ∙ ap (encodePlaces (r .symbol) (r .target)) (tab-same maxChildren (placeAt (packed r)) (place r) places)
+-- The rule is read off its key.
+pub unpacked-packed : (arities : List ℕ) (r : Rule) → Small arities r → unpacked arities (packed r) ≡ r
+unpacked-packed arities r h = λ i. record { symbol = symbol i; children = children i; target = target i; forget = forget i }
   where
     body : ℕ
     body = pushedAll (pushed 0 (r .symbol)) maxChildren (place r)
 
     symbol : digitAt (packed r) (maxChildren + 1) ≡ r .symbol
-    symbol = digit-before body (r .target) maxChildren ∙ digit-first (pushed 0 (r .symbol)) maxChildren (place r) 0 ∙ digit-last 0 (r .symbol) ∙ digit-state (r .symbol) (h .symbol)
+    symbol =
+        digit-masked (digits r) (r .forget) (maxChildren + 1)
+        ∙ digit-before body (r .target) maxChildren
+        ∙ digit-first (pushed 0 (r .symbol)) maxChildren (place r) 0
+        ∙ digit-last 0 (r .symbol)
+        ∙ mod-eq-of-lt (h .symbol)
 
-    places : (k : ℕ) → k < maxChildren → placeAt (packed r) k ≡ place r k
-    places k l =
-        ap (λ (z : ℕ). placeOf (digitAt (packed r) z)) (let z : maxChildren - k ≡ suc (maxChildren - suc k) = omega arith in z)
-        ∙ ap placeOf (digit-before body (r .target) (maxChildren - suc k) ∙ digit-within (pushed 0 (r .symbol)) maxChildren (place r) k l)
-        ∙ digit-back (place r k) (h .places k)
+    child : (k : ℕ) → k < length (r .children) → digitAt (packed r) (maxChildren - k) ≡ place r k
+    child k l =
+        let few = h .few in
+        digit-masked (digits r) (r .forget) (maxChildren - k)
+        ∙ ap (digit (digits r)) (let z : maxChildren - k ≡ suc (maxChildren - suc k) = omega arith in z)
+        ∙ digit-before body (r .target) (maxChildren - suc k)
+        ∙ digit-within (pushed 0 (r .symbol)) maxChildren (place r) k (omega arith)
+        ∙ mod-eq-of-lt (h .children (place r k) (in-getD unused (r .children) k l))
 
-pub encode-all-packed : (rs : List Rule) → ((r : Rule) → In r rs → Small r) → concatMap encodeKey (map packed rs) ≡ concatMap encodeRule rs
-encode-all-packed [] h = refl
-encode-all-packed (r ∷ rs) h = ap (_++ concatMap encodeKey (map packed rs)) (encode-packed r (h r (here refl))) ∙ ap (encodeRule r ++_) (encode-all-packed rs (λ s m. h s (there m)))
+    children : tab (getD arities (digitAt (packed r) (maxChildren + 1)) 0) (λ k. digitAt (packed r) (maxChildren - k)) ≡ r .children
+    children = tab-is unused (r .children) _ (λ k. digitAt (packed r) (maxChildren - k)) (ap (λ (f : ℕ). getD arities f 0) symbol ∙ sym (h .as-many)) child
 
--- a key of k digits, with one more
+    target : digitAt (packed r) 0 ≡ r .target
+    target = digit-masked (digits r) (r .forget) 0 ∙ digit-last body (r .target) ∙ mod-eq-of-lt (h .target)
+
+    forget : packed r % 2 ^ maskWidth ≡ r .forget
+    forget = mask-masked (digits r) (r .forget) ∙ mod-eq-of-lt (h .forget)
+
+pub encode-packed : (form : Form) (arities : List ℕ) (rs : List Rule) → ((r : Rule) → In r rs → Small arities r) → concatMap (encodeKey form arities) (map packed rs) ≡ concatMap (encodeRule form) rs
+encode-packed form arities [] h = refl
+encode-packed form arities (r ∷ rs) h =
+    ap (λ (z : Rule). encodeRule form z ++ concatMap (encodeKey form arities) (map packed rs)) (unpacked-packed arities r (h r (here refl)))
+    ∙ ap (encodeRule form r ++_) (encode-packed form arities rs (λ s m. h s (there m)))
+
+-- the child places that were read off a key are those of its rule
+pub unpacked-places : (arities : List ℕ) (x n : ℕ) → n ≡ getD arities (digitAt x (maxChildren + 1)) 0 → tab maxChildren (placeAt x n) ≡ tab maxChildren (place (unpacked arities x))
+unfolding placeAt
+unpacked-places arities x n e = ap (λ (m : ℕ). tab maxChildren (placeAt x m)) e ∙ tab-same maxChildren (placeAt x count) (place (unpacked arities x)) (λ k l. go k (decLt k count))
+  where
+    count : ℕ
+    count = getD arities (digitAt x (maxChildren + 1)) 0
+
+    go : (k : ℕ) → Dec (k < count) → placeAt x count k ≡ place (unpacked arities x) k
+    go k (yes l) = rw (lt-ltb k count l) (sym (tab-at unused count (λ j. digitAt x (maxChildren - j)) k l))
+    go k (no l) = rw (le-ltb k count (omega arith)) (sym (tab-past unused count (λ j. digitAt x (maxChildren - j)) k (omega arith)))
+
+-- k digits with one more
 pub push-bound : (x d k : ℕ) → x < 2 ^ (digitWidth * k) → d < 2 ^ digitWidth → x * 2 ^ digitWidth + d < 2 ^ (digitWidth * (k + 1))
 push-bound x d k l m =
     let e : digitWidth * (k + 1) ≡ digitWidth * k + digitWidth = omega arith in
@@ -236,8 +303,13 @@ module _ (symbol : ℕ) (f : ℕ → ℕ) (x : ℕ) where
       few = omega arith;
     }
 
-    pub pushing-all : (y t : ℕ) → maxChildren ≤ k → y ≡ pushed x t → y ≡ keyOf symbol f t
-    pushing-all y t l e = e ∙ ap (λ (z : ℕ). pushed z t) (h .is ∙ ap (λ (n : ℕ). pushedAll (pushed 0 symbol) n f) (let z : k ≡ maxChildren = (let m = h .few in omega arith) in z))
+    -- .. and with the target and the tags to forget it is whole; what is cut off these is lost in the key too
+    pub pushing-all : (y t z w mask : ℕ) → maxChildren ≤ k → y ≡ pushed x t → z ≡ masked y w → w % 2 ^ maskWidth ≡ mask % 2 ^ maskWidth → z ≡ keyOf symbol f t mask
+    unfolding masked
+    pushing-all y t z w mask l ey ez ew =
+        ez
+        ∙ ap (λ (m : ℕ). y * 2 ^ maskWidth + m) ew
+        ∙ ap (λ (x : ℕ). masked x mask) (ey ∙ ap (λ (z : ℕ). pushed z t) (h .is ∙ ap (λ (n : ℕ). pushedAll (pushed 0 symbol) n f) (let z : k ≡ maxChildren = (let m = h .few in omega arith) in z)))
 
 -- a product of two 16-bit numbers
 pub product-low : (p n : ℕ) → p < 65536 → n < 65536 → p * n ≤ 65535 * 65535

@@ -58,32 +58,32 @@ module _ (form : Form) (A B : Automaton) where
   abbrev productFront : List ℕ
   productFront = front form A (length (P .states)) (P .tags) (length (P .rules))
 
-  pub union-parts : unionFront ++ firstStates ++ secondStates ++ concatMap encodeRule (U .rules) ≡ encode form U
+  pub union-parts : unionFront ++ firstStates ++ secondStates ++ concatMap (encodeRule form) (U .rules) ≡ encode form U
   unfolding encode
   union-parts =
-      ap (_++ concatMap encodeRule (U .rules))
+      ap (_++ concatMap (encodeRule form) (U .rules))
       (append-assoc unionFront firstStates secondStates
       ∙ ap (λ (z : List ℕ). unionFront ++ (z ++ secondStates)) (ap (encodeStates form) (states-zero (A .states)))
       ∙ ap (unionFront ++_) (sym (concatMap-append (λ (q : State). encodeState form (q .final) (q .mask)) (A .states) (map (shiftState (A .tags)) (B .states)))))
 
-  pub product-parts : productFront ++ encodeStates form (P .states) ++ concatMap encodeRule (P .rules) ≡ encode form P
+  pub product-parts : productFront ++ encodeStates form (P .states) ++ concatMap (encodeRule form) (P .rules) ≡ encode form P
   unfolding encode
   product-parts = refl
 
   -- how long the parts are together
-  pub union-lengths : length unionFront + length firstStates + length secondStates + length (concatMap encodeRule (U .rules)) ≡ encodedLength form U
+  pub union-lengths : length unionFront + length firstStates + length secondStates + length (concatMap (encodeRule form) (U .rules)) ≡ encodedLength form U
   union-lengths =
       let a = length-append unionFront firstStates in
       let b = length-append (unionFront ++ firstStates) secondStates in
-      let c = length-append (unionFront ++ firstStates ++ secondStates) (concatMap encodeRule (U .rules)) in
+      let c = length-append (unionFront ++ firstStates ++ secondStates) (concatMap (encodeRule form) (U .rules)) in
       let e = ap length union-parts in
       let d = encode-length form U in
       omega arith
 
-  pub product-lengths : length productFront + length (encodeStates form (P .states)) + length (concatMap encodeRule (P .rules)) ≡ encodedLength form P
+  pub product-lengths : length productFront + length (encodeStates form (P .states)) + length (concatMap (encodeRule form) (P .rules)) ≡ encodedLength form P
   product-lengths =
       let a = length-append productFront (encodeStates form (P .states)) in
-      let b = length-append (productFront ++ encodeStates form (P .states)) (concatMap encodeRule (P .rules)) in
+      let b = length-append (productFront ++ encodeStates form (P .states)) (concatMap (encodeRule form) (P .rules)) in
       let e = ap length product-parts in
       let d = encode-length form P in
       omega arith

@@ -16,8 +16,7 @@ use Rattle.automaton.specs.Laid.{Laid}
 use Rattle.boolean.specs.Ready.{Ready, Sized, Keyed, front}
 use Rattle.boolean.specs.declared.Size.{Size}
 use Rattle.automaton.proofs.Laying.{laid-put, laid-then, laid-length}
-use Rattle.boolean.proofs.Packing.{encode-all-packed}
-use Rattle.boolean.proofs.Results.{small-of}
+use Rattle.boolean.proofs.Packing.{small-of, encode-packed}
 use Rattle.boolean.proofs.Stating.{union-parts, product-parts, union-lengths, product-lengths, sized-front}
 
 -- the header, then the symbols
@@ -41,14 +40,17 @@ module _ (form : Form) (A : Automaton) (symbols states tags rules : ℕ) (e : sy
   front-laid last end q = laid-then header-laid (laid-put mid last r end (concatMap encodeSymbol (A .arities)) q symbols-room)
 
 -- rules put from their keys
-module _ (R : Automaton) (sound : Sound R) (keys : List ℕ) (n : ℕ) (h : Keyed R keys n) where
-  keyed-bytes : concatMap encodeKey (take n keys) ≡ concatMap encodeRule (R .rules)
-  keyed-bytes = ap (concatMap encodeKey) (h .holds) ∙ encode-all-packed (R .rules) (small-of R sound)
+module _ (form : Form) (R : Automaton) (sound : Sound R) (keys : List ℕ) (n : ℕ) (h : Keyed R keys n) where
+  abbrev encoded : List ℕ
+  encoded = concatMap (encodeKey form (R .arities)) (take n keys)
 
-  pub rules-room : (at space : ℕ) → at + length (concatMap encodeRule (R .rules)) ≤ space → at + length (concatMap encodeKey (take n keys)) ≤ space
+  keyed-bytes : encoded ≡ concatMap (encodeRule form) (R .rules)
+  keyed-bytes = ap (concatMap (encodeKey form (R .arities))) (h .holds) ∙ encode-packed form (R .arities) (R .rules) (small-of R sound)
+
+  pub rules-room : (at space : ℕ) → at + length (concatMap (encodeRule form) (R .rules)) ≤ space → at + length encoded ≤ space
   rules-room at space l = let e = ap length keyed-bytes in omega arith
 
-  pub rules-laid : (out last : List ℕ) (at end : ℕ) → Laid out last at end (concatMap encodeKey (take n keys)) → Laid out last at end (concatMap encodeRule (R .rules))
+  pub rules-laid : (out last : List ℕ) (at end : ℕ) → Laid out last at end encoded → Laid out last at end (concatMap (encodeRule form) (R .rules))
   rules-laid out last at end l = subst (Laid out last at end) keyed-bytes l
 
 -- room for the front of a result, and the front with the result's own counts
@@ -97,13 +99,13 @@ module _ (form : Form) (first second : List ℕ) (size : Size) (out : List ℕ) 
             let d = l′ .ends in let m = laid-length l′ in let d₂ = q .ends in let m₂ = laid-length q in
             laid-put two three e₂ e₃ (encodeStates form (map (shiftState (F .tags)) (S .states))) (subst (λ (z : ℕ). Put two e₂ (encodeStates form (map (shiftState z) (S .states))) three e₃) et put₂) (omega arith)
 
-        pub union-rules-room : Ready first second (union F S) × (e₃ + length (concatMap encodeRule ((union F S) .rules)) ≤ length three)
+        pub union-rules-room : Ready first second (union F S) × (e₃ + length (concatMap (encodeRule form) ((union F S) .rules)) ≤ length three)
         union-rules-room =
             let n = union-lengths form F S in let b = p .2 in
             let d = l′ .ends in let m = laid-length l′ in let d₂ = q .ends in let m₂ = laid-length q in let d₃ = r′ .ends in let m₃ = laid-length r′ in
             (p .0, omega arith)
 
-        pub union-laid : (last : List ℕ) (end : ℕ) → Laid three last e₃ end (concatMap encodeRule ((union F S) .rules)) → Laid out last 0 end (encode form (union F S))
+        pub union-laid : (last : List ℕ) (end : ℕ) → Laid three last e₃ end (concatMap (encodeRule form) ((union F S) .rules)) → Laid out last 0 end (encode form (union F S))
         union-laid last end s = subst (Laid out last 0 end) (union-parts form F S) (laid-then (laid-then (laid-then l′ q) r′) s)
 
 -- A product: front, states, rules.
@@ -127,11 +129,11 @@ module _ (form : Form) (first second : List ℕ) (size : Size) (out : List ℕ) 
         (p .0, omega arith)
 
     module _ (two : List ℕ) (e₂ : ℕ) (q : Laid one two e e₂ (encodeStates form ((product F₂ S₂) .states))) where
-      pub product-rules-room : Ready first second (product F₂ S₂) × (e₂ + length (concatMap encodeRule ((product F₂ S₂) .rules)) ≤ length two)
+      pub product-rules-room : Ready first second (product F₂ S₂) × (e₂ + length (concatMap (encodeRule form) ((product F₂ S₂) .rules)) ≤ length two)
       product-rules-room =
           let n = product-lengths form F₂ S₂ in let b = p .2 in
           let d = whole .ends in let m = laid-length whole in let d₂ = q .ends in let m₂ = laid-length q in
           (p .0, omega arith)
 
-      pub product-laid : (last : List ℕ) (end : ℕ) → Laid two last e₂ end (concatMap encodeRule ((product F₂ S₂) .rules)) → Laid out last 0 end (encode form (product F₂ S₂))
+      pub product-laid : (last : List ℕ) (end : ℕ) → Laid two last e₂ end (concatMap (encodeRule form) ((product F₂ S₂) .rules)) → Laid out last 0 end (encode form (product F₂ S₂))
       product-laid last end s = subst (Laid out last 0 end) (product-parts form F₂ S₂) (laid-then (laid-then whole q) s)

@@ -10,8 +10,8 @@ use Rattle.boolean.specs.Combine.{resultForm, combineCheckOf}
 
 -- What is answered of two sets of which `result` is made in a space: the length of its stored form, unless they are refused ..
 abbrev pub combinedOf : (Automaton → Automaton → Automaton) → List ℕ → List ℕ → List ℕ → Answer ℕ
-combinedOf result first second space = unless (combineCheckOf result first second (length space)) (encodedLength resultForm (result (decode first) (decode second)))
+combinedOf result first second space = unless (combineCheckOf result first second (length space)) (encodedLength (resultForm first second) (result (decode first) (decode second)))
 
 -- .. and the space afterwards.
 abbrev pub combinedSpace : (Automaton → Automaton → Automaton) → List ℕ → List ℕ → List ℕ → List ℕ
-combinedSpace result first second space = spaceOf (combineCheckOf result first second (length space)) resultForm (result (decode first) (decode second)) space
+combinedSpace result first second space = spaceOf (combineCheckOf result first second (length space)) (resultForm first second) (result (decode first) (decode second)) space

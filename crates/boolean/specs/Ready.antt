@@ -41,9 +41,9 @@ pub record Window (A : Automaton) (f from to : ℕ) : Type 0 where
   pub starts : FirstFrom A f from
   pub stops : FirstFrom A (f + 1) to
 
--- the rules that pair a rule with the rules of B with its symbol
-abbrev pub row : Automaton → Rule → List Rule
-row B r = concatMap (λ s. only (eqb (r .symbol) (s .symbol)) (pairRule (length (B .states)) r s ∷ [])) (B .rules)
+-- the rules that pair a rule with the rules of B with its symbol, B's tags shifted by t
+abbrev pub row : ℕ → Automaton → Rule → List Rule
+row t B r = concatMap (λ s. only (eqb (r .symbol) (s .symbol)) (pairRule (length (B .states)) t r s ∷ [])) (B .rules)
 
 -- a stored form of a result up to its states: the symbols are those of A
 abbrev pub front : Form → Automaton → ℕ → ℕ → ℕ → List ℕ

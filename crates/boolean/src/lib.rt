@@ -1,4 +1,4 @@
-// Union and product of two stored automata, written in the wide form.
+// Union and product of two stored automata, written in the wide form, or in the one with rules that forget tags if either has such rules.
 ghost use mathlib.Core.Path.{_≡_};
 ghost use lib.Dec.{eqb, leb};
 ghost use Rattle.model.specs.Automaton.{arityOf};
@@ -8,7 +8,7 @@ ghost use Rattle.automaton.specs.Form.{totalLength};
 ghost use Rattle.automaton.specs.Stored.{decode};
 ghost use Rattle.automaton.specs.Check.{checkOf};
 ghost use Rattle.automaton.specs.Answer.{writtenAnswer};
-ghost use Rattle.boolean.specs.Combine.{sameSymbols, withinLimits};
+ghost use Rattle.boolean.specs.Combine.{isolating?, resultForm, sameSymbols, withinLimits};
 ghost use Rattle.boolean.specs.Answer.{combinedOf, combinedSpace};
 ghost use Rattle.boolean.specs.Ready.{Sized};
 
@@ -93,6 +93,28 @@ fn result(form: Form, symbols: u16, size: Size, space: usize) -> u16
     }
 }
 
+// Whether rules in a form have a place for the tags that they forget.
+fn isolating(form: Form) -> bool
+    ensures { λ r. ⌜ r ≡ isolating? form ⌝ }
+{
+    match form {
+        Form::Narrow => false,
+        Form::Wide => false,
+        Form::Isolating => true,
+    }
+}
+
+// The form that a result is written in.
+fn result_form(first: &[u8], second: &[u8]) -> Form
+    ensures { λ r. ⌜ r ≡ resultForm (now (first .entry)) (now (second .entry)) ⌝ }
+{
+    if isolating(automaton::form_of(first)) | isolating(automaton::form_of(second)) {
+        Form::Isolating
+    } else {
+        Form::Wide
+    }
+}
+
 fn union_size(first: &[u8], second: &[u8]) -> Size
     ensures { λ r. ⌜ Sized r (union (decode (now (first .entry))) (decode (now (second .entry)))) ⌝ }
 {
@@ -129,16 +151,12 @@ pub fn union(first: &[u8], second: &[u8], out: &mut [u8]) -> Written
         return Written::Refused(refused);
     }
     let size = union_size(first, second);
-    let too_large = result(
-        Form::Wide,
-        automaton::header(first).symbols,
-        size,
-        out.len(),
-    );
+    let form = result_form(first, second);
+    let too_large = result(form, automaton::header(first).symbols, size, out.len());
     if too_large != 0 {
         return Written::Refused(too_large);
     }
-    Written::Length(write::put_union(first, second, Form::Wide, size, out))
+    Written::Length(write::put_union(first, second, form, size, out))
 }
 
 // The product: what both sets accept.
@@ -151,14 +169,10 @@ pub fn product(first: &[u8], second: &[u8], out: &mut [u8]) -> Written
         return Written::Refused(refused);
     }
     let size = product_size(first, second);
-    let too_large = result(
-        Form::Wide,
-        automaton::header(first).symbols,
-        size,
-        out.len(),
-    );
+    let form = result_form(first, second);
+    let too_large = result(form, automaton::header(first).symbols, size, out.len());
     if too_large != 0 {
         return Written::Refused(too_large);
     }
-    Written::Length(write::put_product(first, second, Form::Wide, size, out))
+    Written::Length(write::put_product(first, second, form, size, out))
 }

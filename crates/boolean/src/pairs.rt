@@ -47,16 +47,18 @@ pub(crate) fn count(first: &[u8], second: &[u8]) -> usize
 
 // The keys of rule i of the first set paired with the second's rules, put at a place.
 fn row_keys(first: &[u8], second: &[u8], i: u16, keys: &mut [u64], at: usize) -> usize
-    requires { ⌜ (checkOf (now first) ≡ 0) × (checkOf (now second) ≡ 0) × ((decode (now first)) .arities ≡ (decode (now second)) .arities) × (i < length ((decode (now first)) .rules)) × (at + length (row (decode (now second)) (ruleAt (decode (now first)) i)) ≤ length (now keys)) ⌝ }
-    ensures { λ r. ⌜ Laid (now (keys .entry)) (now (keys .exit)) at r (map packed (row (decode (now (second .entry))) (ruleAt (decode (now (first .entry))) i))) ⌝ }
+    requires { ⌜ (checkOf (now first) ≡ 0) × (checkOf (now second) ≡ 0) × ((decode (now first)) .arities ≡ (decode (now second)) .arities) × (i < length ((decode (now first)) .rules)) × (at + length (row ((decode (now first)) .tags) (decode (now second)) (ruleAt (decode (now first)) i)) ≤ length (now keys)) ⌝ }
+    ensures { λ r. ⌜ Laid (now (keys .entry)) (now (keys .exit)) at r (map packed (row ((decode (now (first .entry))) .tags) (decode (now (second .entry))) (ruleAt (decode (now (first .entry))) i))) ⌝ }
 {
     let r = automaton::rule(first, i);
+    let tags = automaton::header(first).tags;
     let states = automaton::header(second).states as u64;
     let w = window(second, r.symbol);
     let n = w.to - w.from;
     let mut k = 0;
     while k < n {
-        keys[at + k as usize] = paired_key(r, automaton::rule(second, w.from + k), states);
+        let s = automaton::rule(second, w.from + k);
+        keys[at + k as usize] = paired_key(r, s, states, tags);
         k += 1;
     }
     at + n as usize
@@ -65,7 +67,7 @@ fn row_keys(first: &[u8], second: &[u8], i: u16, keys: &mut [u64], at: usize) ->
 // The keys of all pairs, at the front of a space; answers how many.
 pub(crate) fn pair_keys(first: &[u8], second: &[u8], keys: &mut [u64]) -> usize
     requires { ⌜ Ready (now first) (now second) (product (decode (now first)) (decode (now second))) × (maxRules ≤ length (now keys)) ⌝ }
-    ensures { λ r. ⌜ Laid (now (keys .entry)) (now (keys .exit)) 0 r (map packed (pairRules (length ((decode (now (second .entry))) .states)) ((decode (now (first .entry))) .rules) ((decode (now (second .entry))) .rules))) ⌝ }
+    ensures { λ r. ⌜ Laid (now (keys .entry)) (now (keys .exit)) 0 r (map packed (pairRules (length ((decode (now (second .entry))) .states)) ((decode (now (first .entry))) .tags) ((decode (now (first .entry))) .rules) ((decode (now (second .entry))) .rules))) ⌝ }
 {
     let n = automaton::header(first).rules;
     let mut at = 0;

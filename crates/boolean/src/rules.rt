@@ -24,8 +24,8 @@ pub(crate) fn union_keys(
     let a = automaton::header(first);
     let n = a.rules as usize;
     let m = n + automaton::header(second).rules as usize;
-    shifted_keys(first, 0, &mut scratch[..n]);
-    shifted_keys(second, a.states as u64, &mut scratch[n..m]);
+    shifted_keys(first, 0, 0, &mut scratch[..n]);
+    shifted_keys(second, a.states as u64, a.tags, &mut scratch[n..m]);
     merge(&scratch[..m], n, &mut keys[..m]);
     m
 }

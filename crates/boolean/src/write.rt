@@ -46,15 +46,15 @@ fn put_pair_states(out: &mut [u8], at: usize, form: Form, first: &[u8], second: 
     end
 }
 
-// The rules of keys.
-fn put_rules(out: &mut [u8], at: usize, keys: &[u64]) -> usize
-    requires { ⌜ at + length (concatMap encodeKey (now keys)) ≤ length (now out) ⌝ }
-    ensures { λ r. ⌜ Laid (now (out .entry)) (now (out .exit)) at r (concatMap encodeKey (now (keys .entry))) ⌝ }
+// The rules of keys, with the symbols of a set.
+fn put_rules(out: &mut [u8], at: usize, form: Form, set: &[u8], keys: &[u64]) -> usize
+    requires { ⌜ at + length (concatMap (encodeKey form ((decode (now set)) .arities)) (now keys)) ≤ length (now out) ⌝ }
+    ensures { λ r. ⌜ Laid (now (out .entry)) (now (out .exit)) at r (concatMap (encodeKey form ((decode (now (set .entry))) .arities)) (now (keys .entry))) ⌝ }
 {
     let mut end = at;
     let mut i = 0;
     while i < keys.len() {
-        end = put_rule(out, end, unpack(keys[i]));
+        end = put_rule(out, end, form, unpack(keys[i], set));
         i += 1;
     }
     end
@@ -78,25 +78,25 @@ fn put_front(out: &mut [u8], form: Form, set: &[u8], size: Size) -> usize
 }
 
 // The rules of a union.
-fn put_union_rules(out: &mut [u8], at: usize, first: &[u8], second: &[u8]) -> usize
-    requires { ⌜ Ready (now first) (now second) (union (decode (now first)) (decode (now second))) × (at + length (concatMap encodeRule ((union (decode (now first)) (decode (now second))) .rules)) ≤ length (now out)) ⌝ }
-    ensures { λ r. ⌜ Laid (now (out .entry)) (now (out .exit)) at r (concatMap encodeRule ((union (decode (now (first .entry))) (decode (now (second .entry)))) .rules)) ⌝ }
+fn put_union_rules(out: &mut [u8], at: usize, form: Form, first: &[u8], second: &[u8]) -> usize
+    requires { ⌜ Ready (now first) (now second) (union (decode (now first)) (decode (now second))) × (at + length (concatMap (encodeRule form) ((union (decode (now first)) (decode (now second))) .rules)) ≤ length (now out)) ⌝ }
+    ensures { λ r. ⌜ Laid (now (out .entry)) (now (out .exit)) at r (concatMap (encodeRule form) ((union (decode (now (first .entry))) (decode (now (second .entry)))) .rules)) ⌝ }
 {
     let mut scratch = [0u64; MOST_KEYS];
     let mut keys = [0u64; MOST_KEYS];
     let n = union_keys(first, second, &mut scratch, &mut keys);
-    put_rules(out, at, &keys[..n])
+    put_rules(out, at, form, first, &keys[..n])
 }
 
 // The rules of a product.
-fn put_pair_rules(out: &mut [u8], at: usize, first: &[u8], second: &[u8]) -> usize
-    requires { ⌜ Ready (now first) (now second) (product (decode (now first)) (decode (now second))) × (at + length (concatMap encodeRule ((product (decode (now first)) (decode (now second))) .rules)) ≤ length (now out)) ⌝ }
-    ensures { λ r. ⌜ Laid (now (out .entry)) (now (out .exit)) at r (concatMap encodeRule ((product (decode (now (first .entry))) (decode (now (second .entry)))) .rules)) ⌝ }
+fn put_pair_rules(out: &mut [u8], at: usize, form: Form, first: &[u8], second: &[u8]) -> usize
+    requires { ⌜ Ready (now first) (now second) (product (decode (now first)) (decode (now second))) × (at + length (concatMap (encodeRule form) ((product (decode (now first)) (decode (now second))) .rules)) ≤ length (now out)) ⌝ }
+    ensures { λ r. ⌜ Laid (now (out .entry)) (now (out .exit)) at r (concatMap (encodeRule form) ((product (decode (now (first .entry))) (decode (now (second .entry)))) .rules)) ⌝ }
 {
     let mut scratch = [0u64; MOST_KEYS];
     let mut keys = [0u64; MOST_KEYS];
     let n = product_keys(first, second, &mut scratch, &mut keys);
-    put_rules(out, at, &keys[..n])
+    put_rules(out, at, form, first, &keys[..n])
 }
 
 // A union: header and symbols, the first's states, the second's, rules.
@@ -113,7 +113,7 @@ pub(crate) fn put_union(
     let at = put_front(out, form, first, size);
     let firsts = put_states(out, at, form, first, 0);
     let states = put_states(out, firsts, form, second, automaton::header(first).tags);
-    put_union_rules(out, states, first, second)
+    put_union_rules(out, states, form, first, second)
 }
 
 // A product: header and symbols, states, rules.
@@ -129,5 +129,5 @@ pub(crate) fn put_product(
 {
     let at = put_front(out, form, first, size);
     let states = put_pair_states(out, at, form, first, second);
-    put_pair_rules(out, states, first, second)
+    put_pair_rules(out, states, form, first, second)
 }

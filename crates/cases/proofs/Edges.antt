@@ -9,10 +9,10 @@ use Rattle.model.specs.Limits.{maxSteps}
 use Rattle.model.specs.Lists.{allBelow}
 use Rattle.model.specs.Tree.{levels}
 use Rattle.model.specs.Refusal.{demand}
-use Rattle.automaton.specs.Form.{tagsWidth, stateWidth}
+use Rattle.automaton.specs.Form.{tagsWidth, stateWidth, ruleNumbers, ruleWidth, keptMask}
 use Rattle.automaton.specs.Stored.{word, symbolByte, formOf, finalByte, tagsAt, tagsOf, ruleWord}
 use Rattle.automaton.specs.Encode.{encodeHeader}
-use Rattle.automaton.specs.Check.{countsOk, offsetsOk, symbolOk, stateOk, placeOk, ruleOk, keyWord, ascendsAt, checkOf}
+use Rattle.automaton.specs.Check.{countsOk, offsetsOk, symbolOk, stateOk, placeOk, ruleOk, keyWord, ascendsAt, forgetOk, checkOf}
 use Rattle.document.specs.Check.{counted?, levelsCheckOf}
 use Rattle.model.proofs.Tab.{length-tab}
 use Rattle.runs.specs.Steps.{stepCells, stepIn}
@@ -30,7 +30,7 @@ unfolding steps?
 by-length cells = ap (λ n. leb 1 n && (leb n maxSteps && eqb (length cells % stepCells) 0)) (length-tab (length cells / stepCells) (stepIn cells))
 
 pub edges : Edges
-unfolding allBelow levels demand word symbolByte tagsWidth stateWidth formOf finalByte tagsAt tagsOf ruleWord encodeHeader countsOk offsetsOk symbolOk stateOk placeOk ruleOk keyWord ascendsAt checkOf counted? levelsCheckOf roomOf lines blank? trimmed lineAt lineCount letter? digit? nameByte? name? nameOf digits defaultName shownName lineFits? listFits? new? distinct? namesCheckOf onWindows
+unfolding allBelow levels demand word symbolByte tagsWidth stateWidth ruleNumbers ruleWidth keptMask formOf finalByte tagsAt tagsOf ruleWord encodeHeader countsOk offsetsOk symbolOk stateOk placeOk ruleOk keyWord ascendsAt forgetOk checkOf counted? levelsCheckOf roomOf lines blank? trimmed lineAt lineCount letter? digit? nameByte? name? nameOf digits defaultName shownName lineFits? listFits? new? distinct? namesCheckOf onWindows
 edges =
     record {
       symbols = (refl, refl, refl);

@@ -1,5 +1,5 @@
 -- Every entry point answers for one of two stored sets that stand for one automaton as it answers for the other, and leaves the same in the lent spaces, and
--- the programs print the same; so it is for a set and the set moved to the other form (`moved-same` of `forms`). Assumes nothing.
+-- the programs print the same; so it is for a set and the set moved to the other form (`moved-same` of `forms`). Union and product also go by whether the forms have a place for what rules forget. Assumes nothing.
 use mathlib.Core.Path.{_≡_, refl, sym, ap, _∙_, subst}
 use mathlib.Core.List.{List, [], _++_}
 use mathlib.Core.Option.{Option, none, some}
@@ -16,7 +16,9 @@ use Rattle.model.specs.Build.{rowsOf}
 use Rattle.model.specs.Witness.{witness}
 use Rattle.model.specs.Refusal.{Answer, gives, refuses, unless}
 use Rattle.model.specs.Annotation.{annotations, accepts?}
-use Rattle.automaton.specs.Stored.{word, statedTotal, decode}
+use Rattle.automaton.specs.declared.Form.{Form}
+use Rattle.automaton.specs.declared.Form.the-variants.{Narrow, Wide}
+use Rattle.automaton.specs.Stored.{word, statedTotal, formOf, decode}
 use Rattle.automaton.specs.Check.{checkOf}
 use Rattle.document.specs.Rows.{rowCells, decodeRows, encodeRows}
 use Rattle.document.specs.Check.{documentCheckOf}
@@ -25,7 +27,7 @@ use Rattle.runs.specs.Check.{checkRunOf}
 use Rattle.membership.specs.Judge.{judgeCheckOf, workAfter, Judging, RunAfter}
 use Rattle.membership.specs.declared.Judged.{Judged}
 use Rattle.membership.specs.declared.Judged.the-variants.{Yes, No, Refused}
-use Rattle.boolean.specs.Combine.{combineCheckOf}
+use Rattle.boolean.specs.Combine.{isolating?, resultForm, combineCheckOf}
 use Rattle.boolean.specs.Answer.{combinedOf, combinedSpace}
 use Rattle.emptiness.specs.Answer.{witnessCheckOf, emptinessOf}
 use Rattle.emptiness.specs.Answer.{spaceAfter as witnessSpace}
@@ -33,7 +35,8 @@ use Rattle.term.specs.Read.{Reading, rowsRead, refusedAt, readOf}
 use Rattle.spelling.specs.Write.{writeOf}
 use Rattle.console.specs.Output.{maxInput, textSpace, liveLines, sampleLines, sampleOutput, rowsLine, readLine, judgedLine, judgeOutput}
 use Rattle.automaton.proofs.Passes.{Passes, passes}
-use Rattle.forms.specs.Move.{SameSet}
+use Rattle.forms.specs.Move.{movedOf, SameSet}
+use Rattle.forms.proofs.Meaning.{Between, widening, narrowing, moved, moved-from, moved-form}
 
 -- a set and a text behind it are told apart by the total that the header states
 total-behind : (s : List ℕ) → Passes s → (text : List ℕ) → statedTotal (s ++ text) ≡ length s
@@ -85,6 +88,8 @@ module _ (s s′ : List ℕ) (m : SameSet s s′) where
     handed = handed-alike cells run run′ r (j .handed);
     accepted = rw (← m .decoded) (j .accepted);
     rejected = rw (← m .decoded) (j .rejected);
+    isolates = rw (← m .decoded) (j .isolates);
+    isolates-not = rw (← m .decoded) (j .isolates-not);
     recognized = rw (← m .decoded) (j .recognized);
     unrecognized = rw (← m .decoded) (j .unrecognized);
   }
@@ -138,12 +143,23 @@ module _ (s s′ : List ℕ) (m : SameSet s s′) where
   pub same-verdict : checkOf s ≡ 0 → (text : List ℕ) → length (s ++ text) ≤ maxInput → length (s′ ++ text) ≤ maxInput → judgeOutput (s ++ text) ≡ judgeOutput (s′ ++ text)
   same-verdict h text l l′ = verdict s h text l ∙ same-line text ∙ sym (verdict s′ (sym (m .checked) ∙ h) text l′)
 
--- union and product of two sets, each in any form
-module _ (result : Automaton → Automaton → Automaton) (s s′ t t′ : List ℕ) (m : SameSet s s′) (n : SameSet t t′) where
+-- union and product of two sets, each in a form with a place for what rules forget where the other is
+module _ (result : Automaton → Automaton → Automaton) (s s′ t t′ : List ℕ) (m : SameSet s s′) (n : SameSet t t′) (p : isolating? (formOf s) ≡ isolating? (formOf s′)) (q : isolating? (formOf t) ≡ isolating? (formOf t′)) where
   pub same-combined : (space : List ℕ) → combinedOf result s t space ≡ combinedOf result s′ t′ space
-  unfolding combineCheckOf
-  same-combined space = rw (m .checked, m .decoded, n .checked, n .decoded)
+  unfolding combineCheckOf resultForm
+  same-combined space = rw (m .checked, m .decoded, n .checked, n .decoded, p, q)
 
   pub same-result : (space : List ℕ) → combinedSpace result s t space ≡ combinedSpace result s′ t′ space
-  unfolding combineCheckOf
-  same-result space = rw (m .checked, m .decoded, n .checked, n .decoded)
+  unfolding combineCheckOf resultForm
+  same-result space = rw (m .checked, m .decoded, n .checked, n .decoded, p, q)
+
+-- so it is for a set and the set moved, by either move
+module _ (from to : Form) (between : Between from to) (alike : isolating? from ≡ isolating? to) (set space : List ℕ) (n : ℕ) (e : movedOf from to set space ≡ gives n) where
+  pub same-place : isolating? (formOf set) ≡ isolating? (formOf (moved from to between set space n e))
+  same-place = ap isolating? (moved-from from to between set space n e) ∙ alike ∙ sym (ap isolating? (moved-form from to between set space n e))
+
+pub widened-place : (set space : List ℕ) (n : ℕ) (e : movedOf Narrow Wide set space ≡ gives n) → isolating? (formOf set) ≡ isolating? (formOf (moved Narrow Wide widening set space n e))
+widened-place = same-place Narrow Wide widening refl
+
+pub narrowed-place : (set space : List ℕ) (n : ℕ) (e : movedOf Wide Narrow set space ≡ gives n) → isolating? (formOf set) ≡ isolating? (formOf (moved Wide Narrow narrowing set space n e))
+narrowed-place = same-place Wide Narrow narrowing refl

@@ -18,9 +18,9 @@ use Rattle.model.specs.Run.{Accepts}
 use Rattle.model.specs.Annotation.{annotations}
 use Rattle.model.specs.Build.{addTree, addForest, rowsOf}
 use Rattle.model.proofs.Below.{at}
-use Rattle.automaton.specs.Form.{tagsWidth, stateWidth}
-use Rattle.automaton.specs.Stored.{word, symbolByte, formOf, finalByte, tagsAt, tagsOf, ruleWord, placeOf, decode}
-use Rattle.automaton.specs.Check.{countsOk, offsetsOk, symbolOk, stateOk, placeOk, ruleOk, keyWord, ascendsAt, checkOf}
+use Rattle.automaton.specs.Form.{tagsWidth, stateWidth, ruleNumbers, ruleWidth, keptMask}
+use Rattle.automaton.specs.Stored.{word, symbolByte, formOf, finalByte, tagsAt, tagsOf, ruleWord, placeOf, forgetOf, decode}
+use Rattle.automaton.specs.Check.{countsOk, offsetsOk, symbolOk, stateOk, placeOk, ruleOk, keyWord, ascendsAt, forgetOk, checkOf}
 use Rattle.document.specs.Rows.{cellIn, encodeRows}
 use Rattle.document.specs.Check.{counted?, known?, placeIn, child?, children?, scalarFits?, formCheckOf, fresh?, distinctCheckOf, used?, usedCheckOf, levelsCheckOf, tableCheckOf}
 use Rattle.names.specs.Lines.{lines}
@@ -88,7 +88,7 @@ run = 64 * stepCells
 
 -- every definition on the way of the judge, and of the reader, is open
 unfoldable judged : List Row → Answer Bool
-unfolding answered allBelow anyBelow placeOf levels highest demand andAfter unless addTree addForest rowsOf word symbolByte tagsWidth stateWidth formOf finalByte tagsAt tagsOf ruleWord decode countsOk offsetsOk symbolOk stateOk placeOk ruleOk keyWord ascendsAt checkOf cellIn counted? known? placeIn child? children? scalarFits? formCheckOf fresh? distinctCheckOf uses? used? usedCheckOf levelsCheckOf tableCheckOf roomOf judgeCheckOf jsonArity
+unfolding answered allBelow anyBelow placeOf levels highest demand andAfter unless addTree addForest rowsOf word symbolByte tagsWidth stateWidth ruleNumbers ruleWidth keptMask formOf finalByte tagsAt tagsOf ruleWord forgetOf decode countsOk offsetsOk symbolOk stateOk placeOk ruleOk keyWord ascendsAt forgetOk checkOf cellIn counted? known? placeIn child? children? scalarFits? formCheckOf fresh? distinctCheckOf uses? used? usedCheckOf levelsCheckOf tableCheckOf roomOf judgeCheckOf jsonArity
 judged rows = answerOf set (encodeRows rows) work run
 
 sound : checkOf set ≡ 0

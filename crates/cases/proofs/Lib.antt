@@ -3,6 +3,7 @@ pub mod Stars
 pub mod Papers
 pub mod Edges
 pub mod SixteenTags
+pub mod EqualPairs
 pub mod EitherForm
 pub mod Zeros
 pub mod JudgedJson

@@ -4,12 +4,12 @@ use mathlib.Core.Bool.{true, false}
 use Rattle.model.specs.Lists.{allBelow, anyBelow}
 use Rattle.model.specs.Papers.{Papers, papers?}
 use Rattle.model.proofs.Papers.{papers-exactly}
-use Rattle.automaton.specs.Form.{tagsWidth, stateWidth}
-use Rattle.automaton.specs.Stored.{word, symbolByte, formOf, finalByte, tagsAt, tagsOf, ruleWord, placeOf, decode}
+use Rattle.automaton.specs.Form.{tagsWidth, stateWidth, ruleNumbers, ruleWidth, keptMask}
+use Rattle.automaton.specs.Stored.{word, symbolByte, formOf, finalByte, tagsAt, tagsOf, ruleWord, placeOf, forgetOf, decode}
 use Rattle.cases.specs.Sets.{setE, setG, setEB}
 
 pub of-papers : (papers? (decode setE) ≡ true) × (papers? (decode setG) ≡ true)
-unfolding allBelow anyBelow word symbolByte tagsWidth stateWidth formOf finalByte tagsAt tagsOf ruleWord placeOf decode
+unfolding allBelow anyBelow word symbolByte tagsWidth stateWidth ruleNumbers ruleWidth keptMask formOf finalByte tagsAt tagsOf ruleWord placeOf forgetOf decode
 of-papers = (refl, refl)
 
 -- the condition of the theorem `papers` is met
@@ -21,5 +21,5 @@ papers-G = papers-exactly (decode setG) .0 (of-papers .1)
 
 -- E and B demanded together is none of them: its tag is on three states
 pub not-of-papers : papers? (decode setEB) ≡ false
-unfolding allBelow anyBelow word symbolByte tagsWidth stateWidth formOf finalByte tagsAt tagsOf ruleWord placeOf decode
+unfolding allBelow anyBelow word symbolByte tagsWidth stateWidth ruleNumbers ruleWidth keptMask formOf finalByte tagsAt tagsOf ruleWord placeOf forgetOf decode
 not-of-papers = refl

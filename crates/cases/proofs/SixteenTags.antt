@@ -2,16 +2,16 @@
 use mathlib.Core.Path.{refl}
 use Rattle.model.specs.Lists.{allBelow}
 use Rattle.model.specs.Refusal.{demand, andAfter, unless}
-use Rattle.automaton.specs.Form.{tagsWidth, stateWidth}
-use Rattle.automaton.specs.Stored.{word, formOf, symbolByte, finalByte, tagsAt, tagsOf, ruleWord, placeOf, decode}
-use Rattle.automaton.specs.Encode.{encodeHeader, encodeSymbol, encodeTags, encodeState, encodePlaces, encode}
-use Rattle.automaton.specs.Check.{countsOk, offsetsOk, symbolOk, stateOk, placeOk, ruleOk, keyWord, ascendsAt, checkOf}
-use Rattle.boolean.specs.Combine.{sameSymbols, withinLimits, resultCheckOf, combineCheckOf}
+use Rattle.automaton.specs.Form.{tagsWidth, stateWidth, ruleNumbers, ruleWidth, keptMask}
+use Rattle.automaton.specs.Stored.{word, formOf, symbolByte, finalByte, tagsAt, tagsOf, ruleWord, placeOf, forgetOf, decode}
+use Rattle.automaton.specs.Encode.{encodeHeader, encodeSymbol, encodeTags, encodeState, maskNumbers, encodePlaces, encode}
+use Rattle.automaton.specs.Check.{countsOk, offsetsOk, symbolOk, stateOk, placeOk, ruleOk, keyWord, ascendsAt, forgetOk, checkOf}
+use Rattle.boolean.specs.Combine.{resultForm, sameSymbols, withinLimits, resultCheckOf, combineCheckOf}
 use Rattle.forms.specs.Move.{moveCheckOf}
 use Rattle.cases.specs.SixteenTags.{SixteenTags}
 
 pub sixteen-tags : SixteenTags
-unfolding allBelow demand andAfter unless tagsWidth stateWidth word formOf symbolByte finalByte tagsAt tagsOf ruleWord placeOf decode encodeHeader encodeSymbol encodeTags encodeState encodePlaces encode countsOk offsetsOk symbolOk stateOk placeOk ruleOk keyWord ascendsAt checkOf sameSymbols withinLimits resultCheckOf combineCheckOf moveCheckOf
+unfolding allBelow demand andAfter unless tagsWidth stateWidth ruleNumbers ruleWidth keptMask word formOf symbolByte finalByte tagsAt tagsOf ruleWord placeOf forgetOf decode encodeHeader encodeSymbol encodeTags encodeState maskNumbers encodePlaces encode countsOk offsetsOk symbolOk stateOk placeOk ruleOk keyWord ascendsAt forgetOk checkOf resultForm sameSymbols withinLimits resultCheckOf combineCheckOf moveCheckOf
 sixteen-tags =
     record {
       forms = (refl, refl, refl, refl);

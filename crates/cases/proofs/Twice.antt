@@ -32,7 +32,7 @@ B = record {
   arities = 2 ∷ 0 ∷ 0 ∷ [];
   states = record { final = false; mask = 0 } ∷ record { final = false; mask = 0 } ∷ record { final = true; mask = 0 } ∷ [];
   tags = 0;
-  rules = record { symbol = 0; children = 0 ∷ 1 ∷ []; target = 2 } ∷ record { symbol = 1; children = []; target = 0 } ∷ record { symbol = 1; children = []; target = 1 } ∷ [];
+  rules = record { symbol = 0; children = 0 ∷ 1 ∷ []; target = 2; forget = 0 } ∷ record { symbol = 1; children = []; target = 0; forget = 0 } ∷ record { symbol = 1; children = []; target = 1; forget = 0 } ∷ [];
 }
 
 abbrev rows : List Row

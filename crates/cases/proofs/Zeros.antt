@@ -7,9 +7,9 @@ use Rattle.model.specs.Lists.{allBelow, anyBelow, uses?}
 use Rattle.model.specs.Tree.{levels, highest}
 use Rattle.model.specs.Refusal.{demand, andAfter, unless}
 use Rattle.model.specs.Build.{addTree, addForest, rowsOf}
-use Rattle.automaton.specs.Form.{tagsWidth, stateWidth}
-use Rattle.automaton.specs.Stored.{word, symbolByte, formOf, finalByte, tagsAt, tagsOf, ruleWord, placeOf, decode}
-use Rattle.automaton.specs.Check.{countsOk, offsetsOk, symbolOk, stateOk, placeOk, ruleOk, keyWord, ascendsAt, checkOf}
+use Rattle.automaton.specs.Form.{tagsWidth, stateWidth, ruleNumbers, ruleWidth, keptMask}
+use Rattle.automaton.specs.Stored.{word, symbolByte, formOf, finalByte, tagsAt, tagsOf, ruleWord, placeOf, forgetOf, decode}
+use Rattle.automaton.specs.Check.{countsOk, offsetsOk, symbolOk, stateOk, placeOk, ruleOk, keyWord, ascendsAt, forgetOk, checkOf}
 use Rattle.document.specs.Rows.{cellIn}
 use Rattle.document.specs.Check.{counted?, known?, placeIn, child?, children?, scalarFits?, formCheckOf, fresh?, distinctCheckOf, used?, usedCheckOf, levelsCheckOf, tableCheckOf}
 use Rattle.names.specs.Lines.{lines, blank?, trimmed, lineAt, lineCount}
@@ -26,7 +26,7 @@ use Rattle.membership.specs.Judge.{judgeCheckOf}
 use Rattle.cases.specs.Zeros.{TwoZeros}
 
 pub two-zeros : TwoZeros
-unfolding allBelow anyBelow placeOf levels highest demand andAfter unless addTree addForest rowsOf word symbolByte tagsWidth stateWidth formOf finalByte tagsAt tagsOf ruleWord decode countsOk offsetsOk symbolOk stateOk placeOk ruleOk keyWord ascendsAt checkOf cellIn counted? known? placeIn child? children? scalarFits? formCheckOf fresh? distinctCheckOf uses? used? usedCheckOf levelsCheckOf tableCheckOf lines blank? trimmed lineAt lineCount letter? digit? nameByte? name? nameOf digits defaultName shownName firstBelow findIn lineFits? listFits? new? distinct? namesCheckOf leading nameBytes nameAt wordBytes wordAt digitsFrom numberAt hexDigit? hexValue hexFrom valueAt scalarAt endTerm readArgs readTerm readText readOf roomOf judgeCheckOf oneZero signDigit? zerosOne hexDigit hexDigits scalarText termText fitted writeOf ofBits ofFields odd trailingZeros neg eq
+unfolding allBelow anyBelow placeOf levels highest demand andAfter unless addTree addForest rowsOf word symbolByte tagsWidth stateWidth ruleNumbers ruleWidth keptMask formOf finalByte tagsAt tagsOf ruleWord forgetOf decode countsOk offsetsOk symbolOk stateOk placeOk ruleOk keyWord ascendsAt forgetOk checkOf cellIn counted? known? placeIn child? children? scalarFits? formCheckOf fresh? distinctCheckOf uses? used? usedCheckOf levelsCheckOf tableCheckOf lines blank? trimmed lineAt lineCount letter? digit? nameByte? name? nameOf digits defaultName shownName firstBelow findIn lineFits? listFits? new? distinct? namesCheckOf leading nameBytes nameAt wordBytes wordAt digitsFrom numberAt hexDigit? hexValue hexFrom valueAt scalarAt endTerm readArgs readTerm readText readOf roomOf judgeCheckOf oneZero signDigit? zerosOne hexDigit hexDigits scalarText termText fitted writeOf ofBits ofFields odd trailingZeros neg eq
 two-zeros =
     record {
       float = (refl, refl, refl);

@@ -2,4 +2,5 @@ pub mod Sets
 pub mod Cases
 pub mod Edges
 pub mod SixteenTags
+pub mod EqualPairs
 pub mod Zeros

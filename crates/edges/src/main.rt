@@ -1,4 +1,4 @@
-// The cases and edges of document 01, section "Examples, with the edges", and the byte classes, the two zeros and the wide form of document 02, run: a line for each, and `stdout` has what the papers say.
+// The cases and edges of document 01, section "Examples, with the edges", and the byte classes, the two zeros, the wide form and the lists of equal pairs of document 02, run: a line for each, and `stdout` has what the papers say.
 ghost use Prim.Native.Nat.{_≤_};
 use automaton::Checked;
 use automaton::Written;
@@ -36,6 +36,15 @@ const D: [u8; 33] =
 // Set B, untagged: a to 0, a to 1, pair(0,1) to 2, 2 final.
 const B: [u8; 61] =
     *b"\x03\x00\x03\x00\x00\x00\x03\x00\x10\x00\x13\x00\x19\x00\x3d\x00\x02\x00\x00\x00\x00\x00\x00\x01\x00\x00\x00\x02\x00\x00\x00\x01\x00\xff\xff\xff\xff\x01\x00\x00\x00\xff\xff\xff\xff\xff\xff\xff\xff\x01\x00\x01\x00\xff\xff\xff\xff\xff\xff\xff\xff";
+
+// Set P, lists of equal pairs: state 0 with tag 0, state 2 final; p(0,0) to 1, which forgets tag 0, cons(1,2) to 2, nil to 2, a to 0.
+const P: [u8; 85] =
+    *b"\x04\x00\x03\x00\x01\x00\x04\x00\x10\x00\x14\x00\x1d\x00\x55\x00\x02\x02\x00\x00\x00\x01\x00\x00\x00\x00\x01\x00\x00\x00\x00\x01\x00\x00\x00\x00\x00\xff\xff\xff\xff\x01\x00\x01\x00\x02\x00\x01\x00\x02\x00\xff\xff\xff\xff\x00\x00\x02\x00\x02\x00\xff\xff\xff\xff\xff\xff\xff\xff\x00\x00\x03\x00\x00\x00\xff\xff\xff\xff\xff\xff\xff\xff\x00\x00";
+
+// The byte of P's first rule that has the tags to forget.
+const FORGET: usize = 41;
+
+const TWO_PAIRS: [u8; 38] = *b"s1(s0(s3=1,s3=1),s1(s0(s3=2,s3=2),s2))";
 
 const TWO_ZEROS: [u8; 43] = *b"s0(s1~0000000000000000,s1~8000000000000000)";
 
@@ -279,6 +288,29 @@ fn zeros() {
     say(b"\n");
 }
 
+// Document 02, Wish 9: lists of equal pairs, with the tag forgotten behind each pair and without.
+fn equal_pairs() {
+    judge(b"P, two pairs: ", &P, &TWO_PAIRS);
+    judge(b"P, a pair of unequal parts: ", &P, b"s1(s0(s3=1,s3=2),s2)");
+    sample(b"P at the sample: ", &P);
+    let mut set = P;
+    set[FORGET] = 0;
+    judge(b"P with nothing forgotten, two pairs: ", &set, &TWO_PAIRS);
+    judge(
+        b"P with nothing forgotten, one pair: ",
+        &set,
+        b"s1(s0(s3=1,s3=1),s2)",
+    );
+    set[FORGET] = 2;
+    say(b"P with a second tag forgotten: ");
+    checked(automaton::check(&set));
+    say(b"P narrowed: ");
+    let mut out = [0u8; 128];
+    moved(forms::narrow_states(&P, &mut out));
+    let n = moved(boolean::product(&P, &P, &mut out));
+    judge(b"P and P, two pairs: ", &out[..n], &TWO_PAIRS);
+}
+
 // What the test of class k says of a byte.
 fn is_member(table: &[u8; 256], k: u8, b: u8) -> bool {
     match k {
@@ -328,5 +360,6 @@ fn main() {
     table(b"1,024 rows: ", 1024);
     table(b"1,025 rows: ", 1025);
     byte_classes();
+    equal_pairs();
     zeros();
 }

@@ -11,23 +11,38 @@ use Rattle.model.specs.Refusal.{gives, unless}
 use Rattle.model.specs.Run.{Accepts}
 use Rattle.model.specs.Sound.{Sound}
 use Rattle.automaton.specs.declared.Form.{Form}
-use Rattle.automaton.specs.declared.Form.the-variants.{Wide}
-use Rattle.automaton.specs.Form.{tagBits}
+use Rattle.automaton.specs.declared.Form.the-variants.{Narrow, Wide}
+use Rattle.automaton.specs.Form.{tagsWidth, tagBits, keptMask, HasRoom}
 use Rattle.automaton.specs.Stored.{formOf, decode}
 use Rattle.automaton.specs.Check.{checkOf}
 use Rattle.automaton.specs.Encode.{encode, encodedLength}
 use Rattle.automaton.specs.Answer.{Stores}
-use Rattle.automaton.proofs.Sound.{sound-decode}
+use Rattle.automaton.proofs.Sound.{sound-decode, room-own}
+use Rattle.automaton.proofs.Widths.{Told}
 use Rattle.automaton.proofs.Passes.{passes}
 use Rattle.automaton.proofs.Decode.{tags-are}
-use Rattle.automaton.proofs.Encoded.{encode-length, form-place, wide-bits}
+use Rattle.automaton.proofs.Encoded.{encode-length, form-place}
 use Rattle.automaton.proofs.Bytes.{encode-decode}
 use Rattle.automaton.proofs.Answering.{given-length, given-stores}
 use Rattle.forms.specs.Move.{moveCheckOf, movedOf, movedSpace, SameSet}
 use Rattle.forms.proofs.Moving.{Movable, movable, not-refused}
 
+-- Two forms between which sets are moved: each has a place for the masks that the other has a place for, and is told by the header whatever the rules are.
+pub record Between (from to : Form) : Type 0 where
+  pub there : (mask : ℕ) → keptMask from mask ≡ mask → keptMask to mask ≡ mask
+  pub back : (mask : ℕ) → keptMask to mask ≡ mask → keptMask from mask ≡ mask
+  pub told : (R : ℕ) → Told to R
+
+pub widening : Between Narrow Wide
+unfolding keptMask
+widening = record { there = λ mask e. e; back = λ mask e. e; told = λ R. tt }
+
+pub narrowing : Between Wide Narrow
+unfolding keptMask
+narrowing = record { there = λ mask e. e; back = λ mask e. e; told = λ R. tt }
+
 -- Where a move answers a length, so many bytes at the front of the space ..
-module _ (from to : Form) (set space : List ℕ) (n : ℕ) (e : movedOf from to set space ≡ gives n) where
+module _ (from to : Form) (between : Between from to) (set space : List ℕ) (n : ℕ) (e : movedOf from to set space ≡ gives n) where
   abbrev A : Automaton
   A = decode set
 
@@ -43,19 +58,28 @@ module _ (from to : Form) (set space : List ℕ) (n : ℕ) (e : movedOf from to 
   its-sound : Sound A
   its-sound = sound-decode set (its-movable .sound)
 
+  its-room : HasRoom to A
+  its-room = record {
+    bits = its-movable .bits;
+    masks = λ r m. between .there (r .forget) (subst (λ (form : Form). keptMask form (r .forget) ≡ r .forget) (its-movable .form) (room-own set (its-movable .sound) .masks r m));
+  }
+
   its-bytes : moved ≡ encode to A
   its-bytes = given-length to A space number n e .2
 
   -- .. are a sound set that stands for the same automaton ..
   pub moved-stores : Stores moved (decode set)
-  moved-stores = given-stores to A space number n e its-sound (its-movable .bits)
+  moved-stores = given-stores to A space number n e its-sound its-room
 
   pub moved-same : SameSet set moved
   moved-same = record { checked = its-movable .sound ∙ sym (moved-stores .sound); decoded = sym (moved-stores .decoded) }
 
+  pub moved-from : formOf set ≡ from
+  moved-from = its-movable .form
+
   -- .. in the other form ..
   pub moved-form : formOf moved ≡ to
-  moved-form = ap formOf its-bytes ∙ form-place to A its-sound (its-movable .bits)
+  moved-form = ap formOf its-bytes ∙ form-place to A its-sound (record { room = its-room; told = between .told (length (A .rules)) })
 
   -- .. and accept the same trees.
   pub moved-accepts : (t : Tree) → Accepts (decode moved) t ↔ Accepts (decode set) t
@@ -92,4 +116,5 @@ module _ (from to : Form) (set space : List ℕ) (n : ℕ) (e : movedOf from to 
 
 -- Widening never meets 8: a sound set has few enough tags for the wide form.
 pub wide-enough : (set : List ℕ) → checkOf set ≡ 0 → (decode set) .tags ≤ tagBits Wide
-wide-enough set h = wide-bits (decode set) (sound-decode set h)
+unfolding tagsWidth
+wide-enough set h = sound-decode set h .few-tags

@@ -4,15 +4,15 @@ use mathlib.Core.Bool.{true}
 use mathlib.Core.List.{List, [], _++_, map, append-nil}
 use Prim.Native.Nat.{ℕ, zero, suc, _≤_}
 use native.Mathlib.Omega.{arith}
-use borrow.Author.Tests.{leb-true, le-leb}
-use lib.Dec.{T, leb}
+use borrow.Author.Tests.{leb-true, le-leb, eqb-true, eq-eqb}
+use lib.Dec.{leb}
 use lib.ListN.{length, drop}
 use Rattle.model.specs.Automaton.{State, Automaton}
 use Rattle.model.specs.Boolean.{shiftState}
 use Rattle.model.specs.Lists.{concatMap}
 use Rattle.model.specs.Refusal.{andAfter}
 use Rattle.automaton.specs.declared.Form.{Form}
-use Rattle.automaton.specs.declared.Form.the-variants.{Narrow, Wide}
+use Rattle.automaton.specs.declared.Form.the-variants.{Narrow, Wide, Isolating}
 use Rattle.automaton.specs.Form.{tagBits, totalLength}
 use Rattle.automaton.specs.Stored.{formOf, decode}
 use Rattle.automaton.specs.Check.{checkOf}
@@ -21,7 +21,7 @@ use Rattle.automaton.proofs.Encoded.{header, encode-length, encode-parts}
 use Rattle.automaton.proofs.Passes.{met, meets}
 use Rattle.automaton.proofs.Put.{Writing, writing-none, writing-more, writing-length, writing-all}
 use Rattle.automaton.proofs.Shifted.{states-zero}
-use Rattle.forms.specs.Move.{sameForm, moveCheckOf}
+use Rattle.forms.specs.Move.{formNumber, sameForm, moveCheckOf}
 
 -- A set is put: header, symbols, states, rules.
 module _ (form : Form) (A : Automaton) (space : List ℕ) (room : encodedLength form A ≤ length space) where
@@ -32,7 +32,7 @@ module _ (form : Form) (A : Automaton) (space : List ℕ) (room : encodedLength 
   states = encodeStates form (A .states)
 
   abbrev rules : List ℕ
-  rules = concatMap encodeRule (A .rules)
+  rules = concatMap (encodeRule form) (A .rules)
 
   begun : Writing space (encode form A) space 0 (header form A ++ (symbols ++ (states ++ (rules ++ []))))
   begun =
@@ -66,15 +66,21 @@ header-put form A S Q T R es eq et er out one a p =
 pub counted : (form : Form) (A : Automaton) (S Q R : ℕ) → S ≡ length (A .arities) → Q ≡ length (A .states) → R ≡ length (A .rules) → totalLength form S Q R ≡ encodedLength form A
 counted form A S Q R es eq er = cc
 
-pub form-told : (a b : Form) → sameForm a b ≡ true → a ≡ b
-form-told Narrow Narrow e = refl
-form-told Narrow Wide e = absurd (subst T (sym e) tt)
-form-told Wide Narrow e = absurd (subst T (sym e) tt)
-form-told Wide Wide e = refl
+same-told : (a b : Form) → sameForm a b ≡ true → a ≡ b
+same-told a b e = sym (form-back a) ∙ ap formOfNumber (eqb-true (formNumber a) (formNumber b) e) ∙ form-back b
+  where
+    formOfNumber : ℕ → Form
+    formOfNumber zero = Narrow
+    formOfNumber (suc zero) = Wide
+    formOfNumber (suc (suc n)) = Isolating
+
+    form-back : (a : Form) → formOfNumber (formNumber a) ≡ a
+    form-back Narrow = refl
+    form-back Wide = refl
+    form-back Isolating = refl
 
 form-same : (a : Form) → sameForm a a ≡ true
-form-same Narrow = refl
-form-same Wide = refl
+form-same a = eq-eqb (formNumber a) (formNumber a) refl
 
 after-none : (k rest : ℕ) → andAfter k rest ≡ 0 → (k ≡ 0) × (rest ≡ 0)
 unfolding andAfter
@@ -97,7 +103,7 @@ movable from to set space h =
     let four = met (leb (encodedLength to (decode set)) space) 52 _ (three .1) in
     record {
       sound = one .0;
-      form = form-told (formOf set) from (two .0);
+      form = same-told (formOf set) from (two .0);
       bits = leb-true ((decode set) .tags) (tagBits to) (three .0);
       room = leb-true (encodedLength to (decode set)) space (four .0);
     }

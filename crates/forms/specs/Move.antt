@@ -1,24 +1,26 @@
--- A set moved from one stored form to another: which number refuses it, what is answered, and the space (document 02, Wish 2). Assumes nothing.
+-- A set moved from one stored form to another: which number refuses it, what is answered, and the space (document 02, Wishes 2 and 9). Assumes nothing.
 use mathlib.Core.Path.{_≡_}
 use mathlib.Core.List.{List}
-use mathlib.Core.Bool.{Bool, true, false}
+use mathlib.Core.Bool.{Bool}
 use Prim.Native.Nat.{ℕ}
-use lib.Dec.{leb}
+use lib.Dec.{leb, eqb}
 use lib.ListN.{length}
 use Rattle.model.specs.Refusal.{Answer, demand, andAfter, unless}
 use Rattle.automaton.specs.declared.Form.{Form}
-use Rattle.automaton.specs.declared.Form.the-variants.{Narrow, Wide}
+use Rattle.automaton.specs.declared.Form.the-variants.{Narrow, Wide, Isolating}
 use Rattle.automaton.specs.Form.{tagBits}
 use Rattle.automaton.specs.Stored.{formOf, decode}
 use Rattle.automaton.specs.Check.{checkOf}
 use Rattle.automaton.specs.Encode.{encodedLength, spaceOf}
 
 -- two forms are the same
+abbrev pub formNumber : Form → ℕ
+formNumber Narrow = 0
+formNumber Wide = 1
+formNumber Isolating = 2
+
 abbrev pub sameForm : Form → Form → Bool
-sameForm Narrow Narrow = true
-sameForm Narrow Wide = false
-sameForm Wide Narrow = false
-sameForm Wide Wide = true
+sameForm a b = eqb (formNumber a) (formNumber b)
 
 -- The number for a set to be moved to another form in a space of so many bytes, 0 for none: the set's own; 18 where it is not in the form that the move
 -- starts from; 8 where it has more tags than the other form has bits for; 53.

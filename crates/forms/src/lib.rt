@@ -7,7 +7,7 @@ ghost use Rattle.automaton.specs.declared.Form.the-variants.{Narrow, Wide};
 ghost use Rattle.automaton.specs.Stored.{decode};
 ghost use Rattle.automaton.specs.Encode.{encode, encodedLength};
 ghost use Rattle.automaton.specs.Answer.{writtenAnswer};
-ghost use Rattle.forms.specs.Move.{sameForm, moveCheckOf, movedOf, movedSpace};
+ghost use Rattle.forms.specs.Move.{formNumber, sameForm, moveCheckOf, movedOf, movedSpace};
 use automaton::Checked;
 use automaton::Form;
 use automaton::Written;
@@ -18,19 +18,20 @@ use automaton::layout::tag_bits;
 use automaton::layout::total_length;
 use automaton::write::put_header;
 
+fn form_number(form: Form) -> u16
+    ensures { λ r. ⌜ r ≡ formNumber form ⌝ }
+{
+    match form {
+        Form::Narrow => 0,
+        Form::Wide => 1,
+        Form::Isolating => 2,
+    }
+}
+
 fn same_form(a: Form, b: Form) -> bool
     ensures { λ r. ⌜ r ≡ sameForm a b ⌝ }
 {
-    match a {
-        Form::Narrow => match b {
-            Form::Narrow => true,
-            Form::Wide => false,
-        },
-        Form::Wide => match b {
-            Form::Narrow => false,
-            Form::Wide => true,
-        },
-    }
+    form_number(a) == form_number(b)
 }
 
 // The number for a set to be moved, in a space of so many bytes.
@@ -62,7 +63,7 @@ fn put_set(out: &mut [u8], form: Form, set: &[u8]) -> usize
     let symbols = put_header(out, form, h.symbols, h.states, h.tags, h.rules);
     let states = put_symbols(out, symbols, set);
     let rules = put_states(out, states, form, set, 0);
-    put_rules(out, rules, set)
+    put_rules(out, rules, form, set)
 }
 
 fn moved(from: Form, to: Form, set: &[u8], out: &mut [u8]) -> Written
@@ -84,7 +85,7 @@ pub fn widen_states(set: &[u8], out: &mut [u8]) -> Written
     moved(Form::Narrow, Form::Wide, set, out)
 }
 
-// A wide set of at most 8 tags with one byte for the tags of a state.
+// A wide set of at most 8 tags, its rules without masks, with one byte for the tags of a state.
 pub fn narrow_states(set: &[u8], out: &mut [u8]) -> Written
     ensures answer { λ r. ⌜ writtenAnswer r ≡ movedOf Wide Narrow (now (set .entry)) (now (out .entry)) ⌝ }
     ensures space { λ _. ⌜ now (out .exit) ≡ movedSpace Wide Narrow (now (set .entry)) (now (out .entry)) ⌝ }

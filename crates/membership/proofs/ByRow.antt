@@ -115,7 +115,7 @@ module _ (A : Automaton) (rows : List Row) (sound : Sound A) (table : SoundTable
 
     -- what a rule of the row's symbol asks
     module _ (r : ℕ) (lr : r < length (A .rules)) (same-symbol : (ruleAt A r) .symbol ≡ (rowAt rows i) .symbol) (plan : Plan) (want : Want) (wf : WantFor A plan r want)
-        (er : plan .row .0 ≡ i) (ea : plan .arity ≡ width) (elow : plan .low ≡ lows) (ehigh : plan .high ≡ highs) (own : Memory) (eo : own ≡ ownMemory A ((ruleAt A r) .target) i) where
+        (er : plan .row .0 ≡ i) (ea : plan .arity ≡ width) (et : plan .tags ≡ tags) (elow : plan .low ≡ lows) (ehigh : plan .high ≡ highs) (own : Memory) (eo : own ≡ ownMemory A ((ruleAt A r) .target) i) where
       states-are : length ((ruleAt A r) .children) ≡ width
       states-are = sound .wellformed .as-many (ruleAt A r) (in-getD noRule (A .rules) r lr) ∙ ap (arityOf A) same-symbol ∙ sym ew
 
@@ -130,13 +130,15 @@ module _ (A : Automaton) (rows : List Row) (sound : Sound A) (table : SoundTable
           default (x ∷ l) zero h = refl
           default (x ∷ l) (suc p) h = default l p (omega arith)
 
-      asked : Asked A known want own i ((ruleAt A r) .target) r cs ((ruleAt A r) .children)
+      asked : Asked A known want own i r cs ((ruleAt A r) .children)
       asked =
           let arity-is : want .arity ≡ width = wf .arity ∙ ea in
           record {
             row = wf .row ∙ er;
             target = wf .target;
             rule = wf .rule;
+            forget = wf .forget;
+            tags = wf .tags ∙ et ∙ b .tags-are;
             own-is = eo;
             rows-are = width-is ∙ sym arity-is;
             states-are = states-are ∙ sym arity-is;
@@ -150,12 +152,12 @@ module _ (A : Automaton) (rows : List Row) (sound : Sound A) (table : SoundTable
       rule-found : (empty : Memory) → empty ≡ emptyMemory A → (free : List ℕ) → free ≡ noChildren → found known want own width empty free ≡ step r
       rule-found empty ee free ef =
           let arity-is : want .arity ≡ width = wf .arity ∙ ea in
-          found-made A known want own i ((ruleAt A r) .target) r cs ((ruleAt A r) .children) asked width 0 (omega arith) empty free
-          ∙ ap (λ m. made known (lastStep A i ((ruleAt A r) .target) r) 0 m free cs ((ruleAt A r) .children)) ee
-          ∙ ap (λ c. made known (lastStep A i ((ruleAt A r) .target) r) 0 (emptyMemory A) c cs ((ruleAt A r) .children)) ef
+          found-made A known want own i r cs ((ruleAt A r) .children) asked width 0 (omega arith) empty free
+          ∙ ap (λ m. made known (lastStep A i r) 0 m free cs ((ruleAt A r) .children)) ee
+          ∙ ap (λ c. made known (lastStep A i r) 0 (emptyMemory A) c cs ((ruleAt A r) .children)) ef
           ∙ sym (ap (λ b. only b (ruleEntries A rows known i r)) (eq-eqb ((ruleAt A r) .symbol) ((rowAt rows i) .symbol) same-symbol))
 
-      module _ (high : ℕ) (work : List ℕ) (m : ℕ) (t : Turning step high n room tags (length work₀) list work m r) (et : plan .tags ≡ tags) (eb : plan .base ≡ n) (eroom : plan .room ≡ room) where
+      module _ (high : ℕ) (work : List ℕ) (m : ℕ) (t : Turning step high n room tags (length work₀) list work m r) (eb : plan .base ≡ n) (eroom : plan .room ≡ room) where
         pub rule-ready : Ready want work m
         rule-ready =
             record {

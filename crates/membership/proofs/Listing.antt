@@ -9,10 +9,10 @@ use Rattle.model.specs.Lists.{concatMap, only, any}
 use Rattle.model.specs.Automaton.{Automaton}
 use Rattle.model.specs.Table.{Row, rowAt}
 use Rattle.model.specs.Written.{noRule, ruleAt}
-use Rattle.model.specs.Annotation.{Memory, Annotation, annotation, emptyMemory, agree?, joined, finish, eqAnnotation, memories, choices, byRule, addNew, annotationsBelow}
+use Rattle.model.specs.Annotation.{Memory, Annotation, annotation, emptyMemory, agree?, joined, eqAnnotation, memories, choices, byRule, addNew, annotationsBelow}
 use Rattle.membership.specs.Entries.{Entry, annotationsOf, addEntry, addEntries}
 use Rattle.membership.specs.Search.{span, noAnnotation}
-use Rattle.membership.specs.Listing.{lastStep, taken, made, noChildren, ruleEntries, rowEntries, entriesBelow}
+use Rattle.membership.specs.Listing.{leftOf, lastStep, taken, made, noChildren, ruleEntries, rowEntries, entriesBelow}
 use Rattle.membership.specs.Listing as listing
 use Rattle.membership.proofs.Spans.{concatMap-same, concatMap-append}
 
@@ -52,19 +52,25 @@ over-memories {B} h (a ∷ known) c q =
     go true = append-nil (h (a .memory))
     go false = refl
 
-module _ (A : Automaton) (rows : List Row) (known : List Annotation) (i q r : ℕ) where
+module _ (A : Automaton) (rows : List Row) (known : List Annotation) (i r : ℕ) where
+  abbrev q : ℕ
+  q = (ruleAt A r) .target
+
+  abbrev left : Memory → List Memory
+  left = leftOf A i r
+
   -- what the choices make in the model
   abbrev modelMade : Memory → List ℕ → List ℕ → List Annotation
-  modelMade m cs qs = map (annotation i q) (concatMap (finish A q i) (choices known m cs qs))
+  modelMade m cs qs = map (annotation i q) (concatMap left (choices known m cs qs))
 
-  last-made : (m : Memory) (children : List ℕ) → annotationsOf (lastStep A i q r m children) ≡ modelMade m [] []
-  last-made m children = map-map (finish A q i m) ∙ ap (map (annotation i q)) (sym (append-nil (finish A q i m)))
+  last-made : (m : Memory) (children : List ℕ) → annotationsOf (lastStep A i r m children) ≡ modelMade m [] []
+  last-made m children = map-map (left m) ∙ ap (map (annotation i q)) (sym (append-nil (left m)))
     where
       map-map : (ys : List Memory) → annotationsOf (map (λ y. record { annotation = annotation i q y; rule = r; children = children }) ys) ≡ map (annotation i q) ys
       map-map [] = refl
       map-map (y ∷ ys) = ap (λ (l : List Annotation). annotation i q y ∷ l) (map-map ys)
 
-  made-is : (p : ℕ) (m : Memory) (children cs qs : List ℕ) → annotationsOf (made known (lastStep A i q r) p m children cs qs) ≡ modelMade m cs qs
+  made-is : (p : ℕ) (m : Memory) (children cs qs : List ℕ) → annotationsOf (made known (lastStep A i r) p m children cs qs) ≡ modelMade m cs qs
   unfolding made
   made-is p m children [] [] = last-made m children
   made-is p m children [] (s ∷ qs) = refl
@@ -74,17 +80,17 @@ module _ (A : Automaton) (rows : List Row) (known : List Annotation) (i q r : �
       ∙ concatMap-same (λ j. annotationsOf (taken known p c s next m children j)) (λ j. over (getD known j noAnnotation)) 0 (length known)
       (λ j a b. one (getD known j noAnnotation) j (eqb ((getD known j noAnnotation) .row) c) (eqb ((getD known j noAnnotation) .state) s) (agree? m ((getD known j noAnnotation) .memory)) (made-is (suc p) (joined m ((getD known j noAnnotation) .memory)) (set children p j) cs qs))
       ∙ span-list noAnnotation over known
-      ∙ sym (over-memories (λ x. map (annotation i q) (concatMap (finish A q i) (only (agree? m x) (choices known (joined m x) cs qs)))) known c s)
-      ∙ sym (map-concatMap (annotation i q) (λ x. concatMap (finish A q i) (only (agree? m x) (choices known (joined m x) cs qs))) (memories known c s))
-      ∙ ap (map (annotation i q)) (sym (concatMap-concatMap (finish A q i) (λ x. only (agree? m x) (choices known (joined m x) cs qs)) (memories known c s)))
+      ∙ sym (over-memories (λ x. map (annotation i q) (concatMap left (only (agree? m x) (choices known (joined m x) cs qs)))) known c s)
+      ∙ sym (map-concatMap (annotation i q) (λ x. concatMap left (only (agree? m x) (choices known (joined m x) cs qs))) (memories known c s))
+      ∙ ap (map (annotation i q)) (sym (concatMap-concatMap left (λ x. only (agree? m x) (choices known (joined m x) cs qs)) (memories known c s)))
     where
       next : Memory → List ℕ → List Entry
-      next x d = made known (lastStep A i q r) (suc p) x d cs qs
+      next x d = made known (lastStep A i r) (suc p) x d cs qs
 
       over : Annotation → List Annotation
-      over a = only (eqb (a .row) c && eqb (a .state) s) (map (annotation i q) (concatMap (finish A q i) (only (agree? m (a .memory)) (choices known (joined m (a .memory)) cs qs))))
+      over a = only (eqb (a .row) c && eqb (a .state) s) (map (annotation i q) (concatMap left (only (agree? m (a .memory)) (choices known (joined m (a .memory)) cs qs))))
 
-      one : (a : Annotation) (j : ℕ) (b b′ b″ : Bool) → annotationsOf (next (joined m (a .memory)) (set children p j)) ≡ modelMade (joined m (a .memory)) cs qs → annotationsOf (only (b && (b′ && b″)) (next (joined m (a .memory)) (set children p j))) ≡ only (b && b′) (map (annotation i q) (concatMap (finish A q i) (only b″ (choices known (joined m (a .memory)) cs qs))))
+      one : (a : Annotation) (j : ℕ) (b b′ b″ : Bool) → annotationsOf (next (joined m (a .memory)) (set children p j)) ≡ modelMade (joined m (a .memory)) cs qs → annotationsOf (only (b && (b′ && b″)) (next (joined m (a .memory)) (set children p j))) ≡ only (b && b′) (map (annotation i q) (concatMap left (only b″ (choices known (joined m (a .memory)) cs qs))))
       one a j true true true e = e
       one a j true true false e = refl
       one a j true false b″ e = refl
@@ -94,7 +100,7 @@ row-is : (A : Automaton) (rows : List Row) (known : List Annotation) (i : ℕ) �
 row-is A rows known i =
     map-concatMap annotationOf (listing.byRule A rows known i) (span 0 (length (A .rules)))
     ∙ concatMap-same (λ r. annotationsOf (listing.byRule A rows known i r)) (λ r. byRule A rows known i (ruleAt A r)) 0 (length (A .rules))
-    (λ r a b. only-map (eqb ((ruleAt A r) .symbol) ((rowAt rows i) .symbol)) (ruleEntries A rows known i r) ∙ ap (only (eqb ((ruleAt A r) .symbol) ((rowAt rows i) .symbol))) (made-is A rows known i ((ruleAt A r) .target) r 0 (emptyMemory A) noChildren ((rowAt rows i) .children) ((ruleAt A r) .children)))
+    (λ r a b. only-map (eqb ((ruleAt A r) .symbol) ((rowAt rows i) .symbol)) (ruleEntries A rows known i r) ∙ ap (only (eqb ((ruleAt A r) .symbol) ((rowAt rows i) .symbol))) (made-is A rows known i r 0 (emptyMemory A) noChildren ((rowAt rows i) .children) ((ruleAt A r) .children)))
     ∙ span-list noRule (byRule A rows known i) (A .rules)
   where
     only-map : (b : Bool) (es : List Entry) → annotationsOf (only b es) ≡ only b (annotationsOf es)

@@ -17,7 +17,7 @@ use Rattle.model.proofs.Members.{T-true}
 use Rattle.document.specs.Rows.{rowCells, decodeRows}
 use Rattle.document.proofs.Places.{rows-length}
 use Rattle.membership.specs.Cells.{cellOf, childIn}
-use Rattle.membership.specs.Trace.{reached?, KeptBut, ReachedMore, Forgotten, ChildBelow, ChildOf, ChildrenReached, Traced, numberAt, acceptingIn, FirstOf}
+use Rattle.membership.specs.Trace.{reached?, KeptBut, ReachedMore, Unmarked, ChildBelow, ChildOf, ChildrenReached, Traced, numberAt, acceptingIn, FirstOf}
 
 of-true : (b : Bool) → b ≡ true → T b
 of-true b e = T-true b .1 e
@@ -43,34 +43,34 @@ pub reach-more : (work : List ℕ) (j : ℕ) → j * 32 + 32 ≤ length work →
 reach-more work j l = record { kept = put-kept work j 1; this = put-this work j 1 l; others = put-others work j 1 }
 
 -- none of the first k is reached
-pub record Forgetting (before : List ℕ) (n : ℕ) (after : List ℕ) (k : ℕ) : Type 0 where
+pub record Unmarking (before : List ℕ) (n : ℕ) (after : List ℕ) (k : ℕ) : Type 0 where
   pub space : length after ≡ length before
   pub inside : k ≤ n
-  pub forgotten : Forgotten before k after
+  pub unmarked : Unmarked before k after
 
 module _ (before : List ℕ) (n : ℕ) where
-  pub forget-none : Forgetting before n before 0
-  forget-none = record { space = refl; inside = omega arith; forgotten = record { kept = λ i k l other. refl; none = λ j l. let z : ⊥ = omega arith in absurd z } }
+  pub unmark-none : Unmarking before n before 0
+  unmark-none = record { space = refl; inside = omega arith; unmarked = record { kept = λ i k l other. refl; none = λ j l. let z : ⊥ = omega arith in absurd z } }
 
-  pub forget-more : (after : List ℕ) (k : ℕ) → Forgetting before n after k → k < n → n * 32 ≤ length before → Forgetting before n (set after (k * 32 + 26) 0) (k + 1)
-  forget-more after k h l fits =
+  pub unmark-more : (after : List ℕ) (k : ℕ) → Unmarking before n after k → k < n → n * 32 ≤ length before → Unmarking before n (set after (k * 32 + 26) 0) (k + 1)
+  unmark-more after k h l fits =
       record {
         space = length-set after (k * 32 + 26) 0 ∙ h .space;
         inside = omega arith;
-        forgotten = record {
-          kept = λ i c lc other. put-kept after k 0 i c lc other ∙ h .forgotten .kept i c lc other;
+        unmarked = record {
+          kept = λ i c lc other. put-kept after k 0 i c lc other ∙ h .unmarked .kept i c lc other;
           none = λ j m. go j m (ℕ-discrete j k);
         };
       }
     where
       go : (j : ℕ) → j < k + 1 → Dec (j ≡ k) → reached? (set after (k * 32 + 26) 0) j ≡ false
       go j m (yes q) = rw q (put-this after k 0 (omega (arith, h .space)))
-      go j m (no q) = put-others after k 0 j q ∙ h .forgotten .none j (omega (arith, q))
+      go j m (no q) = put-others after k 0 j q ∙ h .unmarked .none j (omega (arith, q))
 
-  pub forget-all : (after : List ℕ) (k : ℕ) → Forgetting before n after k → n ≤ k → Forgotten before n after
-  forget-all after k h l = record { kept = h .forgotten .kept; none = λ j m. h .forgotten .none j (omega arith) }
+  pub unmark-all : (after : List ℕ) (k : ℕ) → Unmarking before n after k → n ≤ k → Unmarked before n after
+  unmark-all after k h l = record { kept = h .unmarked .kept; none = λ j m. h .unmarked .none j (omega arith) }
 
-pub ruleset forgets = (forget-none, forget-more, forget-all, needs)
+pub ruleset unmarks = (unmark-none, unmark-more, unmark-all, needs)
 
 -- the first number that passes
 pub record Seeking (f : ℕ → Bool) (n j : ℕ) : Type 0 where
@@ -198,7 +198,7 @@ pub record Tracing (before : List ℕ) (root : ℕ) (after : List ℕ) (i : ℕ)
   pub used : (x : ℕ) → x < root → T (reached? after x) → (j : ℕ) × (i ≤ j) × (j ≤ root) × T (reached? after j) × ChildOf after j x
 
 -- the loop starts where only the root is reached
-pub tracing-start : (first mid before : List ℕ) (root : ℕ) → Forgotten first root mid → ReachedMore mid root before → Tracing before root before (root + 1)
+pub tracing-start : (first mid before : List ℕ) (root : ℕ) → Unmarked first root mid → ReachedMore mid root before → Tracing before root before (root + 1)
 tracing-start first mid before root f m =
     record {
       space = refl;
@@ -251,7 +251,7 @@ module _ (before : List ℕ) (root : ℕ) where
         go j x l l′ tj cj (yes q) = not-both (reached? after j) tj (ap (reached? after) q ∙ sym er ∙ t)
         go j x l l′ tj cj (no q) = h .closed j x (omega (arith, q)) l′ tj cj
 
-pub tracing-all : (first mid before after : List ℕ) (root i : ℕ) → Forgotten first root mid → ReachedMore mid root before → Tracing before root after i → i ≤ 0 → Traced first root after
+pub tracing-all : (first mid before after : List ℕ) (root i : ℕ) → Unmarked first root mid → ReachedMore mid root before → Tracing before root after i → i ≤ 0 → Traced first root after
 tracing-all first mid before after root i f m h l =
     record {
       kept = λ j k lk other. h .kept j k lk other ∙ m .kept j k lk other ∙ f .kept j k lk other;

@@ -13,20 +13,26 @@ use lib.ListN.{length, take, drop, replicate}
 use lib.Seq.{take-at, drop-at}
 use Rattle.model.specs.Limits.{maxSteps}
 use Rattle.model.specs.Refusal.{demand, andAfter, Answer, gives, unless}
+use Rattle.model.specs.Automaton.{OneRule, forgetsNothing?}
 use Rattle.model.specs.Sound.{Sound}
 use Rattle.model.specs.Table.{treeOf, SoundTable}
 use Rattle.model.specs.Run.{Accepts}
 use Rattle.model.specs.Annotation.{Annotation, Derivable, annotations, accepts?}
 use Rattle.model.specs.Papers.{Recognizes, rigidOf, papers?}
+use Rattle.model.specs.Isolating.{Isolates, isolatingOf}
 use Rattle.model.proofs.Tab.{length-tab}
 use Rattle.model.proofs.Count.{NoRepeats}
 use Rattle.model.proofs.Listed.{annotation-count}
 use Rattle.model.proofs.Decides.{decides}
+use Rattle.model.proofs.Order.{ascending-once}
+use Rattle.model.proofs.Forgetting.{nothing-exactly}
 use Rattle.model.proofs.Papers.{papers-document, papers-exactly}
+use Rattle.model.proofs.Isolating.{isolating-document}
 use Rattle.automaton.specs.Stored.{decode}
 use Rattle.automaton.specs.Check.{checkOf}
 use Rattle.automaton.specs.Answer.{checkAnswer}
 use Rattle.automaton.specs.declared.Checked.{Checked}
+use Rattle.automaton.proofs.Passes.{check-most}
 use Rattle.automaton.proofs.Verdict.{checkedOf, answer-is, passed-zero}
 use Rattle.document.specs.Rows.{decodeRows}
 use Rattle.document.specs.Check.{formCheckOf, distinctCheckOf, usedCheckOf, levelsCheckOf, tableCheckOf, documentCheckOf}
@@ -86,11 +92,14 @@ refused set cells work run n e work′ c =
       handed = refl;
       accepted = λ s q. absurd (refused-yes (suc n) s q);
       rejected = λ q. absurd (refused-no (suc n) q);
-      recognized = λ _ s q. absurd (refused-yes (suc n) s q);
-      unrecognized = λ _ q. absurd (refused-no (suc n) q);
+      isolates = λ _ s q. absurd (refused-yes (suc n) s q);
+      isolates-not = λ _ q. absurd (refused-no (suc n) q);
+      recognized = λ _ _ s q. absurd (refused-yes (suc n) s q);
+      unrecognized = λ _ _ q. absurd (refused-no (suc n) q);
     }
 
-module _ (set cells work run : List ℕ) (passed : documentCheckOf set cells ≡ 0) where
+-- a sound set and table
+module _ (set cells : List ℕ) (passed : documentCheckOf set cells ≡ 0) where
   sound : Sound (decode set) × SoundTable (decode set) (decodeRows cells)
   sound = sound-document set cells passed
 
@@ -100,14 +109,21 @@ module _ (set cells work run : List ℕ) (passed : documentCheckOf set cells ≡
   pub table-passed : SoundTable (decode set) (decodeRows cells)
   table-passed = sound .1
 
+  once : OneRule (decode set)
+  once = ascending-once (decode set) (sound .0 .ascending)
+
   -- the decision means acceptance
   pub decided : (accepts? (decode set) (decodeRows cells) ≡ true) ↔ Accepts (decode set) (treeOf (decodeRows cells))
-  decided = decides (decode set) (decodeRows cells) (table-passed .some-row) (table-passed .lower) (table-passed .distinct)
+  decided = decides (decode set) (decodeRows cells) (table-passed .some-row) (table-passed .lower) once (table-passed .distinct)
 
   -- and acceptance, of a set with one state to a tag and one tag to a state, is that of the papers
-  recognizing : papers? (decode set) ≡ true → Accepts (decode set) (treeOf (decodeRows cells)) ↔ Recognizes (rigidOf (decode set)) (treeOf (decodeRows cells))
-  recognizing p = papers-document (decode set) (sound .0 .wellformed) (papers-exactly (decode set) .0 p) (decodeRows cells) table-passed
+  isolating : papers? (decode set) ≡ true → Accepts (decode set) (treeOf (decodeRows cells)) ↔ Isolates (isolatingOf (decode set)) (treeOf (decodeRows cells))
+  isolating p = isolating-document (decode set) (sound .0 .wellformed) once (papers-exactly (decode set) .0 p) (decodeRows cells) table-passed
 
+  recognizing : papers? (decode set) ≡ true → forgetsNothing? (decode set) ≡ true → Accepts (decode set) (treeOf (decodeRows cells)) ↔ Recognizes (rigidOf (decode set)) (treeOf (decodeRows cells))
+  recognizing p f = papers-document (decode set) (sound .0 .wellformed) (papers-exactly (decode set) .0 p) (nothing-exactly (decode set) .0 f) (decodeRows cells) table-passed
+
+module _ (set cells work run : List ℕ) (passed : documentCheckOf set cells ≡ 0) where
   number : judgeCheckOf set cells (length work) (length run) ≡ demand (leb (roomOf (length work)) (length run / stepCells)) 32 (demand (leb (length (annotations (decode set) (decodeRows cells))) (roomOf (length work))) 31 0)
   unfolding judgeCheckOf andAfter
   number = ap (λ k. andAfter k (demand (leb (roomOf (length work)) (length run / stepCells)) 32 (demand (leb (length (annotations (decode set) (decodeRows cells))) (roomOf (length work))) 31 0))) passed
@@ -160,9 +176,11 @@ module _ (set cells work run : List ℕ) (passed : documentCheckOf set cells ≡
               cleared = zeros;
               handed = same;
               accepted = λ s q. absurd (no-yes s q);
-              rejected = λ _ a. true-false (sym (decided .1 a) ∙ no-run);
-              recognized = λ _ s q. absurd (no-yes s q);
-              unrecognized = λ p _ m. true-false (sym (decided .1 (recognizing p .1 m)) ∙ no-run);
+              rejected = λ _ a. true-false (sym (decided set cells passed .1 a) ∙ no-run);
+              isolates = λ _ s q. absurd (no-yes s q);
+              isolates-not = λ p _ m. true-false (sym (decided set cells passed .1 (isolating set cells passed p .1 m)) ∙ no-run);
+              recognized = λ _ _ s q. absurd (no-yes s q);
+              unrecognized = λ p f _ m. true-false (sym (decided set cells passed .1 (recognizing set cells passed p f .1 m)) ∙ no-run);
             }
 
         with-run : (s ≡ 0 → ⊥) → Judging set cells work run (Yes s) work′ run′
@@ -178,13 +196,15 @@ module _ (set cells work run : List ℕ) (passed : documentCheckOf set cells ≡
               handed = record {
                 some = omega (arith, some);
                 few = let e = n-is in omega arith;
-                passes = ap (checkRunOf set cells) taken ∙ both-zero (documentCheckOf set cells) (runCheckOf (decode set) (decodeRows cells) (encodeSteps (front .run))) passed (run-passes (decode set) (decodeRows cells) (sound .0) (sound .1) (front .run) (front .written) (let q = front .count in let h = room-fits (length work) .0 in omega arith));
+                passes = ap (checkRunOf set cells) taken ∙ both-zero (documentCheckOf set cells) (runCheckOf (decode set) (decodeRows cells) (encodeSteps (front .run))) passed (run-passes (decode set) (decodeRows cells) (sound set cells passed .0) (sound set cells passed .1) (front .run) (front .written) (let q = front .count in let h = room-fits (length work) .0 in omega arith));
                 rest = ap (drop (s * stepCells)) (front .cells) ∙ drop-at (encodeSteps (front .run)) (drop (s * stepCells) run) (s * stepCells) length-front;
               };
-              accepted = λ _ _. decided .0 has-run;
+              accepted = λ _ _. decided set cells passed .0 has-run;
               rejected = λ e. absurd (yes-no s e);
-              recognized = λ p _ _. recognizing p .0 (decided .0 has-run);
-              unrecognized = λ _ e. absurd (yes-no s e);
+              isolates = λ p _ _. isolating set cells passed p .0 (decided set cells passed .0 has-run);
+              isolates-not = λ _ e. absurd (yes-no s e);
+              recognized = λ p f _ _. recognizing set cells passed p f .0 (decided set cells passed .0 has-run);
+              unrecognized = λ _ _ e. absurd (yes-no s e);
             }
 
         pub says-yes : (v : ℕ) → v ≡ s → (s ≡ 0 → ⊥) → Judging set cells work run (Yes v) work′ run′
@@ -212,11 +232,14 @@ untouched-work : (d : ℕ) (work : List ℕ) → suc d < 18 → workAfter (suc d
 untouched-work d work l = (λ x. cond (ne-eqb (suc d) 0 (λ e. omega arith) x || ne-eqb (suc d) 31 (λ e. omega arith) x) (replicate (length work) 0) work)
 
 -- the set's and the table's numbers are below 18
+set-small : (set : List ℕ) → checkOf set < 18
+set-small set = let h = check-most set in omega arith
+
 document-small : (set cells : List ℕ) → documentCheckOf set cells < 18
-unfolding checkOf tableCheckOf formCheckOf distinctCheckOf usedCheckOf levelsCheckOf
+unfolding tableCheckOf formCheckOf distinctCheckOf usedCheckOf levelsCheckOf
 document-small set cells =
     after (checkOf set) (tableCheckOf (decode set) cells)
-    (small _ 1 _ (lit< tt) (small _ 2 _ (lit< tt) (small _ 3 _ (lit< tt) (small _ 4 _ (lit< tt) (small _ 5 _ (lit< tt) (small _ 6 _ (lit< tt) (small _ 7 0 (lit< tt) (lit< tt))))))))
+    (set-small set)
     (after (formCheckOf (decode set) cells) _ (small _ 11 _ (lit< tt) (small _ 12 _ (lit< tt) (small _ 13 _ (lit< tt) (small _ 14 0 (lit< tt) (lit< tt)))))
     (after (distinctCheckOf (decodeRows cells)) _ (small _ 15 0 (lit< tt) (lit< tt))
     (after (usedCheckOf (decodeRows cells)) _ (small _ 16 0 (lit< tt) (lit< tt)) (small _ 17 0 (lit< tt) (lit< tt)))))
@@ -264,11 +287,8 @@ pub judged-means : (set cells : List ℕ) (work run : ℕ) → judgeCheckOf set 
     × ((unless (judgeCheckOf set cells work run) (accepts? (decode set) (decodeRows cells)) ≡ gives false) ↔ (Accepts (decode set) (treeOf (decodeRows cells)) → ⊥))
 unfolding unless
 judged-means set cells work run e =
-    rw e (go (accepts? (decode set) (decodeRows cells)) (decides (decode set) (decodeRows cells) (table .some-row) (table .lower) (table .distinct)))
+    rw e (go (accepts? (decode set) (decodeRows cells)) (decided set cells (document-passed set cells work run e)))
   where
-    table : SoundTable (decode set) (decodeRows cells)
-    table = sound-document set cells (document-passed set cells work run e) .1
-
     go : (b : Bool) → (b ≡ true) ↔ Accepts (decode set) (treeOf (decodeRows cells)) → ((gives b ≡ gives true) ↔ Accepts (decode set) (treeOf (decodeRows cells))) × ((gives b ≡ gives false) ↔ (Accepts (decode set) (treeOf (decodeRows cells)) → ⊥))
     go true h = ((λ _. h .0 refl, λ _. refl), (λ q. absurd (gives-apart q), λ f. absurd (f (h .0 refl))))
     go false h = ((λ q. absurd (gives-apart (sym q)), λ a. true-false (sym (h .1 a))), (λ _ a. true-false (sym (h .1 a)), λ _. refl))

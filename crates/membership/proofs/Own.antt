@@ -1,11 +1,11 @@
--- A mask's tags as a memory, bit by bit; the counts before the rows of a row's children; the room. Assumes nothing.
+-- A memory from a mask, bit by bit; the counts before the rows of a row's children; the room. Assumes nothing.
 use mathlib.Core.Path.{_≡_, sym, ap, _∙_}
 use mathlib.Core.List.{List}
-use mathlib.Core.Bool.{cond}
+use mathlib.Core.Bool.{Bool, cond}
 use Prim.Native.Nat.{ℕ, suc, _+_, _/_, _%_, _^_, _<_, _≤_}
 use native.Mathlib.Omega.{arith}
 use native.Mathlib.Decide.{ℕ-discrete}
-use native.Mathlib.Nat.{div-div-eq-div-mul, div-one, pow-suc}
+use native.Mathlib.Nat.{div-div-eq-div-mul, div-one, zero-div, pow-suc}
 use native.Mathlib.Numerals.{add-one}
 use borrow.Author.Needs.{needs}
 use borrow.Author.Tests.{eq-eqb, ne-eqb, le-leb, lt-leb}
@@ -15,9 +15,10 @@ use lib.Seq.{getD-set-same, getD-set-other}
 use Rattle.model.specs.Limits.{maxSteps}
 use Rattle.model.specs.Lists.{tab}
 use Rattle.model.specs.Automaton.{bit?}
+use Rattle.model.proofs.Tab.{tab-at}
 use Rattle.automaton.proofs.Parts.{tab-same}
 use Rattle.document.specs.Check.{placeIn}
-use Rattle.membership.specs.Cells.{annotationCells, roomOf, memoryOf}
+use Rattle.membership.specs.Cells.{annotationCells, roomOf, memoryOf, without}
 use Rattle.membership.specs.Plan.{Bounds}
 
 -- a list filled from the front, place by place: what each place holds is a function of its number
@@ -39,36 +40,59 @@ module _ (n : ℕ) (f : ℕ → ℕ) (width : ℕ) (out : List ℕ) where
       go j m (yes q) = rw q (getD-set-same out k v 0 (omega (arith, h .fits, h .wide)) ∙ e)
       go j m (no q) = getD-set-other out k j v 0 q ∙ h .done j (omega (arith, q))
 
--- the memory of a mask
-abbrev pub ownPlace : ℕ → ℕ → ℕ → ℕ
-ownPlace mask row k = cond (bit? mask k) (suc row) 0
-
-pub record Owning (mask row tags : ℕ) (out : List ℕ) (rest k : ℕ) : Type 0 where
-  pub filled : Filled tags (ownPlace mask row) 16 out k
+-- a memory made from the bits of a mask: `f k b` stands at place k, b being bit k
+pub record Masking (mask : ℕ) (f : ℕ → Bool → ℕ) (tags : ℕ) (out : List ℕ) (rest k : ℕ) : Type 0 where
+  pub filled : Filled tags (λ j. f j (bit? mask j)) 16 out k
   pub rest-is : rest ≡ mask / 2 ^ k
 
-module _ (mask row tags : ℕ) (out : List ℕ) where
-  pub owning-none : tags ≤ 16 → length out ≡ 16 → Owning mask row tags out mask 0
-  owning-none h e = record { filled = filled-none tags (ownPlace mask row) 16 out h e; rest-is = sym (div-one mask) }
+module _ (mask : ℕ) (f : ℕ → Bool → ℕ) (tags : ℕ) (out : List ℕ) where
+  pub masking-none : tags ≤ 16 → length out ≡ 16 → Masking mask f tags out mask 0
+  masking-none h e = record { filled = filled-none tags (λ j. f j (bit? mask j)) 16 out h e; rest-is = sym (div-one mask) }
 
-  pub owning-more : (rest k v : ℕ) → Owning mask row tags out rest k → k < tags → v ≡ cond (eqb (rest % 2) 1) (suc row) 0 → Owning mask row tags (set out k v) (rest / 2) (k + 1)
-  owning-more rest k v h l e =
+  pub masking-more : (rest k v : ℕ) → Masking mask f tags out rest k → k < tags → v ≡ f k (eqb (rest % 2) 1) → Masking mask f tags (set out k v) (rest / 2) (k + 1)
+  masking-more rest k v h l e =
       record {
-        filled = filled-more tags (ownPlace mask row) 16 out k v (h .filled) l (e ∙ ap (λ z. cond (eqb (z % 2) 1) (suc row) 0) (h .rest-is));
+        filled = filled-more tags (λ j. f j (bit? mask j)) 16 out k v (h .filled) l (e ∙ ap (λ z. f k (eqb (z % 2) 1)) (h .rest-is));
         rest-is = ap (λ z. z / 2) (h .rest-is) ∙ div-div-eq-div-mul mask (2 ^ k) 2 ∙ ap (λ z. mask / z) (sym (pow-suc 2 k) ∙ ap (λ z. 2 ^ z) (sym (add-one k)));
       }
 
-  pub owning-all : (rest k : ℕ) → Owning mask row tags out rest k → tags ≤ k → memoryOf tags out ≡ tab tags (ownPlace mask row)
+  pub masking-all : (rest k : ℕ) → Masking mask f tags out rest k → tags ≤ k → memoryOf tags out ≡ tab tags (λ j. f j (bit? mask j))
   unfolding memoryOf
-  owning-all rest k h l = tab-same tags (λ j. getD out j 0) (ownPlace mask row) (λ j m. h .filled .done j (omega arith))
+  masking-all rest k h l = tab-same tags (λ j. getD out j 0) (λ j. f j (bit? mask j)) (λ j m. h .filled .done j (omega arith))
+
+-- the row at each tag of the mask; and a memory without them
+abbrev pub ownAt : ℕ → ℕ → Bool → ℕ
+ownAt row k b = cond b (suc row) 0
+
+abbrev pub keptAt : List ℕ → ℕ → Bool → ℕ
+keptAt memory k b = cond b 0 (getD memory k 0)
+
+module _ (mask tags : ℕ) (memory : List ℕ) where
+  without-is : without tags mask (memoryOf tags memory) ≡ tab tags (λ k. keptAt memory k (bit? mask k))
+  unfolding memoryOf
+  without-is =
+      tab-same tags (λ k. cond (bit? mask k) 0 (getD (tab tags (λ j. getD memory j 0)) k 0)) (λ k. keptAt memory k (bit? mask k)) (λ k l. ap (cond (bit? mask k) 0) (tab-at 0 tags (λ j. getD memory j 0) k l))
+
+  pub kept-all : (out : List ℕ) (rest k : ℕ) → Masking mask (keptAt memory) tags out rest k → tags ≤ k → memoryOf tags out ≡ without tags mask (memoryOf tags memory)
+  kept-all out rest k h l = masking-all mask (keptAt memory) tags out rest k h l ∙ sym without-is
+
+  -- without a tag in the mask nothing is dropped
+  pub nothing-dropped : mask ≡ 0 → memoryOf tags memory ≡ without tags mask (memoryOf tags memory)
+  unfolding memoryOf
+  nothing-dropped e =
+      tab-same tags (λ k. getD memory k 0) (λ k. keptAt memory k (bit? mask k)) (λ k l. ap (λ z. cond (eqb (z % 2) 1) 0 (getD memory k 0)) (sym (zero-div (2 ^ k)) ∙ ap (λ z. z / 2 ^ k) (sym e)))
+      ∙ sym without-is
+
+pub bit-set : (mask x y : ℕ) → mask % 2 ≡ 1 → x ≡ cond (eqb (mask % 2) 1) x y
+bit-set mask x y e = sym (ap (λ b. cond b x y) (eq-eqb (mask % 2) 1 e))
+
+pub bit-clear : (mask x y : ℕ) → (mask % 2 ≡ 1 → ⊥) → y ≡ cond (eqb (mask % 2) 1) x y
+bit-clear mask x y h = sym (ap (λ b. cond b x y) (ne-eqb (mask % 2) 1 h))
 
 pub own-bit : (mask row : ℕ) → mask % 2 ≡ 1 → row + 1 ≡ cond (eqb (mask % 2) 1) (suc row) 0
-own-bit mask row e = add-one row ∙ sym (ap (λ b. cond b (suc row) 0) (eq-eqb (mask % 2) 1 e))
+own-bit mask row e = add-one row ∙ bit-set mask (suc row) 0 e
 
-pub own-none : (mask row : ℕ) → (mask % 2 ≡ 1 → ⊥) → 0 ≡ cond (eqb (mask % 2) 1) (suc row) 0
-own-none mask row h = sym (ap (λ b. cond b (suc row) 0) (ne-eqb (mask % 2) 1 h))
-
-pub ruleset owns = (owning-none, owning-more, owning-all, own-bit, own-none, needs)
+pub ruleset masks = (masking-none, masking-more, masking-all, kept-all, bit-set, bit-clear, own-bit, needs)
 
 -- the counts before the children's rows
 abbrev pub boundOf : List ℕ → List ℕ → ℕ → ℕ → ℕ → ℕ

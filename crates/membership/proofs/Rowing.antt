@@ -150,7 +150,7 @@ module _ (s cells starts work₀ : List ℕ) (i tags room n x width : ℕ) (lows
 
       pub next-ready : Ready want work m
       next-ready =
-          rule-ready (A s) (R cells) sound (h .table) i room tags work₀ n (h .before) starts (h .started) lows highs width width-here (bound-at 0 lows (h .low-is)) (bound-at 1 highs (h .high-is)) r known-rule same-symbol plan want wf er ea elow ehigh (ownMemory (A s) ((ruleAt (A s) r) .target) i) refl end work m (h .turning) et eb eroom
+          rule-ready (A s) (R cells) sound (h .table) i room tags work₀ n (h .before) starts (h .started) lows highs width width-here (bound-at 0 lows (h .low-is)) (bound-at 1 highs (h .high-is)) r known-rule same-symbol plan want wf er ea et elow ehigh (ownMemory (A s) ((ruleAt (A s) r) .target) i) refl end work m (h .turning) eb eroom
 
       -- the target's tags
       module _ (mask : ℕ) (own : List ℕ) (em : mask ≡ (stateAt (A s) (want .target .0)) .mask) (eo : memoryOf tags own ≡ tab tags (λ k. cond (bit? mask k) (suc i) 0)) where
@@ -165,7 +165,7 @@ module _ (s cells starts work₀ : List ℕ) (i tags room n x width : ℕ) (lows
             (g : Grown m (want .room) (want .tags) (addEntries (entriesIn (want .tags) work m) (found (annotationsIn (want .tags) work (want .base)) want (memoryOf (want .tags) own) width (memoryOf (want .tags) empty) free)) work′ m′) where
           grown : Grown m room tags (addEntries (entriesIn tags work m) (made s cells i r)) work′ m′
           grown =
-              rule-grown (A s) (R cells) sound (h .table) i room tags work₀ n (h .before) starts (h .started) lows highs width width-here (bound-at 0 lows (h .low-is)) (bound-at 1 highs (h .high-is)) r known-rule same-symbol plan want wf er ea elow ehigh (ownMemory (A s) ((ruleAt (A s) r) .target) i) refl end work m (h .turning) et eb eroom
+              rule-grown (A s) (R cells) sound (h .table) i room tags work₀ n (h .before) starts (h .started) lows highs width width-here (bound-at 0 lows (h .low-is)) (bound-at 1 highs (h .high-is)) r known-rule same-symbol plan want wf er ea et elow ehigh (ownMemory (A s) ((ruleAt (A s) r) .target) i) refl end work m (h .turning) eb eroom
               own empty free work′ m′ own-is (zeros-memory tags (A s) empty (h .before .tags-are) zeros) ef g
 
           pub rowing-more : length work′ ≡ length work → m′ ≤ room → Rowing s cells starts work₀ i tags room n x width lows highs end r₀ work′ m′ (r + 1)

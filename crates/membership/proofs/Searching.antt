@@ -10,13 +10,13 @@ use Rattle.model.specs.Lists.{concatMap, only}
 use Rattle.model.specs.Annotation.{Memory, Annotation, joined}
 use Rattle.membership.specs.Cells.{memoryOf, memoryIn, annotationIn, annotationsIn}
 use Rattle.membership.specs.Entries.{Entry, entriesIn, addEntries, Grown}
-use Rattle.membership.specs.Search.{span, noAnnotation, choosable?, askedState, finished, chosen, found, Ready}
+use Rattle.membership.specs.Search.{span, noAnnotation, choosable?, askedState, leaving, chosen, found, Ready}
 use Rattle.membership.specs.declared.search.Want.{Want}
 use Rattle.membership.proofs.Adding.{Ext, ext-entries, annotation-at, same-entry, same-annotations}
 use Rattle.membership.proofs.Turning.{Turning, turn-start, turn-front, turn-skip, turn-in, turn-full, turn-end}
 
 -- no place left
-pub found-none : (known : List Annotation) (want : Want) (own : Memory) (left : ℕ) (m : Memory) (children : List ℕ) → left ≡ 0 → found known want own left m children ≡ finished want own m children
+pub found-none : (known : List Annotation) (want : Want) (own : Memory) (left : ℕ) (m : Memory) (children : List ℕ) → left ≡ 0 → found known want own left m children ≡ leaving want own m children
 unfolding found
 found-none known want own left m children e = rw e refl
 

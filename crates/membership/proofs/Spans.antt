@@ -1,10 +1,14 @@
 -- Numbers in a row, and what is made of each: one more, none left, and that only a window counts where nothing is made outside it. Assumes nothing.
 use mathlib.Core.Path.{_≡_, refl, sym, ap, _∙_}
-use mathlib.Core.List.{List, [], _∷_, _++_, append-nil, append-assoc}
+use mathlib.Core.List.{List, [], _∷_, _++_, map, append-nil, append-assoc}
 use Prim.Native.Nat.{ℕ, zero, suc, _+_, _-_, _<_, _≤_}
 use native.Mathlib.Omega.{arith}
-use Rattle.model.specs.Lists.{concatMap}
+use Rattle.model.specs.Lists.{concatMap, tab}
 use Rattle.membership.specs.Search.{span}
+
+pub map-tab : {A B : Type 0} (g : A → B) (n : ℕ) (f : ℕ → A) → map g (tab n f) ≡ tab n (λ k. g (f k))
+map-tab g zero f = refl
+map-tab {B = B} g (suc n) f = ap (λ (l : List B). g (f 0) ∷ l) (map-tab g n (λ k. f (suc k)))
 
 module _ {B : Type 0} where
   pub concatMap-append : {A : Type 0} (f : A → List B) (xs ys : List A) → concatMap f (xs ++ ys) ≡ concatMap f xs ++ concatMap f ys

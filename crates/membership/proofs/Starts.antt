@@ -1,28 +1,26 @@
 -- Each row's annotations stand together, from the count before the row to the count after it, and each has its source. Assumes nothing.
-use mathlib.Core.Path.{_≡_, sym, ap, _∙_, subst}
-use mathlib.Core.List.{List}
+use mathlib.Core.Path.{_≡_, sym, ap, _∙_, subst, transport}
+use mathlib.Core.List.{List, List·Memᴰ as In}
 use Prim.Native.Nat.{ℕ, zero, suc, _+_, _-_, _<_, _≤_}
 use native.Mathlib.Omega.{arith}
 use native.Mathlib.Decide.{decLt}
 use native.Mathlib.Nat.{add-zero, add-suc, le-refl}
-use lib.Dec.{T}
 use lib.ListN.{length, getD, length-map, List·getD-map}
 use Rattle.model.specs.Limits.{maxChildren, unused}
 use Rattle.model.specs.Lists.{tab}
-use Rattle.model.specs.Automaton.{Automaton, carries?}
+use Rattle.model.specs.Automaton.{Automaton}
 use Rattle.model.specs.Table.{Row, rowAt}
-use Rattle.model.specs.Written.{ruleAt}
+use Rattle.model.specs.Written.{ruleAt, leftBy}
 use Rattle.model.specs.Annotation.{Annotation, emptyMemory}
-use Rattle.model.proofs.Tab.{tab-at}
-use Rattle.model.proofs.Derivable.{finish-within, finish-own}
+use Rattle.model.proofs.Tab.{tab-at, tab-same}
 use Rattle.membership.specs.Cells.{annotationsIn, ruleIn, childIn}
 use Rattle.membership.specs.Entries.{Entry, annotationsOf, entryIn, entriesIn}
 use Rattle.membership.specs.Listing.{noChildren, rowEntries, entriesBelow}
-use Rattle.membership.specs.Sources.{annotationAt, childRows, Sourced, SourcedIn}
+use Rattle.membership.specs.Sources.{annotationAt, childRows, memoriesOf, Sourced, SourcedIn}
 use Rattle.membership.proofs.Adding.{noEntry, Ext, ext-same, ext-trans, ext-length, ext-at, ext-entries, length-entries, entry-at}
 use Rattle.membership.proofs.Storing.{entries-annotations}
 use Rattle.membership.proofs.Found.{Window}
-use Rattle.membership.proofs.Sources.{Child, FromRule, FromRow, from-row, added}
+use Rattle.membership.proofs.Sources.{Child, memoriesFrom, FromRule, FromRow, from-row, added}
 
 pub annotation-of : (l : List Entry) (j : ℕ) → annotationAt (annotationsOf l) j ≡ (getD l j noEntry) .annotation
 annotation-of l j = List·getD-map (λ (e : Entry). e .annotation) l j noEntry
@@ -40,8 +38,7 @@ kept-source A rows known known′ j rule children same s =
       rest = λ p l. s .rest p (subst (λ (a : Annotation). length ((rowAt rows (a .row)) .children) ≤ p) ea l);
       child-row = λ p l. ap (λ (a : Annotation). a .row) (kid p l) ∙ s .child-row p (old p l) ∙ ap (λ (a : Annotation). getD ((rowAt rows (a .row)) .children) p 0) (sym ea);
       child-state = λ p l. ap (λ (a : Annotation). a .state) (kid p l) ∙ s .child-state p (old p l);
-      within = λ p l k i h. ap (λ (a : Annotation). getD (a .memory) k 0) ea ∙ s .within p (old p l) k i (ap (λ (a : Annotation). getD (a .memory) k 0) (sym (kid p l)) ∙ h);
-      own = λ k lk t. ap (λ (a : Annotation). getD (a .memory) k 0) ea ∙ s .own k lk (subst (λ (a : Annotation). T (carries? A (a .state) k)) ea t) ∙ ap (λ (a : Annotation). suc (a .row)) (sym ea);
+      leaves = transport (λ z. In ((sym ea z) .memory) (leftBy A (ruleAt A rule) ((sym ea z) .row) (memories z))) (s .leaves);
     }
   where
     ea : annotationAt known′ j ≡ annotationAt known j
@@ -52,6 +49,11 @@ kept-source A rows known known′ j rule children same s =
 
     kid : (p : ℕ) → p < length (childRows rows known′ j) → annotationAt known′ (getD children p 0) ≡ annotationAt known (getD children p 0)
     kid p l = let h = s .lower p (old p l) in same (getD children p 0) (omega arith)
+
+    memories : memoriesOf known children (length (childRows rows known j)) ≡ memoriesOf known′ children (length (childRows rows known′ j))
+    memories =
+        ap (λ (a : Annotation). memoriesOf known children (length ((rowAt rows (a .row)) .children))) (sym ea)
+        ∙ tab-same (length (childRows rows known′ j)) _ _ (λ p l. ap (λ (a : Annotation). a .memory) (sym (kid p l)))
 
 -- the source of an entry that a row's rules made
 new-source : (A : Automaton) (rows : List Row) (known known′ : List Annotation) (i : ℕ) → i < length rows → (few : length ((rowAt rows i) .children) ≤ maxChildren) (j : ℕ) (e : Entry) → length known ≤ j → ((k : ℕ) → k < length known → annotationAt known′ k ≡ annotationAt known k) → annotationAt known′ j ≡ e .annotation → FromRow A rows known i few e → Sourced A rows known′ j (e .rule) (e .children)
@@ -66,23 +68,25 @@ new-source A rows known known′ i is-row few j e past same ea w =
       rest = λ p l lp. let m = subst (λ k. length ((rowAt rows k) .children) ≤ p) er l in f .rest p (omega arith) ∙ tab-at 0 maxChildren (λ k. unused) p lp;
       child-row = λ p l. ap (λ (a : Annotation). a .row) (same (getD (e .children) p 0) ((kid p l) .is-known)) ∙ (kid p l) .row ∙ ap (λ k. getD ((rowAt rows k) .children) p 0) (sym er);
       child-state = λ p l. ap (λ (a : Annotation). a .state) (same (getD (e .children) p 0) ((kid p l) .is-known)) ∙ (kid p l) .state ∙ ap (λ r. getD ((ruleAt A r) .children) p 0) (sym (f .rule));
-      within = λ p l k n h.
-          ap (λ (a : Annotation). getD (a .memory) k 0) ea
-          ∙ finish-within A ((ruleAt A (w .rule)) .target) i (f .memory) (f .last) k n ((kid p l) .within k n (ap (λ (a : Annotation). getD (a .memory) k 0) (sym (same (getD (e .children) p 0) ((kid p l) .is-known))) ∙ h));
-      own = λ k lk t.
-          ap (λ (a : Annotation). getD (a .memory) k 0) ea
-          ∙ finish-own A ((ruleAt A (w .rule)) .target) i (f .memory) (f .last) k lk (subst (λ q. T (carries? A q k)) (ap (λ (a : Annotation). a .state) ea ∙ f .state) t)
-          ∙ ap suc (sym er);
+      leaves = transport (λ z. In ((sym ea z) .memory) (leftBy A (ruleAt A (sym (f .rule) z)) (sym er z) (memories z))) (f .leaves);
     }
   where
-    f : FromRule A known i ((ruleAt A (w .rule)) .target) (w .rule) 0 (emptyMemory A) noChildren ((rowAt rows i) .children) ((ruleAt A (w .rule)) .children) e
+    f : FromRule A known i (w .rule) 0 (emptyMemory A) noChildren ((rowAt rows i) .children) ((ruleAt A (w .rule)) .children) e
     f = w .from
 
     er : (annotationAt known′ j) .row ≡ i
     er = ap (λ (a : Annotation). a .row) ea ∙ f .row
 
-    kid : (p : ℕ) → p < length (childRows rows known′ j) → Child known (getD (e .children) p 0) (getD ((rowAt rows i) .children) p 0) (getD ((ruleAt A (w .rule)) .children) p 0) (f .memory)
-    kid p l = let z : 0 + p ≡ p = omega arith in subst (λ k. Child known (getD (e .children) k 0) (getD ((rowAt rows i) .children) p 0) (getD ((ruleAt A (w .rule)) .children) p 0) (f .memory)) z (f .later p (subst (λ k. p < length ((rowAt rows k) .children)) er l))
+    kid : (p : ℕ) → p < length (childRows rows known′ j) → Child known (getD (e .children) p 0) (getD ((rowAt rows i) .children) p 0) (getD ((ruleAt A (w .rule)) .children) p 0)
+    kid p l = let z : 0 + p ≡ p = omega arith in subst (λ k. Child known (getD (e .children) k 0) (getD ((rowAt rows i) .children) p 0) (getD ((ruleAt A (w .rule)) .children) p 0)) z (f .later p (subst (λ k. p < length ((rowAt rows k) .children)) er l))
+
+    memories : memoriesFrom known (e .children) 0 (length ((rowAt rows i) .children)) ≡ memoriesOf known′ (e .children) (length (childRows rows known′ j))
+    memories =
+        ap (λ k. memoriesFrom known (e .children) 0 (length ((rowAt rows k) .children))) (sym er)
+        ∙ tab-same (length (childRows rows known′ j)) _ _
+        (λ p l.
+        let z : 0 + p ≡ p = omega arith in
+        ap (λ k. (annotationAt known (getD (e .children) k 0)) .memory) z ∙ ap (λ (a : Annotation). a .memory) (sym (same (getD (e .children) p 0) ((kid p l) .is-known))))
 
 module _ (A : Automaton) (rows : List Row) where
   ext-next : (i : ℕ) → Ext (entriesBelow A rows i) (entriesBelow A rows (suc i))

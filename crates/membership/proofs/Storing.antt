@@ -15,12 +15,15 @@ use Rattle.model.specs.Limits.{maxChildren}
 use Rattle.model.specs.Lists.{any, only, tab}
 use Rattle.model.specs.Space.{putAt}
 use Rattle.model.specs.Annotation.{Annotation, annotation, agree?, joined, eqAnnotation}
+use Rattle.model.proofs.Tab.{tab-snoc}
 use Rattle.automaton.proofs.Parts.{tab-same, tab-is}
-use Rattle.membership.specs.Cells.{memoryOf, JoinedIn, cellOf, memoryIn, annotationIn, annotationsIn, ruleIn, childIn}
+use Rattle.membership.specs.Cells.{memoryOf, JoinedIn, without, cellOf, memoryIn, annotationIn, annotationsIn, ruleIn, childIn}
 use Rattle.membership.specs.Index.{slotOf, firstIn, nextIn, linkOf, OnChain, newest, older, Indexed, Linked}
 use Rattle.membership.specs.Entries.{Entry, annotationsOf, entryIn, entriesIn, addEntry, addEntries, Grown, Stored}
-use Rattle.membership.specs.Search.{finished}
+use Rattle.membership.specs.Search.{finished, leaving}
 use Rattle.membership.specs.declared.search.Want.{Want}
+use Rattle.membership.proofs.Spans.{map-tab}
+use Rattle.membership.proofs.Own.{nothing-dropped}
 use Rattle.membership.proofs.Copying.{Copied, copied}
 use Rattle.membership.proofs.Adding.{length-entries, add-nothing, add-single}
 use Rattle.membership.proofs.Chain.{link-is, chain-bound}
@@ -40,10 +43,6 @@ entry-cells tags work work′ j few h =
     (tab-same tags (λ k. cellOf work′ j (2 + k)) (λ k. cellOf work j (2 + k)) (λ k l. h (2 + k) (omega arith)))
     (h 19 (omega arith))
     (tab-same maxChildren (λ p. cellOf work′ j (20 + p)) (λ p. cellOf work j (20 + p)) (λ p l. h (20 + p) (omega arith)))
-
-pub tab-snoc : {A : Type 0} (n : ℕ) (f : ℕ → A) → tab (suc n) f ≡ tab n f ++ f n ∷ []
-tab-snoc zero f = refl
-tab-snoc {A} (suc n) f = ap (λ (l : List A). f 0 ∷ l) (tab-snoc n (λ k. f (suc k)))
 
 -- the writes of an entry, one after the other
 module _ (tags : ℕ) (w₀ w₃ w₆ : List ℕ) (n i q rule : ℕ) (memory children : List ℕ) (few : tags ≤ 16) (fits : n * 32 + 32 ≤ length w₀) (long₃ : length w₃ ≡ length w₀)
@@ -116,11 +115,7 @@ module _ (tags : ℕ) (w₀ w₃ w₆ : List ℕ) (n i q rule : ℕ) (memory chi
 -- the test for an equal annotation is over the entries' annotations
 pub entries-annotations : (tags : ℕ) (work : List ℕ) (n : ℕ) → annotationsOf (entriesIn tags work n) ≡ annotationsIn tags work n
 unfolding entriesIn annotationsIn
-entries-annotations tags work n = map-tab n (entryIn tags work)
-  where
-    map-tab : (n : ℕ) (f : ℕ → Entry) → map (λ (e : Entry). e .annotation) (tab n f) ≡ tab n (λ k. (f k) .annotation)
-    map-tab zero f = refl
-    map-tab (suc n) f = ap (λ (l : List Annotation). (f 0) .annotation ∷ l) (map-tab n (λ k. f (suc k)))
+entries-annotations tags work n = map-tab (λ (e : Entry). e .annotation) n (entryIn tags work)
 
 -- an entry is written as number n and linked into its slot
 module _ (tags room : ℕ) (work mid after : List ℕ) (n s : ℕ) (e : Entry) (few : tags ≤ 16) (st : Stored tags work n e mid) (li : Linked mid s n after) where
@@ -240,3 +235,9 @@ module _ (want : Want) (work : List ℕ) (n tags : ℕ) (own memory children : L
       rw (finished-is, y, add-nothing) (record { more = omega arith; held = λ h. refl; full = λ h. let z : ⊥ = omega arith in absurd z; indexed = λ h. index })
 
 pub ruleset finishing = (finish-joined, finish-clash, needs)
+
+-- the last step on what is left of a memory is what the rule leaves
+pub left-grown : (want : Want) (list : List Entry) (n room tags k : ℕ) (own m x children after : List ℕ) → x ≡ without (want .tags) (want .forget) m → Grown n room tags (addEntries list (finished want own x children)) after k → Grown n room tags (addEntries list (leaving want own m children)) after k
+left-grown want list n room tags k own m x children after e g = subst (λ z. Grown n room tags (addEntries list (finished want own z children)) after k) e g
+
+pub ruleset leaves = (left-grown, nothing-dropped, needs)

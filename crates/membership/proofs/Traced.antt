@@ -1,8 +1,8 @@
 -- The annotations reached from an accepting one are a written run, each step numbered by its rank. Assumes nothing.
-use mathlib.Core.Path.{_≡_, refl, sym, ap, _∙_, subst}
-use mathlib.Core.Logic.{_⊎_, inl, inr, ⊎-elim}
-use mathlib.Core.List.{List, [], List·Memᴰ as In}
-use Prim.Native.Nat.{ℕ, zero, suc, _+_, _-_, _<_, _≤_}
+use mathlib.Core.Path.{_≡_, refl, sym, ap, _∙_, subst, transport}
+use mathlib.Core.Logic.{_⊎_, inl, inr}
+use mathlib.Core.List.{List, [], map, List·Memᴰ as In}
+use Prim.Native.Nat.{ℕ, suc, _-_, _<_, _≤_}
 use native.Mathlib.Omega.{arith}
 use native.Mathlib.Nat.{eq-or-lt-of-le}
 use native.Mathlib.Decide.{decLt}
@@ -10,15 +10,15 @@ use lib.Dec.{T}
 use lib.ListN.{length, getD}
 use Rattle.model.specs.Limits.{maxChildren, maxSteps, unused}
 use Rattle.model.specs.Lists.{tab}
-use Rattle.model.specs.Automaton.{Automaton, final?, carries?}
+use Rattle.model.specs.Automaton.{Automaton, final?}
 use Rattle.model.specs.Table.{Row, rowAt}
-use Rattle.model.specs.Annotation.{Annotation}
-use Rattle.model.specs.Written.{Step, stepAt, ruleAt, ruleOf, StepFits, WrittenRun}
-use Rattle.model.proofs.Tab.{tab-at, tab-in, length-tab}
-use Rattle.model.proofs.Memory.{Within}
+use Rattle.model.specs.Annotation.{Memory, Annotation}
+use Rattle.model.specs.Written.{Step, stepAt, ruleAt, ruleOf, leftBy, StepFits, WrittenRun}
+use Rattle.model.proofs.Tab.{tab-at, tab-in, tab-same, length-tab}
 use Rattle.membership.specs.Cells.{annotationsIn, ruleIn, childIn}
-use Rattle.membership.specs.Sources.{annotationAt, Sourced, SourcedIn}
+use Rattle.membership.specs.Sources.{annotationAt, memoriesOf, Sourced, SourcedIn}
 use Rattle.membership.specs.Trace.{reached?, rankOf, ChildOf, Reached}
+use Rattle.membership.proofs.Spans.{map-tab}
 use Rattle.membership.proofs.Ranks.{rank-step, rank-below, ranked, picked, length-picked, picked-at}
 
 module _ (A : Automaton) (rows : List Row) (narrow : (i : ℕ) → i < length rows → length ((rowAt rows i) .children) ≤ maxChildren) (work : List ℕ) (n root : ℕ) (is-root : root < n) (few : n ≤ maxSteps) (src : SourcedIn A rows (A .tags) work n) (reached : Reached work root) where
@@ -65,19 +65,6 @@ module _ (A : Automaton) (rows : List Row) (narrow : (i : ℕ) → i < length ro
           let z : ⊥ = omega arith in
           absurd z
 
-  -- what an annotation that is reached remembers a later one does, and so the root
-  within-later : (j : ℕ) → j < root → T (reached? work j) → ((p : ℕ) → j < p → p ≤ root → T (reached? work p) → Within ((at p) .memory) ((at root) .memory)) → Within ((at j) .memory) ((at root) .memory)
-  within-later j h t rest k i e =
-      let (p, lp, tp, c) = reached .used j h t in
-      let place = child-place p j lp c in
-      let ec : getD (tab maxChildren (childIn work p)) (c .place) 0 ≡ j = child-at p (c .place) (omega arith) place ∙ c .holds in
-      rest p (c .lower) lp tp k i (src p (omega arith) .within (c .place) place k i (subst (λ z. getD ((at z) .memory) k 0 ≡ suc i) (sym ec) e))
-
-  within-root : (d j : ℕ) → root ≤ j + d → j ≤ root → T (reached? work j) → Within ((at j) .memory) ((at root) .memory)
-  within-root zero j far l t = let e : j ≡ root = omega arith in subst (λ z. Within ((at z) .memory) ((at root) .memory)) (sym e) (λ k i h. h)
-  within-root (suc d) j far l t =
-      ⊎-elim (λ e. subst (λ z. Within ((at z) .memory) ((at root) .memory)) (sym e) (λ k i h. h)) (λ h. within-later j h t (λ p a b tp. within-root d p (omega arith) b tp)) (eq-or-lt-of-le l)
-
   -- the step of an annotation
   at-rank : (j : ℕ) → j ≤ root → T (reached? work j) → stepAt run (rankOf (reached? work) j) ≡ stepFor j
   at-rank j l t = picked-at (reached? work) stepFor (record { rule = 0; row = 0; steps = [] }) (suc root) j (omega arith) t
@@ -91,43 +78,59 @@ module _ (A : Automaton) (rows : List Row) (narrow : (i : ℕ) → i < length ro
   row-at : (j : ℕ) → j ≤ root → T (reached? work j) → (stepAt run (rankOf (reached? work) j)) .row ≡ (at j) .row
   row-at j l t = ap (λ (s : Step). s .row) (at-rank j l t)
 
-  fits : (j : ℕ) → j ≤ root → T (reached? work j) → StepFits A rows run (rankOf (reached? work) j)
-  fits j l t =
-      record {
-        known-rule = subst (λ (z : Step). z .rule < length (A .rules)) e (s .known-rule);
-        known-row = subst (λ (z : Step). z .row < length rows) e (s .known-row);
-        same-symbol = subst (λ (z : Step). (ruleAt A (z .rule)) .symbol ≡ (rowAt rows (z .row)) .symbol) e (s .same-symbol);
-        as-many = subst (λ (z : Step). length ((ruleAt A (z .rule)) .children) ≡ length ((rowAt rows (z .row)) .children)) e (s .as-many);
-        one-each = subst (λ (z : Step). length (z .steps) ≡ length ((rowAt rows (z .row)) .children)) e (length-tab (arityAt j) rank);
-        lower = subst (λ (z : Step). (p : ℕ) → p < length ((rowAt rows (z .row)) .children) → getD (z .steps) p 0 < rankOf (reached? work) j) e
-            (λ p lp. subst (λ z. z < rankOf (reached? work) j) (sym (tab-at 0 (arityAt j) rank p lp)) (rank-below (reached? work) (childIn work j p) j (child-lower j p lj lp) (child-reached j p l t lp)));
-        child-row = subst (λ (z : Step). (p : ℕ) → p < length ((rowAt rows (z .row)) .children) → (stepAt run (getD (z .steps) p 0)) .row ≡ getD ((rowAt rows (z .row)) .children) p 0) e
-            (λ p lp.
-            let low = child-lower j p lj lp in
-            ap (λ z. (stepAt run z) .row) (tab-at 0 (arityAt j) rank p lp) ∙ row-at (childIn work j p) (omega arith) (child-reached j p l t lp) ∙ ap (λ z. (at z) .row) (sym (child-at j p lj lp)) ∙ s .child-row p lp);
-        child-state = subst (λ (z : Step). (p : ℕ) → p < length ((rowAt rows (z .row)) .children) → (ruleOf A run (getD (z .steps) p 0)) .target ≡ getD ((ruleAt A (z .rule)) .children) p 0) e
-            (λ p lp.
-            let low = child-lower j p lj lp in
-            ap (λ z. (ruleOf A run z) .target) (tab-at 0 (arityAt j) rank p lp) ∙ state-at (childIn work j p) (omega arith) (child-reached j p l t lp) ∙ ap (λ z. (at z) .state) (sym (child-at j p lj lp)) ∙ s .child-state p lp);
-      }
-    where
-      lj : j < n
-      lj = omega arith
+  -- a step has its annotation's memory
+  abbrev memory : ℕ → Memory
+  memory s = getD (picked (reached? work) (λ j. (at j) .memory) (suc root)) s []
 
-      s : Sourced A rows (annotationsIn (A .tags) work n) j (ruleIn work j) (tab maxChildren (childIn work j))
-      s = src j lj
+  memory-at : (j : ℕ) → j ≤ root → T (reached? work j) → memory (rankOf (reached? work) j) ≡ (at j) .memory
+  memory-at j l t = picked-at (reached? work) (λ j. (at j) .memory) [] (suc root) j (omega arith) t
 
-      rank : ℕ → ℕ
-      rank p = rankOf (reached? work) (childIn work j p)
+  abbrev Left : ℕ → Type 0
+  Left s = In (memory s) (leftBy A (ruleOf A run s) ((stepAt run s) .row) (map memory ((stepAt run s) .steps)))
 
-      e : stepFor j ≡ stepAt run (rankOf (reached? work) j)
-      e = sym (at-rank j l t)
+  module _ (j : ℕ) (l : j ≤ root) (t : T (reached? work j)) where
+    lj : j < n
+    lj = omega arith
 
-  -- a tag that a step's state carries goes to the step's row in the root's memory
-  tag-row : (j k : ℕ) → j ≤ root → T (reached? work j) → k < A .tags → T (carries? A ((ruleOf A run (rankOf (reached? work) j)) .target) k) → getD ((at root) .memory) k 0 ≡ suc ((stepAt run (rankOf (reached? work) j)) .row)
-  tag-row j k l t lk c =
-      within-root root j (omega arith) l t k ((stepAt run (rankOf (reached? work) j)) .row)
-      (src j (omega arith) .own k lk (subst (λ q. T (carries? A q k)) (state-at j l t) c) ∙ ap suc (sym (row-at j l t)))
+    s : Sourced A rows (annotationsIn (A .tags) work n) j (ruleIn work j) (tab maxChildren (childIn work j))
+    s = src j lj
+
+    abbrev rank : ℕ → ℕ
+    rank p = rankOf (reached? work) (childIn work j p)
+
+    e : stepFor j ≡ stepAt run (rankOf (reached? work) j)
+    e = sym (at-rank j l t)
+
+    fits : StepFits A rows run (rankOf (reached? work) j)
+    fits =
+        record {
+          known-rule = subst (λ (z : Step). z .rule < length (A .rules)) e (s .known-rule);
+          known-row = subst (λ (z : Step). z .row < length rows) e (s .known-row);
+          same-symbol = subst (λ (z : Step). (ruleAt A (z .rule)) .symbol ≡ (rowAt rows (z .row)) .symbol) e (s .same-symbol);
+          as-many = subst (λ (z : Step). length ((ruleAt A (z .rule)) .children) ≡ length ((rowAt rows (z .row)) .children)) e (s .as-many);
+          one-each = subst (λ (z : Step). length (z .steps) ≡ length ((rowAt rows (z .row)) .children)) e (length-tab (arityAt j) rank);
+          lower = subst (λ (z : Step). (p : ℕ) → p < length ((rowAt rows (z .row)) .children) → getD (z .steps) p 0 < rankOf (reached? work) j) e
+              (λ p lp. subst (λ z. z < rankOf (reached? work) j) (sym (tab-at 0 (arityAt j) rank p lp)) (rank-below (reached? work) (childIn work j p) j (child-lower j p lj lp) (child-reached j p l t lp)));
+          child-row = subst (λ (z : Step). (p : ℕ) → p < length ((rowAt rows (z .row)) .children) → (stepAt run (getD (z .steps) p 0)) .row ≡ getD ((rowAt rows (z .row)) .children) p 0) e
+              (λ p lp.
+              let low = child-lower j p lj lp in
+              ap (λ z. (stepAt run z) .row) (tab-at 0 (arityAt j) rank p lp) ∙ row-at (childIn work j p) (omega arith) (child-reached j p l t lp) ∙ ap (λ z. (at z) .row) (sym (child-at j p lj lp)) ∙ s .child-row p lp);
+          child-state = subst (λ (z : Step). (p : ℕ) → p < length ((rowAt rows (z .row)) .children) → (ruleOf A run (getD (z .steps) p 0)) .target ≡ getD ((ruleAt A (z .rule)) .children) p 0) e
+              (λ p lp.
+              let low = child-lower j p lj lp in
+              ap (λ z. (ruleOf A run z) .target) (tab-at 0 (arityAt j) rank p lp) ∙ state-at (childIn work j p) (omega arith) (child-reached j p l t lp) ∙ ap (λ z. (at z) .state) (sym (child-at j p lj lp)) ∙ s .child-state p lp);
+        }
+
+    -- the step's rule leaves its memory of those of its child steps
+    memories : memoriesOf (annotationsIn (A .tags) work n) (tab maxChildren (childIn work j)) (arityAt j) ≡ map memory ((stepAt run (rankOf (reached? work) j)) .steps)
+    memories =
+        tab-same (arityAt j) _ (λ p. memory (rank p))
+        (λ p lp. let low = child-lower j p lj lp in ap (λ z. (at z) .memory) (child-at j p lj lp) ∙ sym (memory-at (childIn work j p) (omega arith) (child-reached j p l t lp)))
+        ∙ sym (map-tab memory (arityAt j) rank)
+        ∙ ap (λ (z : Step). map memory (z .steps)) e
+
+    leaves : Left (rankOf (reached? work) j)
+    leaves = transport (λ z. In (sym (memory-at j l t) z) (leftBy A (ruleAt A ((e z) .rule)) ((e z) .row) (memories z))) (s .leaves)
 
   last-is : length run - 1 ≡ rankOf (reached? work) root
   last-is = let e = run-length in let a = rank-step (reached? work) root .1 in let b = rank-below (reached? work) root (suc root) (omega arith) (reached .from) in omega arith
@@ -161,14 +164,8 @@ module _ (A : Automaton) (rows : List Row) (narrow : (i : ℕ) → i < length ro
       record {
         some-step = omega arith;
         each = λ s l. let (j, lj, t, e) = ranked (reached? work) (suc root) s (omega arith) in subst (StepFits A rows run) e (fits j (omega arith) t);
-        one-row = λ k lk s s′ l l′ c c′.
-            let (i, li, t, e) = ranked (reached? work) (suc root) s (omega arith) in
-            let (j, lj, u, q) = ranked (reached? work) (suc root) s′ (omega arith) in
-            let a = tag-row i k (omega arith) t lk (subst (λ z. T (carries? A ((ruleOf A run z) .target) k)) (sym e) c) in
-            let b = tag-row j k (omega arith) u lk (subst (λ z. T (carries? A ((ruleOf A run z) .target) k)) (sym q) c′) in
-            let a′ = ap (λ z. suc ((stepAt run z) .row)) e in
-            let b′ = ap (λ z. suc ((stepAt run z) .row)) q in
-            omega arith;
+        memory = memory;
+        leaves = λ s l. let (j, lj, t, e) = ranked (reached? work) (suc root) s (omega arith) in subst Left e (leaves j (omega arith) t);
         last-row = ap (λ z. (stepAt run z) .row) last-is ∙ row-at root (omega arith) (reached .from) ∙ er;
         last-final = subst (λ q. T (final? A q)) (sym (ap (λ z. (ruleOf A run z) .target) last-is ∙ state-at root (omega arith) (reached .from))) final;
         used = used;

@@ -7,6 +7,7 @@ use lib.Dec.{leb}
 use lib.ListN.{getD}
 use Rattle.model.specs.Limits.{maxSteps}
 use Rattle.model.specs.Lists.{tab}
+use Rattle.model.specs.Automaton.{bit?}
 use Rattle.model.specs.Annotation.{Memory, Annotation, annotation, joined}
 
 abbrev pub annotationCells : ℕ
@@ -23,6 +24,10 @@ memoryOf tags cells = tab tags (λ k. getD cells k 0)
 -- a memory in cells is two others joined, whatever the number of tags
 abbrev pub JoinedIn : List ℕ → List ℕ → List ℕ → Type 0
 JoinedIn a b out = (tags : ℕ) → tags ≤ 16 → memoryOf tags out ≡ joined (memoryOf tags a) (memoryOf tags b)
+
+-- what is left of a memory of so many tags once a mask's are dropped
+abbrev pub without : ℕ → ℕ → Memory → Memory
+without tags mask m = tab tags (λ k. cond (bit? mask k) 0 (getD m k 0))
 
 -- cell k of annotation j; 0 past the end
 unfoldable pub cellOf : List ℕ → ℕ → ℕ → ℕ

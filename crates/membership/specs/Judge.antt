@@ -6,10 +6,12 @@ use Prim.Native.Nat.{ℕ, _*_, _/_, _<_, _≤_}
 use lib.Dec.{eqb, leb}
 use lib.ListN.{length, take, drop, replicate}
 use Rattle.model.specs.Refusal.{demand, andAfter, Answer, gives, refuses, unless}
+use Rattle.model.specs.Automaton.{forgetsNothing?}
 use Rattle.model.specs.Table.{treeOf}
 use Rattle.model.specs.Run.{Accepts}
 use Rattle.model.specs.Annotation.{annotations, accepts?}
 use Rattle.model.specs.Papers.{Recognizes, rigidOf, papers?}
+use Rattle.model.specs.Isolating.{Isolates, isolatingOf}
 use Rattle.automaton.specs.Stored.{decode}
 use Rattle.document.specs.Rows.{decodeRows}
 use Rattle.document.specs.Check.{documentCheckOf}
@@ -56,7 +58,11 @@ pub record Judging (set cells work run : List ℕ) (r : Judged) (work′ run′ 
   pub handed : RunAfter set cells run run′ r
   pub accepted : (s : ℕ) → r ≡ Yes s → Accepts (decode set) (treeOf (decodeRows cells))
   pub rejected : r ≡ No → Accepts (decode set) (treeOf (decodeRows cells)) → ⊥
-  -- of a set with one state to a tag and one tag to a state, a yes is acceptance by the rigid tree automaton of source document 004
-  pub recognized : papers? (decode set) ≡ true → (s : ℕ) → r ≡ Yes s → Recognizes (rigidOf (decode set)) (treeOf (decodeRows cells))
+  -- of a set with one state to a tag and one tag to a state, a yes is acceptance by the isolating rigid tree automaton of source document 000
+  pub isolates : papers? (decode set) ≡ true → (s : ℕ) → r ≡ Yes s → Isolates (isolatingOf (decode set)) (treeOf (decodeRows cells))
   -- and a no its opposite
-  pub unrecognized : papers? (decode set) ≡ true → r ≡ No → Recognizes (rigidOf (decode set)) (treeOf (decodeRows cells)) → ⊥
+  pub isolates-not : papers? (decode set) ≡ true → r ≡ No → Isolates (isolatingOf (decode set)) (treeOf (decodeRows cells)) → ⊥
+  -- and where no rule forgets, a yes is acceptance by the rigid tree automaton of source document 004
+  pub recognized : papers? (decode set) ≡ true → forgetsNothing? (decode set) ≡ true → (s : ℕ) → r ≡ Yes s → Recognizes (rigidOf (decode set)) (treeOf (decodeRows cells))
+  -- and a no its opposite
+  pub unrecognized : papers? (decode set) ≡ true → forgetsNothing? (decode set) ≡ true → r ≡ No → Recognizes (rigidOf (decode set)) (treeOf (decodeRows cells)) → ⊥

@@ -9,13 +9,16 @@ use Rattle.model.specs.Lists.{concatMap, only, tab}
 use Rattle.model.specs.Automaton.{Automaton}
 use Rattle.model.specs.Table.{Row, rowAt}
 use Rattle.model.specs.Written.{ruleAt}
-use Rattle.model.specs.Annotation.{Memory, Annotation, annotation, emptyMemory, joined, finish}
+use Rattle.model.specs.Annotation.{Memory, Annotation, annotation, emptyMemory, joined, kept, finish}
 use Rattle.membership.specs.Entries.{Entry, annotationsOf, addEntries}
 use Rattle.membership.specs.Search.{span, noAnnotation, choosable?, withChild}
 
--- the last step, by rule r to state q on row i
-abbrev pub lastStep : Automaton → ℕ → ℕ → ℕ → Memory → List ℕ → List Entry
-lastStep A i q r m children = map (λ y. record { annotation = annotation i q y; rule = r; children = children }) (finish A q i m)
+-- what rule r leaves on row i of a joined memory: its tags dropped, then the last step
+abbrev pub leftOf : Automaton → ℕ → ℕ → Memory → List Memory
+leftOf A i r m = finish A ((ruleAt A r) .target) i (kept A (ruleAt A r) m)
+
+abbrev pub lastStep : Automaton → ℕ → ℕ → Memory → List ℕ → List Entry
+lastStep A i r m children = map (λ y. record { annotation = annotation i ((ruleAt A r) .target) y; rule = r; children = children }) (leftOf A i r m)
 
 -- annotation j chosen at place p for a child on row c in state q, where it may be, and what the places after it make of that
 abbrev pub taken : List Annotation → ℕ → ℕ → ℕ → (Memory → List ℕ → List Entry) → Memory → List ℕ → ℕ → List Entry
@@ -36,7 +39,7 @@ noChildren = tab maxChildren (λ p. unused)
 -- what rule r makes on row i, and what all rules of the row's symbol do
 abbrev pub ruleEntries : Automaton → List Row → List Annotation → ℕ → ℕ → List Entry
 ruleEntries A rows known i r =
-    made known (lastStep A i ((ruleAt A r) .target) r) 0 (emptyMemory A) noChildren ((rowAt rows i) .children) ((ruleAt A r) .children)
+    made known (lastStep A i r) 0 (emptyMemory A) noChildren ((rowAt rows i) .children) ((ruleAt A r) .children)
 
 abbrev pub byRule : Automaton → List Row → List Annotation → ℕ → ℕ → List Entry
 byRule A rows known i r = only (eqb ((ruleAt A r) .symbol) ((rowAt rows i) .symbol)) (ruleEntries A rows known i r)

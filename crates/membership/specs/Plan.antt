@@ -27,6 +27,7 @@ pub record WantFor (A : Automaton) (plan : Plan) (r : ℕ) (want : Want) : Type 
   pub row : want .row .0 ≡ plan .row .0
   pub target : want .target .0 ≡ (ruleAt A r) .target
   pub rule : want .rule ≡ r
+  pub forget : want .forget ≡ (ruleAt A r) .forget
   pub tags : want .tags ≡ plan .tags
   pub arity : want .arity ≡ plan .arity
   pub base : want .base ≡ plan .base

@@ -8,7 +8,7 @@ use lib.ListN.{length, getD, set}
 use Rattle.model.specs.Limits.{maxChildren, maxSteps}
 use Rattle.model.specs.Lists.{concatMap, only}
 use Rattle.model.specs.Annotation.{Memory, Annotation, annotation, agree?, joined}
-use Rattle.membership.specs.Cells.{annotationCells, memoryOf, memoryIn}
+use Rattle.membership.specs.Cells.{annotationCells, memoryOf, without, memoryIn}
 use Rattle.membership.specs.Index.{Indexed}
 use Rattle.membership.specs.Entries.{Entry}
 use Rattle.membership.specs.declared.search.Want.{Want}
@@ -35,6 +35,10 @@ finished want own m children =
     only (agree? m own)
     (record { annotation = annotation (want .row .0) (want .target .0) (joined m own); rule = want .rule; children = children } ∷ [])
 
+-- what the rule leaves: its tags are dropped, then the last step
+abbrev pub leaving : Want → Memory → Memory → List ℕ → List Entry
+leaving want own m children = finished want own (without (want .tags) (want .forget) m) children
+
 -- the state that is asked at place p
 abbrev pub askedState : Want → ℕ → ℕ
 askedState want p = (getD (want .states) p (record { 0 = 0 })) .0
@@ -51,7 +55,7 @@ chosen known want p next m children j =
 
 -- what the last `left` places make, each in its window of the known annotations
 unfoldable pub found : List Annotation → Want → Memory → ℕ → Memory → List ℕ → List Entry
-found known want own zero m children = finished want own m children
+found known want own zero m children = leaving want own m children
 found known want own (suc left) m children =
     let p = want .arity - suc left in
     concatMap (chosen known want p (λ x c. found known want own left x c) m children) (span (getD (want .low) p 0) (getD (want .high) p 0 - getD (want .low) p 0))

@@ -30,7 +30,7 @@ pub record ReachedMore (before : List ℕ) (j : ℕ) (after : List ℕ) : Type 0
   pub others : (x : ℕ) → (x ≡ j → ⊥) → reached? after x ≡ reached? before x
 
 -- none of the first n annotations is reached
-pub record Forgotten (before : List ℕ) (n : ℕ) (after : List ℕ) : Type 0 where
+pub record Unmarked (before : List ℕ) (n : ℕ) (after : List ℕ) : Type 0 where
   pub kept : KeptBut 26 before after
   pub none : (j : ℕ) → j < n → reached? after j ≡ false
 

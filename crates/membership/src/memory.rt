@@ -1,11 +1,12 @@
 // Memories: a place for each tag, 0 where the tag has no row, else the row's number and 1.
 ghost use mathlib.Core.Path.{_≡_};
-ghost use Prim.Native.Nat.{_≤_};
+ghost use mathlib.Core.Bool.{cond};
+ghost use Prim.Native.Nat.{_%_, _≤_};
 ghost use lib.Dec.{eqb};
 ghost use lib.ListN.{length};
 ghost use Rattle.model.specs.Lists.{eqList};
 ghost use Rattle.model.specs.Annotation.{placesAgree, joinedPlace, agree?};
-ghost use Rattle.membership.specs.Cells.{memoryOf, JoinedIn};
+ghost use Rattle.membership.specs.Cells.{memoryOf, JoinedIn, without};
 
 // A memory has 16 places, the first of them the tags'.
 const MEMORY_PLACES: usize = 16;
@@ -77,6 +78,29 @@ pub(crate) fn join(a: &[u16], b: &[u16]) -> [u16; 16]
     let mut k = 0;
     while k < MEMORY_PLACES {
         out[k] = joined_place(a[k], b[k]);
+        k += 1;
+    }
+    out
+}
+
+// A place, nothing where the lowest bit of a mask is set.
+fn kept_place(mask: u16, x: u16) -> u16
+    ensures { λ r. ⌜ r ≡ cond (eqb (mask % 2) 1) 0 x ⌝ }
+{
+    if mask % 2 == 1 { 0 } else { x }
+}
+
+// What is left of a memory once a mask's tags are dropped.
+pub(crate) fn kept(memory: &[u16], mask: u16, tags: usize) -> [u16; 16]
+    requires { ⌜ (tags ≤ 16) × (length (now memory) ≡ 16) ⌝ }
+    ensures { λ r. ⌜ memoryOf tags r ≡ without tags mask (memoryOf tags (now (memory .entry))) ⌝ }
+{
+    let mut out = [0u16; MEMORY_PLACES];
+    let mut rest = mask;
+    let mut k = 0;
+    while k < tags {
+        out[k] = kept_place(rest, memory[k]);
+        rest = rest / 2;
         k += 1;
     }
     out

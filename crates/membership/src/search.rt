@@ -5,7 +5,7 @@ ghost use lib.ListN.{length};
 ghost use Rattle.model.specs.Annotation.{annotation};
 ghost use Rattle.membership.specs.Cells.{memoryOf, annotationsIn};
 ghost use Rattle.membership.specs.Entries.{entriesIn, addEntry, addEntries, Grown};
-ghost use Rattle.membership.specs.Search.{withChild, finished, found, Ready};
+ghost use Rattle.membership.specs.Search.{withChild, finished, leaving, found, Ready};
 use crate::entries::choosable;
 use crate::entries::joined_with;
 use crate::entries::put;
@@ -14,6 +14,7 @@ use crate::index::link;
 use crate::index::slot_of;
 use crate::memory::agree;
 use crate::memory::join;
+use crate::memory::kept;
 use automaton::State;
 use base::limits::PLACES;
 use document::rows::Row;
@@ -23,6 +24,7 @@ pub struct Want {
     pub row: Row,
     pub target: State,
     pub rule: u16,
+    pub forget: u16,
     pub tags: usize,
     pub arity: usize,
     pub base: usize,
@@ -70,7 +72,7 @@ fn add(work: &mut [u16], want: Want, n: usize, memory: &[u16], children: [u16; P
     n + 1
 }
 
-// The last step: the target's tags are added to the joined memory, provided no tag gets two rows.
+// The last step: the target's tags are added to what is left of the joined memory, provided no tag gets two rows.
 fn finish(
     work: &mut [u16],
     own: &[u16],
@@ -87,6 +89,25 @@ fn finish(
         return add(work, want, n, &all, children);
     }
     n
+}
+
+// What the rule leaves: its tags are dropped from the joined memory, then the last step. A rule that forgets nothing copies no memory.
+fn leave(
+    work: &mut [u16],
+    own: &[u16],
+    want: Want,
+    n: usize,
+    memory: &[u16],
+    children: [u16; PLACES],
+) -> usize
+    requires { ⌜ Ready want (now work) n × (length (now own) ≡ 16) × (length (now memory) ≡ 16) ⌝ }
+    ensures { λ r. ⌜ Grown n (want .room) (want .tags) (addEntries (entriesIn (want .tags) (now (work .entry)) n) (leaving want (memoryOf (want .tags) (now (own .entry))) (memoryOf (want .tags) (now (memory .entry))) children)) (now (work .exit)) r ⌝ }
+{
+    if want.forget == 0 {
+        return finish(work, own, want, n, memory, children);
+    }
+    let left = kept(memory, want.forget, want.tags);
+    finish(work, own, want, n, &left, children)
 }
 
 // The child annotations with number j at place p.
@@ -113,7 +134,7 @@ pub(crate) fn search(
     ensures { λ r. ⌜ Grown n (want .room) (want .tags) (addEntries (entriesIn (want .tags) (now (work .entry)) n) (found (annotationsIn (want .tags) (now (work .entry)) (want .base)) want (memoryOf (want .tags) (now (own .entry))) left (memoryOf (want .tags) (now (memory .entry))) children)) (now (work .exit)) r ⌝ }
 {
     if left == 0 {
-        return finish(work, own, want, n, memory, children);
+        return leave(work, own, want, n, memory, children);
     }
     let p = want.arity - left;
     let lows = want.low;

@@ -97,6 +97,7 @@ fn want_for(set: &[u8], plan: Plan, r: u16) -> Want
         row: row,
         target: target,
         rule: r,
+        forget: asked.forget,
         tags: plan.tags,
         arity: plan.arity,
         base: plan.base,

@@ -8,7 +8,7 @@ ghost use Rattle.automaton.specs.Stored.{decode};
 ghost use Rattle.document.specs.Rows.{decodeRows};
 ghost use Rattle.runs.specs.Fields.{stepNumbers};
 ghost use Rattle.membership.specs.Cells.{cellOf, childIn};
-ghost use Rattle.membership.specs.Trace.{reached?, numberAt, acceptingIn, ReachedMore, Forgotten, ChildrenReached, Traced, FirstOf};
+ghost use Rattle.membership.specs.Trace.{reached?, numberAt, acceptingIn, ReachedMore, Unmarked, ChildrenReached, Traced, FirstOf};
 use crate::entries::ANNOTATION_CELLS;
 use crate::entries::CHILD;
 use crate::entries::NUMBER;
@@ -90,9 +90,9 @@ pub(crate) fn first_accepting(set: &[u8], work: &[u16], n: usize, last: Row) -> 
 }
 
 // None of the first n annotations is reached.
-fn forget(work: &mut [u16], n: usize)
+fn unmark(work: &mut [u16], n: usize)
     requires { ⌜ n * 32 ≤ length (now work) ⌝ }
-    ensures { λ _. ⌜ Forgotten (now (work .entry)) n (now (work .exit)) ⌝ }
+    ensures { λ _. ⌜ Unmarked (now (work .entry)) n (now (work .exit)) ⌝ }
 {
     let mut j = 0;
     while j < n {
@@ -129,7 +129,7 @@ pub(crate) fn trace(work: &mut [u16], root: usize)
     requires { ⌜ root * 32 + 32 ≤ length (now work) ⌝ }
     ensures { λ _. ⌜ Traced (now (work .entry)) root (now (work .exit)) ⌝ }
 {
-    forget(work, root);
+    unmark(work, root);
     reach(work, root);
     let mut i = root + 1;
     while 0 < i {

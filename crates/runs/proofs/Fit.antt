@@ -46,7 +46,7 @@ module _ (A : Automaton) (rows : List Row) (run : List Step) (i k x : ℕ) where
   child-high l = ap (λ (b : Bool). b && asked?) (le-ltb x i l)
 
 module _ (set doc run : List ℕ) (i : ℕ) (h : Known set doc run i) where
-  pub row-known : (stepAt (decodeSteps run) i) .row < length (decodeRows doc)
+  row-known : (stepAt (decodeSteps run) i) .row < length (decodeRows doc)
   row-known = known-row (decode set) (decodeRows doc) (decodeSteps run) i (T-true (known? (decode set) (decodeRows doc) (decodeSteps run) i) .1 (h .known))
 
   -- place k holds x, the row is r, and its place k holds c

@@ -4,7 +4,9 @@ pub mod Putting
 pub mod Encoding
 pub mod Sound
 pub mod Fit
-pub mod Tags
+pub mod Tested
+pub mod Joining
+pub mod ByTag
 pub mod Marks
 pub mod Verdict
 pub mod Meaning

@@ -2,39 +2,34 @@
 use mathlib.Core.Path.{_≡_, sym, ap, _∙_}
 use mathlib.Core.List.{List}
 use mathlib.Core.Bool.{Bool, true, _&&_}
-use Prim.Native.Nat.{ℕ, _-_, _/_, _%_, _<_, _≤_}
+use Prim.Native.Nat.{ℕ, _-_, _/_, _<_, _≤_}
 use native.Mathlib.Omega.{arith}
 use borrow.Author.Needs.{needs}
-use borrow.Author.Tests.{leb-true}
 use mir.Syntax.{w16}
 use mir.Val.{Fits}
-use lib.Dec.{eqb, leb}
+use lib.Dec.{eqb}
 use lib.ListN.{length}
-use Rattle.model.specs.Limits.{maxSteps}
 use Rattle.model.specs.Lists.{allBelow}
 use Rattle.model.specs.Automaton.{final?}
 use Rattle.model.specs.Written.{stepAt, ruleOf}
-use Rattle.model.specs.WrittenTest.{known?, ends?}
+use Rattle.model.specs.WrittenTest.{known?, stepFits?, ends?}
+use Rattle.model.proofs.Members.{T-true}
 use Rattle.model.proofs.Below.{at}
 use Rattle.automaton.specs.Stored.{decode}
 use Rattle.document.specs.Rows.{rowCells, decodeRows}
 use Rattle.document.specs.Check.{documentCheckOf}
 use Rattle.document.proofs.Places.{rows-length}
-use Rattle.document.proofs.Refusals.{true-and}
-use Rattle.runs.specs.Steps.{stepCells, decodeSteps}
+use Rattle.runs.specs.Steps.{placeIn, decodeSteps}
 use Rattle.runs.specs.Check.{counted?}
-use Rattle.runs.specs.Passes.{Counted, Known, Ready, Tagged}
+use Rattle.runs.specs.Passes.{Counted, Known, Ready}
+use Rattle.runs.specs.Memories.{Fitted}
 use Rattle.runs.proofs.Sound.{sound-set, sound-rows}
-use Rattle.runs.proofs.Fit.{row-known}
+use Rattle.runs.proofs.Tested.{few-steps, fitted}
 
 -- a run that passed 21 has few steps
 module _ (run : List ℕ) (f : Bool) (n : ℕ) (e : f ≡ counted? run) (y : f ≡ true) (m : n ≡ length (decodeSteps run)) where
   pub counted : Counted (decodeSteps run) n
-  unfolding counted?
-  counted =
-      let (some, c) = true-and (leb 1 (length (decodeSteps run))) (leb (length (decodeSteps run)) maxSteps && eqb (length run % stepCells) 0) (sym e ∙ y) in
-      let few = true-and (leb (length (decodeSteps run)) maxSteps) (eqb (length run % stepCells) 0) c .0 in
-      record { steps = m; some = rw m (leb-true 1 (length (decodeSteps run)) some); few = rw m (leb-true (length (decodeSteps run)) maxSteps few) }
+  counted = let (some, few) = few-steps run (T-true (counted? run) .1 (sym e ∙ y)) in record { steps = m; some = rw m some; few = rw m few }
 
   pub count-fits : Fits w16 n
   count-fits = let c = counted .few in record { fits = omega arith }
@@ -42,15 +37,6 @@ module _ (run : List ℕ) (f : Bool) (n : ℕ) (e : f ≡ counted? run) (y : f �
 module _ (set doc run : List ℕ) (n : ℕ) (h : Ready set doc run n) where
   pub ready-known : (i : ℕ) → i < n → Known set doc run i
   ready-known i l = record { sound = h .sound; known = at (known? (decode set) (decodeRows doc) (decodeSteps run)) n i (h .known) l }
-
-  ready-tagged : Tagged (decode set) (decodeSteps run) n
-  ready-tagged =
-      let few = sound-rows set doc (h .sound) .few-rows in
-      record {
-        steps = h .counted .steps;
-        few = let t = sound-set set doc (h .sound) .few-tags in omega arith;
-        rows = λ i l. let r = row-known set doc run i (ready-known i l) in omega arith;
-      }
 
   pub some-rows : (m : ℕ) → m ≡ length doc / rowCells → 1 ≤ m
   some-rows m e = let s = sound-rows set doc (h .sound) .some-row in let w = rows-length doc in omega arith
@@ -71,7 +57,11 @@ module _ (set doc run : List ℕ) (f g : Bool) (n : ℕ) (s : documentCheckOf se
   pub ready : Ready set doc run n
   ready = record { sound = s; counted = counted run f n e y m; known = ap (λ (j : ℕ). allBelow j (known? (decode set) (decodeRows doc) (decodeSteps run))) m ∙ sym k ∙ z }
 
-  pub tagged : Tagged (decode set) (decodeSteps run) n
-  tagged = ready-tagged set doc run n ready
+  -- and one that passed 23 has steps that fit
+  pub fitting : (b : Bool) → b ≡ allBelow (length (decodeSteps run)) (stepFits? (decode set) (decodeRows doc) (decodeSteps run) (placeIn run)) → b ≡ true → Fitted (decode set) (decodeSteps run) n
+  fitting b x t =
+      fitted (decode set) (decodeRows doc) run (sound-set set doc s) (sound-rows set doc s) (omega (arith, ready .counted .steps, ready .counted .few))
+      (T-true (allBelow (length (decodeSteps run)) (known? (decode set) (decodeRows doc) (decodeSteps run))) .1 (sym k ∙ z))
+      (T-true (allBelow (length (decodeSteps run)) (stepFits? (decode set) (decodeRows doc) (decodeSteps run) (placeIn run))) .1 (sym x ∙ t)) n m
 
 pub ruleset readies = (ready-known, some-rows, ends-are, needs)

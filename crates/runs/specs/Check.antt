@@ -1,4 +1,4 @@
--- Which number refuses a lent run (document 01, section "Turned away, by place", place "run"); 0 for none. Assumes nothing.
+-- Which number refuses a lent run (document 01, section "Turned away, by place", place "run"; document 02, Wish 9, for 24); 0 for none. Assumes nothing.
 use mathlib.Core.List.{List}
 use mathlib.Core.Bool.{Bool, _&&_}
 use Prim.Native.Nat.{ℕ, _-_, _%_}
@@ -20,7 +20,7 @@ unfoldable pub counted? : List ℕ → Bool
 counted? cells =
     leb 1 (length (decodeSteps cells)) && (leb (length (decodeSteps cells)) maxSteps && eqb (length cells % stepCells) 0)
 
--- The number: each test over the whole input before the next.
+-- The number: each test over the whole input before the next. 24 is the clash of document 01 as Wish 9 of document 02 has it: a tag with two rows in the memory that a step leaves, what its rule forgets being dropped.
 unfoldable pub runCheckOf : Automaton → List Row → List ℕ → ℕ
 runCheckOf A rows cells =
     demand (counted? cells) 21

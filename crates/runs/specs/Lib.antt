@@ -1,4 +1,5 @@
 pub mod Steps
 pub mod Check
 pub mod Passes
+pub mod Memories
 pub mod Fields

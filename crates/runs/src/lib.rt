@@ -8,7 +8,8 @@ ghost use Rattle.document.specs.Check.{documentCheckOf};
 ghost use Rattle.runs.specs.Check.{runCheckOf, checkRunOf};
 
 pub mod steps; // steps.rt: lent steps, by index
-mod tests; // tests.rt: the tests 21 to 26, each over the whole run
+mod memories; // memories.rt: the test 24, tag by tag
+mod tests; // tests.rt: the other tests, each over the whole run
 
 use automaton::Checked;
 
@@ -27,7 +28,7 @@ fn tried(set: &[u8], rows: &[u16], run: &[u16]) -> Checked
     if !tests::all_fit(set, rows, run, n) {
         return Checked::Refused(23);
     }
-    if !tests::one_row(set, run, n) {
+    if !memories::one_row(set, run, n) {
         return Checked::Refused(24);
     }
     if !tests::ends(set, rows, run, n) {

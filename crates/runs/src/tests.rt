@@ -1,4 +1,4 @@
-// The run check's tests 21 to 26, each over the whole run.
+// The run check's tests 21 to 23, 25 and 26, each over the whole run.
 use crate::steps::STEP_CELLS;
 use crate::steps::count;
 use crate::steps::place;
@@ -10,35 +10,28 @@ use automaton::header;
 use automaton::is_final;
 use automaton::rule_child;
 use automaton::rule_symbol;
-use automaton::tags_of;
 use base::limits::MAX_CHILDREN;
 use base::limits::MAX_STEPS;
-use base::limits::MAX_TAGS;
 use base::limits::PLACES;
 use base::limits::UNUSED;
 use base::numbers::size;
 use document::marks::all_marked;
 use document::marks::set_mark;
 use document::rows;
-use document::rows::Row;
 use document::rows::Step;
 ghost use mathlib.Core.Path.{_≡_};
-ghost use Prim.Native.Nat.{_-_, _<_, _≤_};
+ghost use Prim.Native.Nat.{_-_};
 ghost use lib.ListN.{length};
-ghost use Rattle.model.specs.Limits.{maxChildren, maxTags};
+ghost use Rattle.model.specs.Limits.{maxChildren};
 ghost use Rattle.model.specs.Lists.{allBelow};
-ghost use Rattle.model.specs.Automaton.{bit?};
-ghost use Rattle.model.specs.WrittenTest.{known?, placeFits?, stepFits?, oneRow?, ends?, used?};
+ghost use Rattle.model.specs.WrittenTest.{known?, placeFits?, stepFits?, ends?, used?};
 ghost use Rattle.automaton.specs.Stored.{decode};
 ghost use Rattle.document.specs.Rows.{used, decodeRows};
 ghost use Rattle.document.specs.Marks.{Marked};
 ghost use Rattle.runs.specs.Steps.{placeIn, decodeSteps};
 ghost use Rattle.runs.specs.Fields.{stepNumbers};
 ghost use Rattle.runs.specs.Check.{counted?};
-ghost use Rattle.runs.specs.Passes.{Counted, Known, Ready, Tagged, agrees?, Assigned};
-
-// A place for each tag.
-const TAG_PLACES: usize = MAX_TAGS as usize;
+ghost use Rattle.runs.specs.Passes.{Counted, Known, Ready};
 
 // 21: 1 to 4,096 steps, none cut short.
 pub(crate) fn counted(run: &[u16]) -> bool
@@ -129,77 +122,6 @@ pub(crate) fn all_fit(set: &[u8], rows: &[u16], run: &[u16], n: u16) -> bool
         } else {
             return false;
         }
-    }
-    true
-}
-
-fn has_tag(mask: u16, k: u16) -> bool
-    requires { ⌜ k < maxTags ⌝ }
-    ensures { λ r. ⌜ r ≡ bit? mask k ⌝ }
-{
-    (mask >> k) % 2 == 1
-}
-
-// Whether tag k, if the mask has it, agrees with the row.
-fn agrees(held: &[u16; TAG_PLACES], mask: u16, to: Row, k: u16) -> bool
-    requires { ⌜ k < maxTags ⌝ }
-    ensures { λ r. ⌜ r ≡ agrees? (now (held .entry)) mask (to .0) k ⌝ }
-{
-    let at = size(k);
-    let h = held[at];
-    !has_tag(mask, k) | ((h == UNUSED) | (h == to.0))
-}
-
-fn all_agree(held: &[u16; TAG_PLACES], tags: u16, mask: u16, to: Row) -> bool
-    requires { ⌜ tags ≤ maxTags ⌝ }
-    ensures { λ r. ⌜ r ≡ allBelow tags (agrees? (now (held .entry)) mask (to .0)) ⌝ }
-{
-    let mut k = 0;
-    while k < tags {
-        if agrees(held, mask, to, k) {
-            k += 1;
-        } else {
-            return false;
-        }
-    }
-    true
-}
-
-// The places after the tags that the mask has were assigned to the row.
-fn assigned(held: [u16; TAG_PLACES], tags: u16, mask: u16, to: Row) -> [u16; TAG_PLACES]
-    requires { ⌜ tags ≤ maxTags ⌝ }
-    ensures { λ r. ⌜ Assigned tags mask (to .0) held r ⌝ }
-{
-    let mut out = held;
-    let mut k = 0;
-    while k < tags {
-        let at = size(k);
-        let has = has_tag(mask, k);
-        k += 1;
-        if has {
-            out[at] = to.0;
-        }
-    }
-    out
-}
-
-// 24: one pass holds the row of each tag, and stops at a tag that a second one would be assigned to.
-pub(crate) fn one_row(set: &[u8], run: &[u16], n: u16) -> bool
-    requires { ⌜ Tagged (decode (now set)) (decodeSteps (now run)) n ⌝ }
-    ensures { λ r. ⌜ r ≡ oneRow? (decode (now (set .entry))) (decodeSteps (now (run .entry))) ⌝ }
-{
-    let h = header(set);
-    let tags = h.tags;
-    let mut held = [UNUSED; TAG_PLACES];
-    let mut i = 0;
-    while i < n {
-        let mask = tags_of(set, target(set, run, Step(i)));
-        let to = row(run, Step(i));
-        i += 1;
-        if !all_agree(&held, tags, mask, to) {
-            return false;
-        }
-        held = assigned(held, tags, mask, to);
     }
     true
 }

@@ -11,6 +11,7 @@ use Rattle.model.specs.Refusal.{demand}
 use Rattle.model.specs.Table.{Row}
 use Rattle.automaton.specs.Stored.{decode}
 use Rattle.automaton.specs.Check.{checkOf}
+use Rattle.automaton.proofs.Passes.{check-most}
 use Rattle.names.specs.Check.{namesCheckOf}
 use Rattle.term.specs.Grammar.{Outcome}
 use Rattle.term.specs.Read.{Reading, rowsRead, refusedAt, wholeText, readText, settingFor, unlessRefused, readOf, readingMap, readAnswer}
@@ -25,15 +26,7 @@ demand-most true n rest h k = k
 demand-most false n rest h k = h
 
 set-most : (set : List ℕ) → checkOf set ≤ 67
-unfolding checkOf
-set-most set =
-    demand-most _ 1 _ (omega arith)
-    (demand-most _ 2 _ (omega arith)
-    (demand-most _ 3 _ (omega arith)
-    (demand-most _ 4 _ (omega arith)
-    (demand-most _ 5 _ (omega arith)
-    (demand-most _ 6 _ (omega arith)
-    (demand-most _ 7 _ (omega arith) (omega arith)))))))
+set-most set = let h = check-most set in omega arith
 
 names-most : (n : ℕ) (site builtIn : List ℕ) → namesCheckOf n site builtIn ≤ 67
 unfolding namesCheckOf

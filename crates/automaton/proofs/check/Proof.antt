@@ -24,4 +24,6 @@ check-spec =
     (λ c. answered 6 _ (search verdicts depth 9))
     (λ c κs. search needs)
     (λ c. answered 7 _ (search verdicts depth 9))
-    (λ c. answered 0 _ (search verdicts depth 9)))
+    (λ c κs. tags-few _ _ (c .before .before .before .before .before .before .before .before .before .before .before .counts .ensures) (not-false _ (c .before .before .before .before .before .before .before .before .before .before .if2 .left)))
+    (λ c. answered 9 _ (search verdicts depth 10))
+    (λ c. answered 0 _ (search verdicts depth 10)))

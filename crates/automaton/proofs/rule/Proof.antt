@@ -14,13 +14,16 @@ rule-spec =
     (λ c κs. search reads)
     (λ c κs. search reads)
     (λ c κs. search reads)
-    (λ c. let f = c .before .before .before in record {
+    (λ c κs. search reads)
+    (λ c. let f = c .before .before .before .before in record {
       symbol = search reads;
       target = search reads;
-      places = read-places _ _ _ _ _ (f .before .before .before .before .rules .ensures) (f .before .before .before .if1 .taken) (f .rule-word .ensures) (c .before .before .arity .ensures) _ (c .before .places-of .ensures);
+      places = read-places _ _ _ _ _ (f .before .before .before .before .rules .ensures) (f .before .before .before .if1 .taken) (f .rule-word .ensures) (c .before .before .before .arity .ensures) _ (c .before .before .places-of .ensures);
+      forget = search reads;
     })
     (λ c. record {
       symbol = search reads;
       target = search reads;
       places = no-places _ _ _ (c .before .rules .ensures) (c .if1 .left);
+      forget = search reads;
     }))

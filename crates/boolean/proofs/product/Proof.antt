@@ -15,17 +15,17 @@ product-size-requires c κs = inputs-sound product _ _ 0 _ (c .before .inputs .e
 returns-2 : tie.Need-returns-2
 returns-2 c =
     let s = c .before in
-    result-refused product _ _ (now (s .before .before .before .before .before .before .before .before .args .out)) _ (s .before .before .before .before .inputs .ensures) (s .before .before .before .if1 .left) _ _ _ (s .before .header .ensures .symbols) (s .before .before .product-size .ensures) (s .result .ensures) (c .if2 .taken)
+    result-refused product _ _ (now (s .before .before .before .before .before .before .before .before .before .args .out)) _ (s .before .before .before .before .before .inputs .ensures) (s .before .before .before .before .if1 .left) _ (s .before .before .result-form .ensures) _ _ _ (s .before .header .ensures .symbols) (s .before .before .before .product-size .ensures) (s .result .ensures) (c .if2 .taken)
 
 put-product-requires : tie.Need-put-product-requires
 put-product-requires c κs =
     let s = c .before .before in
-    may-write product _ _ (now (s .before .before .before .before .before .before .before .before .args .out)) _ (s .before .before .before .before .inputs .ensures) (s .before .before .before .if1 .left) _ _ _ (s .before .header .ensures .symbols) (s .before .before .product-size .ensures) (s .result .ensures) (c .before .if2 .left)
+    may-write product _ _ (now (s .before .before .before .before .before .before .before .before .before .args .out)) _ (s .before .before .before .before .before .inputs .ensures) (s .before .before .before .before .if1 .left) _ (s .before .before .result-form .ensures) _ _ _ (s .before .header .ensures .symbols) (s .before .before .before .product-size .ensures) (s .result .ensures) (c .before .if2 .left)
 
 returns-3 : tie.Need-returns-3
 returns-3 c =
     let s = c .before .before .before .before .before in
-    written product _ _ (now (s .before .before .before .before .before .before .before .before .args .out)) _ (s .before .before .before .before .inputs .ensures) (s .before .before .before .if1 .left) _ _ _ (s .before .header .ensures .symbols) (s .before .before .product-size .ensures) (s .result .ensures) (c .before .before .before .before .if2 .left) _ _ (c .before .before .put-product .ensures)
+    written product _ _ (now (s .before .before .before .before .before .before .before .before .before .args .out)) _ (s .before .before .before .before .before .inputs .ensures) (s .before .before .before .before .if1 .left) _ (s .before .before .result-form .ensures) _ _ _ (s .before .header .ensures .symbols) (s .before .before .before .product-size .ensures) (s .result .ensures) (c .before .before .before .before .if2 .left) _ _ (c .before .before .put-product .ensures)
 
 pub product-spec : {M : Type 1} → statement M
 product-spec =
@@ -34,6 +34,7 @@ product-spec =
     (λ c κs. search needs)
     returns
     product-size-requires
+    (λ c κs. search needs)
     (λ c κs. search needs)
     (λ c κs. search needs)
     returns-2

@@ -17,7 +17,7 @@ annotate-requires : tie.Need-annotate-requires
 annotate-requires c κs =
     let a = c .before .before .before .before .before .before .before .before .before .args in
     let p = c .before .before .before .before .before .before .before .before .before .pre in
-    (set-passed (a .set .now) (a .rows .now) (a .work .now) (a .run .now) p, table-passed (a .set .now) (a .rows .now) (a .work .now) (a .run .now) p)
+    (set-passed (a .set .now) (a .rows .now) p, table-passed (a .set .now) (a .rows .now) p)
 
 -- 31
 returns-2 : tie.Need-returns-2
@@ -37,7 +37,7 @@ write-run-requires c κs =
     let k = c .before .before .before .before .before .before .before .before .count in
     let n = c .before .before .before .before .before .annotate in
     let fits = c .before .before .if2 .left in (
-      (set-passed (a .set .now) (a .rows .now) (a .work .now) (a .run .now) p, table-passed (a .set .now) (a .rows .now) (a .work .now) (a .run .now) p),
+      (set-passed (a .set .now) (a .rows .now) p, table-passed (a .set .now) (a .rows .now) p),
       (
         spaces (a .set .now) (a .rows .now) (a .work .now) (a .run .now) p (m .result) (k .result) (m .ensures) (k .ensures) (c .before .before .before .before .before .before .before .if1 .left) (n .last .1 .1 .0) (n .kept .1 .1 .0) (n .result) (n .ensures) fits,
         held-in (a .set .now) (a .rows .now) (a .work .now) (a .run .now) p (m .result) (k .result) (m .ensures) (k .ensures) (c .before .before .before .before .before .before .before .if1 .left) (n .last .1 .1 .0) (n .kept .1 .1 .0) (n .result) (n .ensures) fits,

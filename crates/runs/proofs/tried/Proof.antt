@@ -3,14 +3,14 @@ use borrow.Author.Needs.{needs}
 use borrow.Author.Tests.{not-false}
 use Rattle.automaton.proofs.Verdict.{verdicts, answered}
 use Rattle.runs.specs.Check.{runCheckOf}
-use Rattle.runs.proofs.Verdict.{counted, count-fits, ready, tagged}
+use Rattle.runs.proofs.Verdict.{counted, count-fits, ready, fitting}
 use Rattle.runs.proofs.tried.Statement.{statement}
 use Rattle.runs.proofs.tried.Tie as tie
 
 one-row-requires : tie.Need-one-row-requires
 one-row-requires c κs =
-    tagged _ _ _ _ _ _ (c .before .before .before .before .before .before .before .before .before .before .pre) (c .before .before .before .before .before .before .counted .ensures) (not-false _ (c .before .before .before .before .before .if1 .left)) (c .before .before .before .before .count .ensures) (c .before .before .before .all-known .ensures)
-    (not-false _ (c .before .before .if2 .left))
+    fitting _ _ _ _ _ _ (c .before .before .before .before .before .before .before .before .before .before .pre) (c .before .before .before .before .before .before .counted .ensures) (not-false _ (c .before .before .before .before .before .if1 .left)) (c .before .before .before .before .count .ensures) (c .before .before .before .all-known .ensures)
+    (not-false _ (c .before .before .if2 .left)) _ (c .before .all-fit .ensures) (not-false _ (c .if3 .left))
 
 ends-requires : tie.Need-ends-requires
 ends-requires c κs =

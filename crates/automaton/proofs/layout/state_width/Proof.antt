@@ -12,5 +12,7 @@ state-width-spec =
     (tie.spec
     (λ c. search needs)
     (λ c. search needs)
+    (λ c. search needs)
     (λ c. (rw (c .enum-told .given .1), omega arith))
-    (λ c. (rw (c .enum-told2 .given .1), omega arith)))
+    (λ c. (rw (c .enum-told2 .given .1), omega arith))
+    (λ c. (rw (c .enum-told3 .given .1), omega arith)))

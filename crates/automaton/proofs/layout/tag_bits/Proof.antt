@@ -11,5 +11,7 @@ tag-bits-spec =
     (tie.spec
     (λ c. search needs)
     (λ c. search needs)
+    (λ c. search needs)
     (λ c. rw (c .enum-told .given .1))
-    (λ c. rw (c .enum-told2 .given .1)))
+    (λ c. rw (c .enum-told2 .given .1))
+    (λ c. rw (c .enum-told3 .given .1)))

@@ -13,7 +13,7 @@ use Rattle.automaton.proofs.raw.place_word.Tie as tie
 after-two : (s : List ℕ) (form : Form) (i k first at n : ℕ) → form ≡ formOf s → first ≡ rulesAt s → at ≡ first + ruleWidth form * i → n ≡ word s (at + 4 + 2 * k) → n ≡ ruleWord s i (k + 2)
 unfolding ruleWord
 after-two s form i k first at n d e f h =
-    let g : at + 4 + 2 * k ≡ rulesAt s + ruleWidth (formOf s) * i + 2 * (k + 2) = omega arith in
+    let g : at + 4 + 2 * k ≡ rulesAt s + ruleWidth (formOf s) * i + 2 * (k + 2) = rw (← d) (omega arith) in
     h ∙ ap (word s) g
 
 pub place-word-spec : {M : Type 1} → statement M

@@ -1,23 +1,21 @@
 -- `boolean::keys::paired_key` meets its contract: the loop has pushed the places before its index. Assumes nothing.
 use borrow.Author.Needs.{needs}
+use native.Mathlib.Nat.{add-mod-mod}
 use native.Mathlib.Omega.{arith}
 use mathlib.Core.Path.{_≡_, ap, sym, subst, _∙_}
-use Prim.Native.Nat.{ℕ, _+_, _-_, _*_, _^_, _<_}
+use Prim.Native.Nat.{ℕ, _+_, _-_, _*_, _%_, _^_, _<_}
 use lib.ListN.{getD}
 use Rattle.model.specs.Limits.{maxChildren}
-use Rattle.boolean.specs.Key.{digitWidth, pushed, pairedPlace}
+use Rattle.boolean.specs.Key.{digitWidth, maskWidth, pushed, pairedPlace}
 use Rattle.boolean.proofs.Packing.{Pushing, pushing-none, pushing-more, pushing-all, product-low, numbers, number-at}
 use Rattle.boolean.proofs.keys.paired_key.Statement.{statement}
 use Rattle.boolean.proofs.keys.paired_key.Tie as tie
 
 abbrev Inv-loop : tie.InvT-loop
-Inv-loop r s n firsts seconds x₀ k₀ x k = Pushing (r .symbol) (λ j. pairedPlace n (getD (numbers (r .places)) j 0) (getD (numbers (s .places)) j 0)) x k
+Inv-loop r s n t firsts seconds x₀ k₀ x k = Pushing (r .symbol) (λ j. pairedPlace n (getD (numbers (r .places)) j 0) (getD (numbers (s .places)) j 0)) x k
 
 abbrev μ-loop : tie.MeasureT-loop
-μ-loop r s n firsts seconds x₀ k₀ x k = maxChildren - k
-
-push-requires : tie.Need-push-requires Inv-loop μ-loop
-push-requires c κs = search needs
+μ-loop r s n t firsts seconds x₀ k₀ x k = maxChildren - k
 
 loop-holds : tie.Need-loop-holds Inv-loop μ-loop
 loop-holds c = pushing-none _ _ _ (c .push .ensures .0 ∙ ap (pushed 0) (c .before .wide .ensures .0)) (c .push .ensures .1)
@@ -55,9 +53,15 @@ push-requires-3 c κs =
 
 returns : tie.Need-returns Inv-loop μ-loop
 returns c =
-    let a = c .before .before .before .before .before .before .before .before .before .args in
-    pushing-all _ _ _ _ (c .before .before .before .before .loop .inv) _ _ (c .before .before .before .loop-test .left)
-    (c .push3 .ensures .0 ∙ ap (λ (z : ℕ). pushed (c .before .before .before .before .loop .x) (z * a .n + c .before .wide4 .result)) (c .before .before .wide3 .ensures .0) ∙ ap (λ (z : ℕ). pushed (c .before .before .before .before .loop .x) (a .r .target .0 * a .n + z)) (c .before .wide4 .ensures .0))
+    let p = c .before .before .before .before in
+    let l = p .before .before .before .before in
+    let a = l .before .before .before .before .before .args in
+    pushing-all _ _ _ _ (l .loop .inv) _ _ _ _ _ (p .before .before .before .loop-test .left)
+    (p .push3 .ensures .0 ∙ ap (λ (z : ℕ). pushed (l .loop .x) (z * a .n + p .before .wide4 .result)) (p .before .before .wide3 .ensures .0) ∙ ap (λ (z : ℕ). pushed (l .loop .x) (a .r .target .0 * a .n + z)) (p .before .wide4 .ensures .0))
+    (c .with-mask .ensures)
+    (ap (λ (z : ℕ). (z + c .before .wide6 .result) % 2 ^ maskWidth) (c .before .before .before .wide5 .ensures .0)
+    ∙ ap (λ (z : ℕ). (a .r .forget + z) % 2 ^ maskWidth) (c .before .wide6 .ensures .0 ∙ c .before .before .moved-up .ensures)
+    ∙ add-mod-mod (a .r .forget) (a .s .forget * 2 ^ a .t) (2 ^ maskWidth))
 
 pub paired-key-spec : {M : Type 1} → statement M
 paired-key-spec =
@@ -66,7 +70,7 @@ paired-key-spec =
     Inv-loop
     μ-loop
     (λ c κs. search needs)
-    push-requires
+    (λ c κs. search needs)
     loop-holds
     (λ c. search needs)
     (λ c. search needs)
@@ -85,4 +89,9 @@ paired-key-spec =
     (λ c κs. search needs)
     add-push-2
     push-requires-3
+    (λ c κs. search needs)
+    (λ c κs. search needs)
+    (λ c κs. search needs)
+    (λ c. search needs)
+    (λ c κs. search needs)
     returns)

@@ -17,16 +17,16 @@ use Rattle.boolean.proofs.keys.shifted_keys.Statement.{statement}
 use Rattle.boolean.proofs.keys.shifted_keys.Tie as tie
 
 abbrev Inv-loop : tie.InvT-loop
-Inv-loop set n keys₀ count i₀ keys i = (count ≡ length ((decode set) .rules)) × Filling (map packed (map (shiftRule n) ((decode set) .rules))) keys₀ keys 0 i
+Inv-loop set n t keys₀ count i₀ keys i = (count ≡ length ((decode set) .rules)) × Filling (map packed (map (shiftRule n t) ((decode set) .rules))) keys₀ keys 0 i
 
 abbrev μ-loop : tie.MeasureT-loop
-μ-loop set n keys₀ count i₀ keys i = count - i
+μ-loop set n t keys₀ count i₀ keys i = count - i
 
 loop-holds : tie.Need-loop-holds Inv-loop μ-loop
 loop-holds c =
     let a = c .before .before .before .args in
-    let e = length-map (map (shiftRule (a .n)) ((decode (now (a .set))) .rules)) packed in
-    let d = length-map ((decode (now (a .set))) .rules) (shiftRule (a .n)) in
+    let e = length-map (map (shiftRule (a .n) (a .t)) ((decode (now (a .set))) .rules)) packed in
+    let d = length-map ((decode (now (a .set))) .rules) (shiftRule (a .n) (a .t)) in
     let l = c .before .before .before .pre .1 in
     (c .header .ensures .rules, filling-none _ _ _ (omega arith))
 
@@ -51,9 +51,9 @@ loop-again c =
     let h = c .before .before .before .loop .inv in
     let t = c .before .before .loop-test .taken in
     let l : c .before .before .before .loop .i < length ((decode (now (a .set))) .rules) = omega (arith, h .0) in
-    let e = length-map (map (shiftRule (a .n)) ((decode (now (a .set))) .rules)) packed in
-    let d = length-map ((decode (now (a .set))) .rules) (shiftRule (a .n)) in
-    (h .0, filling-front _ _ _ _ _ (h .1) refl _ (omega arith) (shifted-key-at (decode (now (a .set))) (sound-decode (now (a .set)) (c .before .before .before .before .before .before .before .pre .0)) _ l (c .before .rule .result) (c .before .rule .ensures) (a .n) _ (c .shifted-key .ensures)))
+    let e = length-map (map (shiftRule (a .n) (a .t)) ((decode (now (a .set))) .rules)) packed in
+    let d = length-map ((decode (now (a .set))) .rules) (shiftRule (a .n) (a .t)) in
+    (h .0, filling-front _ _ _ _ _ (h .1) refl _ (omega arith) (shifted-key-at (decode (now (a .set))) (sound-decode (now (a .set)) (c .before .before .before .before .before .before .before .pre .0)) _ l (c .before .rule .result) (c .before .rule .ensures) (a .n) (a .t) _ (c .shifted-key .ensures)))
 
 same-length : tie.Need-same-length Inv-loop μ-loop
 same-length c = laid-length (c .before .loop .inv .1 .laid)
@@ -64,8 +64,8 @@ returns c =
     let h = c .before .loop .inv in
     let t = c .loop-test .left in
     let l = c .before .before .before .before .before .pre .1 in
-    let e = length-map (map (shiftRule (a .n)) ((decode (now (a .set))) .rules)) packed in
-    let d = length-map ((decode (now (a .set))) .rules) (shiftRule (a .n)) in
+    let e = length-map (map (shiftRule (a .n) (a .t)) ((decode (now (a .set))) .rules)) packed in
+    let d = length-map ((decode (now (a .set))) .rules) (shiftRule (a .n) (a .t)) in
     let f = h .1 .few in
     laid-all (filling-all _ _ _ _ _ (h .1) (omega (arith, h .0))) (omega (arith, h .0))
 

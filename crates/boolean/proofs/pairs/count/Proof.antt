@@ -5,7 +5,6 @@ use native.Mathlib.Omega.{arith}
 use borrow.Author.Needs.{needs}
 use denote.Ref.{now}
 use lib.ListN.{length}
-use Rattle.model.specs.Written.{ruleAt}
 use Rattle.automaton.specs.Stored.{decode}
 use Rattle.automaton.proofs.Sound.{sound-decode}
 use Rattle.automaton.proofs.Known.{known-symbol}
@@ -32,9 +31,7 @@ window-requires c κs =
     (c .before .before .before .before .before .before .pre .1, omega (arith, s .few-symbols))
 
 sub-total : tie.Need-sub-total Inv-loop μ-loop
-sub-total c =
-    let a = c .before .before .before .before .before .before .before .before .args in
-    window-up (decode (now (a .second))) (ruleAt (decode (now (a .first))) (c .before .before .before .before .loop .i)) _ _ (subst (λ (f : ℕ). Window (decode (now (a .second))) f (c .before .window .result .from) (c .before .window .result .to)) (c .before .before .rule-symbol .ensures) (c .before .window .ensures))
+sub-total c = window-up _ _ _ _ (c .before .window .ensures)
 
 add-total : tie.Need-add-total Inv-loop μ-loop
 add-total c =

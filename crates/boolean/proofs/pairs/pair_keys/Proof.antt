@@ -19,7 +19,7 @@ use Rattle.boolean.proofs.pairs.pair_keys.Statement.{statement}
 use Rattle.boolean.proofs.pairs.pair_keys.Tie as tie
 
 abbrev Inv-loop : tie.InvT-loop
-Inv-loop first second keys₀ n at₀ i₀ keys at i = (n ≡ length ((decode first) .rules)) × Parts (λ r. map packed (row (decode second) r)) ((decode first) .rules) keys₀ keys 0 at i
+Inv-loop first second keys₀ n at₀ i₀ keys at i = (n ≡ length ((decode first) .rules)) × Parts (λ r. map packed (row ((decode first) .tags) (decode second) r)) ((decode first) .rules) keys₀ keys 0 at i
 
 abbrev μ-loop : tie.MeasureT-loop
 μ-loop first second keys₀ n at₀ i₀ keys at i = n - i
@@ -29,8 +29,8 @@ loop-holds c =
     let a = c .before .before .before .before .args in
     let A = decode (now (a .first)) in
     let B = decode (now (a .second)) in
-    let e = ap length (map-concatMap packed (row B) (A .rules)) in
-    let d = length-map (pairRules (length (B .states)) (A .rules) (B .rules)) packed in
+    let e = ap length (map-concatMap packed (row (A .tags) B) (A .rules)) in
+    let d = length-map (pairRules (length (B .states)) (A .tags) (A .rules) (B .rules)) packed in
     let f = product-rules A B in
     let r = c .before .before .before .before .pre .0 .rules in
     let l = c .before .before .before .before .pre .1 in
@@ -44,7 +44,7 @@ row-keys-requires c κs =
     let t = c .before .loop-test .taken in
     let l : c .before .before .loop .i < length ((decode (now (a .first))) .rules) = omega (arith, h .0) in
     let r = parts-room _ noRule _ _ _ _ _ _ (h .1) l in
-    let e = length-map (row (decode (now (a .second))) (ruleAt (decode (now (a .first))) (c .before .before .loop .i))) packed in
+    let e = length-map (row ((decode (now (a .first))) .tags) (decode (now (a .second))) (ruleAt (decode (now (a .first))) (c .before .before .loop .i))) packed in
     (p .first-sound, p .second-sound, p .same, l, omega arith)
 
 loop-again : tie.Need-loop-again Inv-loop μ-loop
@@ -61,7 +61,7 @@ returns c =
     let a = c .before .before .before .before .before .before .args in
     let h = c .before .loop .inv in
     let t = c .loop-test .left in
-    subst (Laid (now (a .keys)) (c .before .loop .keys) 0 (c .before .loop .at)) (map-concatMap packed (row (decode (now (a .second)))) ((decode (now (a .first))) .rules)) (parts-all _ noRule _ _ _ _ _ _ (h .1) (omega (arith, h .0)))
+    subst (Laid (now (a .keys)) (c .before .loop .keys) 0 (c .before .loop .at)) (map-concatMap packed (row ((decode (now (a .first))) .tags) (decode (now (a .second)))) ((decode (now (a .first))) .rules)) (parts-all _ noRule _ _ _ _ _ _ (h .1) (omega (arith, h .0)))
 
 pub pair-keys-spec : {M : Type 1} → statement M
 pair-keys-spec =

@@ -30,12 +30,12 @@ part-shifted-keys-end c =
 slice-reshare-prefix-merge : tie.Need-slice-reshare-prefix-merge
 slice-reshare-prefix-merge c =
     let s = c .before .before .before .before .before .before .before .before .before .before .before .before in
-    both-room _ _ (s .before .before .before .before .before .pre .0) (now (s .before .before .before .before .before .args .scratch)) (s .before .before .before .before .before .pre .1) _ _ (s .header .ensures .rules) (c .before .before .before .before .before .before .before .before .before .before .header2 .ensures .rules) _ (c .before .before .before .before .before .before .before .shifted-keys .ensures) _ (s .header .ensures .states) _ (c .before .before .shifted-keys2 .ensures)
+    both-room _ _ (s .before .before .before .before .before .pre .0) (now (s .before .before .before .before .before .args .scratch)) (s .before .before .before .before .before .pre .1) _ _ (s .header .ensures .rules) (c .before .before .before .before .before .before .before .before .before .before .header2 .ensures .rules) _ (c .before .before .before .before .before .before .before .shifted-keys .ensures) _ _ (s .header .ensures .states) (s .header .ensures .tags) _ (c .before .before .shifted-keys2 .ensures)
 
 slice-aggregate-merge : tie.Need-slice-aggregate-merge
 slice-aggregate-merge c =
     let s = c .before .before .before .before .before .before .before .before .before .before .before .before .before in
-    sym (both-count _ _ (s .before .before .before .before .before .pre .0) (now (s .before .before .before .before .before .args .scratch)) (s .before .before .before .before .before .pre .1) _ _ (s .header .ensures .rules) (c .before .before .before .before .before .before .before .before .before .before .before .header2 .ensures .rules) _ (c .before .before .before .before .before .before .before .before .shifted-keys .ensures) _ (s .header .ensures .states) _ (c .before .before .before .shifted-keys2 .ensures))
+    sym (both-count _ _ (s .before .before .before .before .before .pre .0) (now (s .before .before .before .before .before .args .scratch)) (s .before .before .before .before .before .pre .1) _ _ (s .header .ensures .rules) (c .before .before .before .before .before .before .before .before .before .before .before .header2 .ensures .rules) _ (c .before .before .before .before .before .before .before .before .shifted-keys .ensures) _ _ (s .header .ensures .states) (s .header .ensures .tags) _ (c .before .before .before .shifted-keys2 .ensures))
 
 slice-relend-prefix-merge : tie.Need-slice-relend-prefix-merge
 slice-relend-prefix-merge c =
@@ -50,12 +50,12 @@ slice-aggregate-merge-2 c =
 merge-requires : tie.Need-merge-requires
 merge-requires c κs =
     let s = c .before .before .before .before .before .before .before .before .before .before .before .before .before .before in
-    merge-room _ _ (s .before .before .before .before .before .pre .0) (now (s .before .before .before .before .before .args .scratch)) (s .before .before .before .before .before .pre .1) _ _ (s .header .ensures .rules) (c .before .before .before .before .before .before .before .before .before .before .before .before .header2 .ensures .rules) _ (c .before .before .before .before .before .before .before .before .before .shifted-keys .ensures) _ (s .header .ensures .states) _ (c .before .before .before .before .shifted-keys2 .ensures) (now (s .before .before .before .before .before .args .keys)) (s .before .before .before .before .before .pre .2)
+    merge-room _ _ (s .before .before .before .before .before .pre .0) (now (s .before .before .before .before .before .args .scratch)) (s .before .before .before .before .before .pre .1) _ _ (s .header .ensures .rules) (c .before .before .before .before .before .before .before .before .before .before .before .before .header2 .ensures .rules) _ (c .before .before .before .before .before .before .before .before .before .shifted-keys .ensures) _ _ (s .header .ensures .states) (s .header .ensures .tags) _ (c .before .before .before .before .shifted-keys2 .ensures) (now (s .before .before .before .before .before .args .keys)) (s .before .before .before .before .before .pre .2)
 
 returns : tie.Need-returns
 returns c =
     let s = c .before .before .before .before .before .before .before .before .before .before .before .before .before .before .before .before .before in
-    union-keyed _ _ (s .before .before .before .before .before .pre .0) (now (s .before .before .before .before .before .args .scratch)) (s .before .before .before .before .before .pre .1) _ _ (s .header .ensures .rules) (c .before .before .before .before .before .before .before .before .before .before .before .before .before .before .before .header2 .ensures .rules) _ (c .before .before .before .before .before .before .before .before .before .before .before .before .shifted-keys .ensures) _ (s .header .ensures .states) _ (c .before .before .before .before .before .before .before .shifted-keys2 .ensures) _ _ (c .before .before .merge .ensures)
+    union-keyed _ _ (s .before .before .before .before .before .pre .0) (now (s .before .before .before .before .before .args .scratch)) (s .before .before .before .before .before .pre .1) _ _ (s .header .ensures .rules) (c .before .before .before .before .before .before .before .before .before .before .before .before .before .before .before .header2 .ensures .rules) _ (c .before .before .before .before .before .before .before .before .before .before .before .before .shifted-keys .ensures) _ _ (s .header .ensures .states) (s .header .ensures .tags) _ (c .before .before .before .before .before .before .before .shifted-keys2 .ensures) _ _ (c .before .before .merge .ensures)
 
 pub union-keys-spec : {M : Type 1} → statement M
 union-keys-spec =

@@ -11,10 +11,10 @@ slice-aggregate-put-rules : tie.Need-slice-aggregate-put-rules
 slice-aggregate-put-rules c = sym (length-take-le _ _ (c .before .before .before .before .union-keys .ensures .few))
 
 put-rules-requires : tie.Need-put-rules-requires
-put-rules-requires c κs = rules-room _ (ready-union _ _ (c .before .before .before .before .before .before .before .before .before .before .pre .0)) _ _ (c .before .before .before .before .union-keys .ensures) _ _ (c .before .before .before .before .before .before .before .before .before .before .pre .1)
+put-rules-requires c κs = rules-room _ _ (ready-union _ _ (c .before .before .before .before .before .before .before .before .before .before .pre .0)) _ _ (c .before .before .before .before .union-keys .ensures) _ _ (c .before .before .before .before .before .before .before .before .before .before .pre .1)
 
 returns : tie.Need-returns
-returns c = rules-laid _ (ready-union _ _ (c .before .before .before .before .before .before .before .before .before .before .before .before .before .pre .0)) _ _ (c .before .before .before .before .before .before .before .union-keys .ensures) _ _ _ _ (c .before .before .put-rules .ensures)
+returns c = rules-laid _ _ (ready-union _ _ (c .before .before .before .before .before .before .before .before .before .before .before .before .before .pre .0)) _ _ (c .before .before .before .before .before .before .before .union-keys .ensures) _ _ _ _ (c .before .before .put-rules .ensures)
 
 pub put-union-rules-spec : {M : Type 1} → statement M
 put-union-rules-spec =

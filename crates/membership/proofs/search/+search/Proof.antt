@@ -14,7 +14,7 @@ use Rattle.membership.proofs.search.search.Kinds as search-kinds
 use Rattle.membership.proofs.search.+search.Lts-search as search-lts
 use Rattle.membership.proofs.entries.choosable.Reads as choosable-reads
 use Rattle.membership.proofs.entries.joined_with.Reads as joined-with-reads
-use Rattle.membership.proofs.search.finish.Reads as finish-reads
+use Rattle.membership.proofs.search.leave.Reads as leave-reads
 use Rattle.membership.proofs.search.with_child.Reads as with-child-reads
 use Rattle.membership.proofs.search.+search.{statement}
 use Rattle.membership.proofs.search.+search.Tie.{close}
@@ -30,7 +30,7 @@ search-below t = and 3 search-kinds.ps (falls 3 search-kinds.ps _<_ μ-search t)
 
 -- the readings of what search calls, itself below t
 abbrev read : ℕ → search-lts.Claims
-read t = (finish-reads.Asked, finish-reads.Learnt, choosable-reads.Asked, choosable-reads.Learnt, joined-with-reads.Asked, joined-with-reads.Learnt, with-child-reads.Asked, with-child-reads.Learnt, search-below t, search′.Post)
+read t = (leave-reads.Asked, leave-reads.Learnt, choosable-reads.Asked, choosable-reads.Learnt, joined-with-reads.Asked, joined-with-reads.Learnt, with-child-reads.Asked, with-child-reads.Learnt, search-below t, search′.Post)
 
 abbrev Inv-loop : search-lts.InvT-loop
 Inv-loop work₀ own want left n memory children p end state m₀ j₀ work m j = Searching work₀ own want left n memory children work m j
@@ -38,18 +38,18 @@ Inv-loop work₀ own want left n memory children p end state m₀ j₀ work m j 
 abbrev μ-loop : search-lts.MeasureT-loop
 μ-loop work₀ own want left n memory children p end state m₀ j₀ work m j = end - j
 
-finish-requires : (t : ℕ) → search-lts.Need-finish-requires (read t) (search-at t) search′.Post Inv-loop μ-loop
-finish-requires t c κs = search needs
+leave-requires : (t : ℕ) → search-lts.Need-leave-requires (read t) (search-at t) search′.Post Inv-loop μ-loop
+leave-requires t c κs = search needs
 
 same-length : (t : ℕ) → search-lts.Need-same-length (read t) (search-at t) search′.Post Inv-loop μ-loop
-same-length t c = c .before .before .finish .kept .0
+same-length t c = c .before .before .leave .kept .0
 
 returns : (t : ℕ) → search-lts.Need-returns (read t) (search-at t) search′.Post Inv-loop μ-loop
 returns t c =
     let a = c .before .before .before .before .before .before .before .before .args in
-    subst (λ z. Grown (a .n) (a .want .room) (a .want .tags) (addEntries (entriesIn (a .want .tags) (a .work .now) (a .n)) z) (c .before .before .finish .last .0) (c .before .before .finish .result))
+    subst (λ z. Grown (a .n) (a .want .room) (a .want .tags) (addEntries (entriesIn (a .want .tags) (a .work .now) (a .n)) z) (c .before .before .leave .last .0) (c .before .before .leave .result))
     (sym (found-none (annotationsIn (a .want .tags) (a .work .now) (a .want .base)) (a .want) (memoryOf (a .want .tags) (a .own .now)) (a .left) (memoryOf (a .want .tags) (a .memory .now)) (a .children) (c .before .before .before .before .if1 .taken)))
-    (c .before .before .finish .ensures)
+    (c .before .before .leave .ensures)
 
 sub-p : (t : ℕ) → search-lts.Need-sub-p (read t) (search-at t) search′.Post Inv-loop μ-loop
 sub-p t c = search needs
@@ -176,7 +176,7 @@ pub +search-spec : {M : Type 1} → statement M
     close μ-search
     λ t.
     search-lts.spec (read t) (search-at t) search′.Post Inv-loop μ-loop
-    (finish-requires t)
+    (leave-requires t)
     (same-length t)
     (returns t)
     (sub-p t)

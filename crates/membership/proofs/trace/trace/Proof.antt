@@ -14,14 +14,14 @@ abbrev μ-loop : tie.MeasureT-loop
 
 reach-requires : tie.Need-reach-requires Inv-loop μ-loop
 reach-requires c κs =
-    let e = c .before .before .before .forget .kept .0 in
+    let e = c .before .before .before .unmark .kept .0 in
     let p = c .before .before .before .before .before .before .pre in
     omega (arith, e, p)
 
 loop-holds : tie.Need-loop-holds Inv-loop μ-loop
 loop-holds c =
     let a = c .before .before .before .before .before .before .before .before .before .args in
-    let f = c .before .before .before .before .before .before .forget in
+    let f = c .before .before .before .before .before .before .unmark in
     let r = c .before .before .reach in
     tracing-start (a .work .now) (f .last .0) (r .last .0) (a .root) (f .ensures) (r .ensures)
 
@@ -29,7 +29,7 @@ is-reached-requires : tie.Need-is-reached-requires Inv-loop μ-loop
 is-reached-requires c κs =
     let l = c .before .before .loop in
     let p = c .before .before .before .before .before .before .before .before .before .before .before .before .pre in
-    let e = l .inv .space ∙ c .before .before .before .before .before .reach .kept .0 ∙ c .before .before .before .before .before .before .before .before .before .forget .kept .0 in
+    let e = l .inv .space ∙ c .before .before .before .before .before .reach .kept .0 ∙ c .before .before .before .before .before .before .before .before .before .unmark .kept .0 in
     let h = l .inv .inside in
     omega (arith, e, h, p, c .before .loop-test .taken)
 
@@ -37,7 +37,7 @@ reach-children-requires : tie.Need-reach-children-requires Inv-loop μ-loop
 reach-children-requires c κs =
     let l = c .before .before .before .before .before .loop in
     let p = c .before .before .before .before .before .before .before .before .before .before .before .before .before .before .before .pre in
-    let e = l .inv .space ∙ c .before .before .before .before .before .before .before .before .reach .kept .0 ∙ c .before .before .before .before .before .before .before .before .before .before .before .before .forget .kept .0 in
+    let e = l .inv .space ∙ c .before .before .before .before .before .before .before .before .reach .kept .0 ∙ c .before .before .before .before .before .before .before .before .before .before .before .before .unmark .kept .0 in
     let h = l .inv .inside in
     omega (arith, e, h, p, c .before .before .before .before .loop-test .taken)
 
@@ -56,13 +56,13 @@ loop-again-2 c =
 
 same-length : tie.Need-same-length Inv-loop μ-loop
 same-length c =
-    c .before .loop .inv .space ∙ c .before .before .before .before .reach .kept .0 ∙ c .before .before .before .before .before .before .before .before .forget .kept .0
+    c .before .loop .inv .space ∙ c .before .before .before .before .reach .kept .0 ∙ c .before .before .before .before .before .before .before .before .unmark .kept .0
 
 returns : tie.Need-returns Inv-loop μ-loop
 returns c =
     let a = c .before .before .before .before .before .before .before .before .before .before .before .args in
     let l = c .before .loop in
-    let f = c .before .before .before .before .before .before .before .before .forget in
+    let f = c .before .before .before .before .before .before .before .before .unmark in
     let r = c .before .before .before .before .reach in
     tracing-all (a .work .now) (f .last .0) (r .last .0) (l .work) (a .root) (l .i) (f .ensures) (r .ensures) (l .inv) (c .loop-test .left)
 
