@@ -1,10 +1,11 @@
 /* Cidhomba: shape sets and the documents that they let in. The C interface of the verified library, for C99 and C++.
  *
- * A set is bytes in a stored form, of which there are two: the narrow one has a state's tags in one byte, at most 8, the
- * wide one in two, at most 16. Every function takes either. A document is a table of rows of ten 16-bit cells; a run is
- * steps of six 16-bit cells; names come from two lists, and documents may also be read from term text or from JSON.
- * docs/FORMATS.md has each form, with an example worked byte by byte. 16-bit cells are uint16_t in the machine's own
- * order; where rows stand in a file, their cells are written low byte first.
+ * A set is bytes in a stored form, of which there are three: the narrow one has a state's tags in one byte, at most 8,
+ * the wide one in two, at most 16; and the isolating one is the wide one with rules of 14 bytes in place of 12, the last
+ * two of which name tags that the rule forgets. Every function takes all three. A document is a table of rows of ten
+ * 16-bit cells; a run is steps of six 16-bit cells; names come from two lists, and documents may also be read from term
+ * text or from JSON. docs/FORMATS.md has each form, with an example worked byte by byte. 16-bit cells are uint16_t in the
+ * machine's own order; where rows stand in a file, their cells are written low byte first.
  *
  * Slices. A slice passes as a pointer and a count of its elements, not of bytes. Where the count is 0 the pointer may
  * be NULL. Every input is either answered or refused: no bytes make a call read or write outside what is lent, run
@@ -35,9 +36,9 @@
  *   text of cidhomba_write_term   the length of the text                   CIDHOMBA_TEXT_BYTES
  *
  * A document has an annotation for each row, each state that the row can have there, and each choice of rows to which
- * tags went below; 31 says that they were more than the room. Where in doubt, lend CIDHOMBA_WORK_CELLS. A text has no
- * greatest length, since rows may be shared: a table of 1,024 rows can stand for a text longer than any memory, and
- * CIDHOMBA_TEXT_BYTES is what the programs have.
+ * tags went below and were not forgotten; 31 says that they were more than the room. Where in doubt, lend
+ * CIDHOMBA_WORK_CELLS. A text has no greatest length, since rows may be shared: a table of 1,024 rows can stand for a
+ * text longer than any memory, and CIDHOMBA_TEXT_BYTES is what the programs have.
  *
  * Link with libcidhomba.a: `./quickstart` builds it in target/staticlib, `./install PREFIX` installs it with this
  * header and a file for pkg-config. It needs the C library and nothing else.
@@ -74,7 +75,7 @@ extern "C" {
 #define CIDHOMBA_MAX_ROWS 1024
 #define CIDHOMBA_MAX_ROOM 4096
 #define CIDHOMBA_MAX_STATES 256
-#define CIDHOMBA_MAX_SET_BYTES 13136
+#define CIDHOMBA_MAX_SET_BYTES 15184
 
 /* Recommended sizes of spaces, in elements: cells of 16 bits, and bytes of text. */
 #define CIDHOMBA_WORK_CELLS (CIDHOMBA_MAX_ROOM * CIDHOMBA_ANNOTATION_CELLS)
@@ -93,13 +94,15 @@ enum cidhomba_refusal {
     /* a set */
     CIDHOMBA_SET_TOO_SHORT = 1,    /* fewer than 16 bytes */
     CIDHOMBA_SET_COUNTS = 2,       /* symbols, states, tags or rules outside their range */
-    CIDHOMBA_SET_LENGTHS = 3,      /* an offset, the total, or the lent length differs from the formulas of either form,
+    CIDHOMBA_SET_LENGTHS = 3,      /* an offset, the total, or the lent length differs from the formulas of every form,
                                     * or over 8 tags in the narrow form */
     CIDHOMBA_SET_CHILDREN = 4,     /* a symbol with more than 4 children */
     CIDHOMBA_SET_STATE = 5,        /* a final byte above 1, or a tag bit at or above the number of tags */
     CIDHOMBA_SET_RULE = 6,         /* an unknown symbol or state, or an unused place that is not 65535 */
-    CIDHOMBA_SET_ORDER = 7,        /* rules that do not ascend strictly by symbol, child places, target */
+    CIDHOMBA_SET_ORDER = 7,        /* rules that do not ascend strictly by symbol, child places, target; what they forget
+                                    * is not looked at */
     CIDHOMBA_SET_TAGS = 8,         /* over 8 tags in a set that is to be narrowed; tried after 18 */
+    CIDHOMBA_SET_FORGETS = 9,      /* a rule that forgets a tag at or above the number of tags; tried after 7 */
     /* a table */
     CIDHOMBA_TABLE_LENGTH = 11,    /* 0 or over 1,024 rows, or a row cut short */
     CIDHOMBA_ROW_SYMBOL = 12,      /* an unknown symbol */
@@ -110,12 +113,14 @@ enum cidhomba_refusal {
     CIDHOMBA_ROW_UNUSED = 16,      /* a row, not the last, that no later row uses */
     CIDHOMBA_TABLE_HEIGHT = 17,    /* a tree higher than 256 */
     /* a set that is to be moved to the other form */
-    CIDHOMBA_SET_FORM = 18,        /* a set that is not in the form that the move starts from; tried after 7 */
+    CIDHOMBA_SET_FORM = 18,        /* a set that is not in the form that the move starts from; no move of states starts
+                                    * from the isolating one; tried after 9 */
     /* a run */
     CIDHOMBA_RUN_LENGTH = 21,      /* 0 or over 4,096 steps, or a step cut short */
     CIDHOMBA_STEP_UNKNOWN = 22,    /* an unknown rule or row */
     CIDHOMBA_STEP_MISFIT = 23,     /* symbols that differ, or a step place that is not as it should be */
-    CIDHOMBA_RUN_TAG = 24,         /* a tag with two rows, over all steps */
+    CIDHOMBA_RUN_TAG = 24,         /* a step that gives a tag two rows: where the memories of its child steps are joined,
+                                    * or where the tags of its target are added */
     CIDHOMBA_RUN_END = 25,         /* a last step that is not on the last row, or not in a final state */
     CIDHOMBA_STEP_UNUSED = 26,     /* a step, not the last, that no later step uses */
     /* judging */
@@ -162,8 +167,8 @@ static inline const char *cidhomba_refusal_text(unsigned number)
     case CIDHOMBA_SET_COUNTS:
         return "the set's symbols, states, tags or rules are too few or too many";
     case CIDHOMBA_SET_LENGTHS:
-        return "an offset, the total or the length of the set differs from the formulas, or its states have one byte "
-               "for over 8 tags";
+        return "an offset, the total or the length of the set differs from the formulas of every form, or its states "
+               "have one byte for over 8 tags";
     case CIDHOMBA_SET_CHILDREN:
         return "a symbol of the set has more than 4 children";
     case CIDHOMBA_SET_STATE:
@@ -174,6 +179,8 @@ static inline const char *cidhomba_refusal_text(unsigned number)
         return "the rules of the set do not ascend strictly by symbol, child places and target";
     case CIDHOMBA_SET_TAGS:
         return "the set has over 8 tags and cannot be narrowed";
+    case CIDHOMBA_SET_FORGETS:
+        return "a rule of the set forgets a tag that the set does not have";
     case CIDHOMBA_TABLE_LENGTH:
         return "the table has no rows, over 1,024, or a row cut short";
     case CIDHOMBA_ROW_SYMBOL:
@@ -189,7 +196,7 @@ static inline const char *cidhomba_refusal_text(unsigned number)
     case CIDHOMBA_TABLE_HEIGHT:
         return "the tree is higher than 256";
     case CIDHOMBA_SET_FORM:
-        return "the set is not in the form that the move starts from";
+        return "the set is not in the form that the move starts from, by its states or by its rules";
     case CIDHOMBA_RUN_LENGTH:
         return "the run has no steps, over 4,096, or a step cut short";
     case CIDHOMBA_STEP_UNKNOWN:
@@ -197,7 +204,7 @@ static inline const char *cidhomba_refusal_text(unsigned number)
     case CIDHOMBA_STEP_MISFIT:
         return "the symbols of a step's rule and row differ, or a step place is not as it should be";
     case CIDHOMBA_RUN_TAG:
-        return "a tag goes to two rows";
+        return "in some step a tag goes to two rows";
     case CIDHOMBA_RUN_END:
         return "the last step is not on the last row, or its state is not final";
     case CIDHOMBA_STEP_UNUSED:
@@ -248,14 +255,16 @@ static inline const char *cidhomba_refusal_text(unsigned number)
     }
 }
 
-/* Whether bytes are a sound set, in either form. Value: 0. Refuses: set. */
+/* Whether bytes are a sound set, in any form. Value: 0. Refuses: set. */
 uint64_t cidhomba_check_automaton(const uint8_t *set, size_t set_length);
 
 /* Whether rows are a sound table over the set's symbols. Value: 0. Refuses: set, table. */
 uint64_t cidhomba_check_document(const uint8_t *set, size_t set_length,
                                  const uint16_t *rows, size_t rows_length);
 
-/* Whether steps are a run that shows that the set lets the document in. Value: 0. Refuses: set, table, run. */
+/* Whether steps are a run that shows that the set lets the document in. Value: 0. Refuses: set, table, run. A step's
+ * memory has for each tag the row that it went to below, if any: the memories of the child steps joined, without the tags
+ * that the rule forgets, and with those of its target going to the step's row. */
 uint64_t cidhomba_check_run(const uint8_t *set, size_t set_length,
                             const uint16_t *rows, size_t rows_length,
                             const uint16_t *run, size_t run_length);
@@ -272,17 +281,17 @@ uint64_t cidhomba_membership(const uint8_t *set, size_t set_length,
                              uint16_t *work, size_t work_length,
                              uint16_t *run, size_t run_length);
 
-/* The set that lets in what either set does, in the wide form whatever the forms of the two: the states, tags and rules
- * of both, one after the other. Value: the bytes written to the front of out. Refuses: first set, second set, 51, 52, 53.
- * CIDHOMBA_MAX_SET_BYTES hold every result. */
+/* The set that lets in what either set does: the states, tags and rules of both, one after the other. It is in the
+ * isolating form if either set has rules of 14 bytes, and else in the wide one. Value: the bytes written to the front of
+ * out. Refuses: first set, second set, 51, 52, 53. CIDHOMBA_MAX_SET_BYTES hold every result. */
 uint64_t cidhomba_union(const uint8_t *first, size_t first_length,
                         const uint8_t *second, size_t second_length,
                         uint8_t *out, size_t out_length);
 
 /* The set that lets in what both sets do: a state for each pair of states, a rule for each pair of rules with one
- * symbol, and the tags of both. Value and refusals as for the union. A tag of one set stands on a state for each state
- * of the other, so that cidhomba_witness refuses a product with 41, but where the other set has one state alone or no
- * state carries the tag. */
+ * symbol, which forgets what either of the two forgets, and the tags of both. Form, value and refusals are as for the
+ * union. A tag of one set stands on a state for each state of the other, so that cidhomba_witness refuses a product with
+ * 41, but where the other set has one state alone or no state carries the tag. */
 uint64_t cidhomba_product(const uint8_t *first, size_t first_length,
                           const uint8_t *second, size_t second_length,
                           uint8_t *out, size_t out_length);
@@ -293,13 +302,15 @@ uint64_t cidhomba_widen_states(const uint8_t *set, size_t set_length,
                                uint8_t *out, size_t out_length);
 
 /* A wide set in the narrow form, which lets in the same documents. Value: the bytes written to the front of out, one fewer
- * for each state than the set has. Refuses: set, 18, 8, 53. It is the number of tags that 8 looks at, whether or not a
- * state carries them. A set that is widened and narrowed again, or narrowed and widened again, has the same bytes. */
+ * for each state than the set has. Refuses: set, 18, 8, 53. A set with rules of 14 bytes is 18, whether or not they forget
+ * anything. It is the number of tags that 8 looks at, whether or not a state carries them. A set that is widened and
+ * narrowed again, or narrowed and widened again, has the same bytes. */
 uint64_t cidhomba_narrow_states(const uint8_t *set, size_t set_length,
                                 uint8_t *out, size_t out_length);
 
 /* Whether the set lets in anything. Value: 0 for dead; for live the number of rows + 65536 * the levels of a
- * document that it lets in, none being lower, written to the front of rows. Refuses: set, 42, 41. */
+ * document that it lets in, none being lower, written to the front of rows. Refuses: set, 42, 41. What rules forget
+ * changes nothing here. */
 uint64_t cidhomba_witness(const uint8_t *set, size_t set_length,
                           uint16_t *rows, size_t rows_length);
 

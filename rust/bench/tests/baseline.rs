@@ -1,6 +1,7 @@
 //! The Rust that the library is measured against answers as the reference does, refusals included.
 
 use bench::baseline;
+use generate::paired_list::{paired_list, paired_list_set};
 use generate::wide_export::{wide_export, wide_set, PARTS};
 use generate::{
     documents, json_export, json_lists, json_texts, lists, pairs, rows, set_bytes, sets, texts, Random,
@@ -23,13 +24,29 @@ fn sets_and_tables() {
     for seed in 0..SEEDS {
         let random = &mut Random::new(seed);
         let sizes = random.pick(&[sets::small_sizes, sets::many_tags_sizes])();
-        let automaton = sets::automaton(random, &sizes);
+        let automaton = sets::any_automaton(random, &sizes);
         let table = rows::lent(random, &automaton, 30, 70);
         let set = set_bytes::stored(random, &automaton, 50);
         let found = baseline::set::read(&set).and_then(|set| baseline::table::read(&set, &table));
         let expected = reference::check_document(&set, &table);
         assert_eq!(found.map(|_| ()), expected.map(|_| ()).map_err(number), "seed {seed}");
     }
+}
+
+/// Sets in all forms, most of them damaged: each number of a set comes often.
+#[test]
+fn sets_in_all_forms() {
+    let mut refused = [0; 10];
+    for seed in 0..4 * SEEDS {
+        let random = &mut Random::new(seed);
+        let sizes = sets::any_sizes(random);
+        let automaton = sets::any_automaton(random, &sizes);
+        let set = set_bytes::stored(random, &automaton, 85);
+        let expected = reference::check_automaton(&set).map_err(number).err();
+        assert_eq!(baseline::set::read(&set).err(), expected, "seed {seed}");
+        expected.into_iter().for_each(|number| refused[usize::from(number)] += 1);
+    }
+    assert!([1, 2, 3, 4, 5, 6, 7, 9].iter().all(|&number| refused[number] > 200), "{refused:?}");
 }
 
 /// Zeros of either sign in text, and the one that may not stand in a row in tables.
@@ -58,7 +75,7 @@ fn judging() {
     for seed in 0..SEEDS {
         let random = &mut Random::new(seed);
         let sizes = random.pick(&[sets::tagged_sizes, sets::many_tags_sizes])();
-        let automaton = sets::automaton(random, &sizes);
+        let automaton = sets::any_automaton(random, &sizes);
         let Some(document) = documents::document(random, &automaton, 30) else { continue };
         let room = random.pick(&[0, 5, 100, 4096]);
         let set = set_bytes::stored(random, &automaton, 0);
@@ -96,11 +113,33 @@ fn judging_with_sixteen_tags() {
     assert_eq!(judged_alike(&set.encode(), &chain, 2051), None);
 }
 
+/// Sets that forget, with documents grown along their rules; and the paired servers that are measured.
+#[test]
+fn judging_with_sets_that_forget() {
+    let (mut yes, mut no) = (0, 0);
+    for seed in 0..2 * SEEDS {
+        let random = &mut Random::new(seed);
+        let automaton = sets::forgetful(random);
+        let Some(document) = documents::grown(random, &automaton, 30) else { continue };
+        match judged_alike(&automaton.encode(), &document.cells(), random.pick(&[5, 500, 500])) {
+            Some(true) => yes += 1,
+            Some(false) => no += 1,
+            None => {}
+        }
+    }
+    assert!(yes > 200 && no > 100, "{yes} let in, {no} turned away");
+    let set = paired_list_set().encode();
+    for pairs in [1, 40, 200] {
+        assert_eq!(judged_alike(&set, &paired_list(pairs, None).cells(), 1024), Some(true));
+        assert_eq!(judged_alike(&set, &paired_list(pairs, Some(pairs / 2)).cells(), 1024), Some(false));
+    }
+}
+
 #[test]
 fn union_and_product() {
     for seed in 0..SEEDS {
         let random = &mut Random::new(seed);
-        let (first, second) = pairs::pair(random);
+        let (first, second) = pairs::any_pair(random);
         let (first, second) = (set_bytes::stored(random, &first, 10), set_bytes::stored(random, &second, 10));
         let space = random.pick(&[100, 20_000, 20_000]);
         let union = baseline::boolean::union(&first, &second, space);
@@ -117,6 +156,7 @@ fn dead_or_live() {
         let sizes = sets::any_sizes(random);
         let make = random.pick(&[sets::layered, sets::with_own_tags, sets::automaton]);
         let automaton = make(random, &sizes);
+        let automaton = sets::forgetting_perhaps(random, automaton);
         let set = set_bytes::stored(random, &automaton, 10);
         let space = ROW_CELLS * random.pick(&[10, 256, 256]);
         let expected = reference::witness(&set, space).map_err(number);

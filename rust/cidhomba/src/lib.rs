@@ -1,10 +1,11 @@
 //! Shape sets and the documents that they let in: a safe wrapper over the verified library's C interface.
 //!
-//! A set is bytes in a stored form, with the tags of a state in one byte (the narrow form) or in two (the wide one), a
-//! document is a table of rows of ten 16-bit cells, a run is steps of six; `docs/FORMATS.md` in the repository lays them
-//! out, and term text and JSON with their lists. Every function takes any input and either answers or refuses; a refusal
-//! writes to no result space. Spaces are lent: what comes back is the part at their front that was written, the rest is
-//! unchanged; only the judge's work space becomes zeros.
+//! A set is bytes in a stored form, with the tags of a state in one byte (the narrow form) or in two (the wide one), and
+//! in the latter with rules of 12 bytes or of 14, the last two of which name tags to forget; a document is a table of rows
+//! of ten 16-bit cells, a run is steps of six; `docs/FORMATS.md` in the repository lays them out, and term text and JSON
+//! with their lists. Every function takes any input and either answers or refuses; a refusal writes to no result space.
+//! Spaces are lent: what comes back is the part at their front that was written, the rest is unchanged; only the judge's
+//! work space becomes zeros.
 //!
 //! A call needs at most 128 KiB of stack, and reading JSON at most 256 KiB; it allocates nothing, and keeps no state,
 //! so that several threads may call at once.
@@ -75,12 +76,12 @@ pub const MAX_ROOM: usize = 4096;
 pub const MAX_STATES: usize = 256;
 /// What stands in a child place or a step place that is not used.
 pub const UNUSED: u16 = 65_535;
-/// Length of the longest set: 64 symbols, 256 states and 1,024 rules, in the wide form.
-pub const MAX_SET_BYTES: usize = 16 + 64 + 3 * 256 + 12 * 1024;
+/// Length of the longest set: 64 symbols, 256 states of 3 bytes and 1,024 rules of 14.
+pub const MAX_SET_BYTES: usize = 16 + 64 + 3 * 256 + 14 * 1024;
 /// Bytes of text space that the programs have; a table whose rows are shared much may stand for a longer text.
 pub const TEXT_BYTES: usize = 32_768;
 
-/// Whether bytes are a sound set, in either form.
+/// Whether bytes are a sound set, in any of the three forms.
 ///
 /// ```
 /// use cidhomba::{check_automaton, Reason};
@@ -89,6 +90,13 @@ pub const TEXT_BYTES: usize = 32_768;
 /// assert_eq!(check_automaton(set), Ok(()));
 /// let refusal = check_automaton(&set[..58]).unwrap_err();
 /// assert_eq!(refusal.reason, Reason::SetLengths);
+///
+/// // Lists of equal pairs: the first of its rules, which have 14 bytes, forgets tag 0.
+/// let mut pairs = *include_bytes!("../../../examples/pairs.set");
+/// assert_eq!(check_automaton(&pairs), Ok(()));
+/// pairs[41] = 2; // tag 1, which the set does not have
+/// let refusal = check_automaton(&pairs).unwrap_err();
+/// assert_eq!(refusal.reason, Reason::SetForgets);
 /// ```
 pub fn check_automaton(set: &[u8]) -> Result<(), Refusal> {
     Refusal::or_value(interface::check_automaton(set)).map(|_| ())
@@ -175,8 +183,8 @@ pub fn membership<'a>(
     })
 }
 
-/// The set that lets in what either of two sets does, in the wide form whatever the forms of the two; a space of
-/// [`MAX_SET_BYTES`] holds every result.
+/// The set that lets in what either of two sets does, in the wide form, with rules of 14 bytes if either of the two has
+/// them; a space of [`MAX_SET_BYTES`] holds every result.
 ///
 /// ```
 /// use cidhomba::{check_automaton, union, Reason, MAX_SET_BYTES};
@@ -195,8 +203,8 @@ pub fn union<'a>(first: &[u8], second: &[u8], out: &'a mut [u8]) -> Result<&'a [
     Ok(&out[..length])
 }
 
-/// The set that lets in what both of two sets do, in the wide form whatever the forms of the two; a space of
-/// [`MAX_SET_BYTES`] holds every result.
+/// The set that lets in what both of two sets do, in the wide form, with rules of 14 bytes if either of the two has them;
+/// a space of [`MAX_SET_BYTES`] holds every result.
 ///
 /// ```
 /// use cidhomba::{check_automaton, product, Reason, MAX_SET_BYTES};
@@ -237,7 +245,8 @@ pub fn widen_states<'a>(set: &[u8], out: &'a mut [u8]) -> Result<&'a [u8], Refus
 }
 
 /// A wide set in the narrow form, which has the tags of a state in one byte and lets in the same documents. The set must be
-/// wide and have at most 8 tags, whether or not a state carries them. Widening and narrowing undo each other byte for byte.
+/// wide, have no rules of 14 bytes, and have at most 8 tags, whether or not a state carries them. Widening and narrowing
+/// undo each other byte for byte.
 ///
 /// ```
 /// use cidhomba::{narrow_states, union, widen_states, Reason, MAX_SET_BYTES};

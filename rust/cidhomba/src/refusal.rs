@@ -18,7 +18,7 @@ macro_rules! reasons {
         /// assert_eq!(reason, Reason::SetOrder);
         /// assert_eq!(reason.number(), 7);
         /// assert_eq!(reason.condition(), "the rules of the set do not ascend strictly by symbol, child places and target");
-        /// assert_eq!(Reason::from_number(9), None);
+        /// assert_eq!(Reason::from_number(99), None);
         /// ```
         #[non_exhaustive]
         #[repr(u8)]
@@ -57,13 +57,14 @@ macro_rules! reasons {
 reasons! {
     SetTooShort = 1 => "the set has fewer than 16 bytes";
     SetCounts = 2 => "the set's symbols, states, tags or rules are too few or too many";
-    SetLengths = 3 => "an offset, the total or the length of the set differs from the formulas, or its states have one \
-        byte for over 8 tags";
+    SetLengths = 3 => "an offset, the total or the length of the set differs from the formulas of every form, or its \
+        states have one byte for over 8 tags";
     SetChildren = 4 => "a symbol of the set has more than 4 children";
     SetState = 5 => "a state of the set has a final byte above 1 or a tag that the set does not have";
     SetRule = 6 => "a rule of the set names an unknown symbol or state, or an unused place is not 65535";
     SetOrder = 7 => "the rules of the set do not ascend strictly by symbol, child places and target";
     SetTags = 8 => "the set has over 8 tags and cannot be narrowed";
+    SetForgets = 9 => "a rule of the set forgets a tag that the set does not have";
     TableLength = 11 => "the table has no rows, over 1,024, or a row cut short";
     RowSymbol = 12 => "a row has an unknown symbol";
     RowChildren = 13 => "a child of a row is not lower, or an unused place is not 65535";
@@ -71,11 +72,11 @@ reasons! {
     RowsEqual = 15 => "two rows are equal";
     RowUnused = 16 => "a row, not the last, is used by no later row";
     TableHeight = 17 => "the tree is higher than 256";
-    SetForm = 18 => "the set is not in the form that the move starts from";
+    SetForm = 18 => "the set is not in the form that the move starts from, by its states or by its rules";
     RunLength = 21 => "the run has no steps, over 4,096, or a step cut short";
     StepUnknown = 22 => "a step names an unknown rule or row";
     StepMisfit = 23 => "the symbols of a step's rule and row differ, or a step place is not as it should be";
-    RunTag = 24 => "a tag goes to two rows";
+    RunTag = 24 => "in some step a tag goes to two rows";
     RunEnd = 25 => "the last step is not on the last row, or its state is not final";
     StepUnused = 26 => "a step, not the last, is used by no later step";
     NoRoom = 31 => "there are more distinct annotations than the room";
@@ -217,6 +218,6 @@ mod tests {
     #[test]
     #[should_panic(expected = "library and wrapper are of different versions")]
     fn a_number_that_no_reason_has() {
-        let _ = Refusal::or_value(word(9, 0));
+        let _ = Refusal::or_value(word(99, 0));
     }
 }

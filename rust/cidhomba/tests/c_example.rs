@@ -15,8 +15,8 @@ fn file(name: &str) -> PathBuf {
 /// What the example prints.
 const PRINTED: &str = "\
      set E: 0\n\
-     set E without its last byte: refused 3, an offset, the total or the length of the set differs from the formulas, \
-     or its states have one byte for over 8 tags\n\
+     set E without its last byte: refused 3, an offset, the total or the length of the set differs from the formulas \
+     of every form, or its states have one byte for over 8 tags\n\
      pair(a=7,a=7): 0\n\
      its first row: 0\n\
      half a row: refused 11, the table has no rows, over 1,024, or a row cut short\n\
@@ -30,7 +30,8 @@ const PRINTED: &str = "\
      bytes of E in the wide form: 61\n\
      steps for pair(a=7,a=7) by it: 2\n\
      bytes of it in the narrow form: 59\n\
-     set E, which is not in the wide form, narrowed: refused 18, the set is not in the form that the move starts from\n\
+     set E, which is not in the wide form, narrowed: refused 18, the set is not in the form that the move starts from, \
+     by its states or by its rules\n\
      levels of a lowest document: 2\n\
      its rows: 2\n\
      rows of pair(a=7,b#3): 3\n\

@@ -90,6 +90,32 @@ fn two_forms() {
     assert_eq!(out[61..], [9; 9]);
 }
 
+/// Lists of pairs, each of two equal parts: the rule for a pair forgets the tag that holds them together.
+#[test]
+fn a_set_that_forgets() {
+    let pairs = example("pairs.set");
+    let (mut space, mut out) = ([0; 9 * ROW_CELLS], [0; MAX_SET_BYTES]);
+    let (mut work, mut run) = ([0; 9 * ANNOTATION_CELLS], [0; 9 * STEP_CELLS]);
+    for (text, is_let_in) in
+        [("s1(s0(s3=1,s3=1),s1(s0(s3=2,s3=2),s2))", true), ("s1(s0(s3=1,s3=1),s1(s0(s3=2,s3=3),s2))", false)]
+    {
+        let rows = read_term(&pairs, Names::default(), text.as_bytes(), &mut space).expect("a sound text");
+        let judgement = membership(&pairs, rows, &mut work, &mut run).expect("there is room");
+        assert_eq!(matches!(judgement, Judgement::Yes(_)), is_let_in, "{text}");
+        if let Judgement::Yes(steps) = judgement {
+            assert_eq!(check_run(&pairs, rows, steps), Ok(()));
+        }
+    }
+    assert_eq!(narrow_states(&pairs, &mut out), Err(refused(Reason::SetForm)));
+    assert_eq!(widen_states(&pairs, &mut out), Err(refused(Reason::SetForm)));
+    // 16 + 4 + 3 * 6 + 14 * 8 bytes.
+    assert_eq!(union(&pairs, &pairs, &mut out).map(<[u8]>::len), Ok(150));
+    let mut strange = pairs.clone();
+    strange[41] = 2;
+    assert_eq!(check_automaton(&strange), Err(refused(Reason::SetForgets)));
+    assert_eq!(product(&pairs, &strange, &mut out), Err(refused(Reason::SetForgets)));
+}
+
 #[test]
 fn dead_or_live() {
     let mut space = [0; 2 * ROW_CELLS];
@@ -170,7 +196,12 @@ fn reading_json() {
 
 /// Whether the set of an export in `examples/json` lets in an export.
 fn let_in(set: &str, export: &str) -> bool {
-    let [set, keys] = ["set", "keys"].map(|kind| example(&format!("json/{set}.{kind}")));
+    let_in_with_keys(set, set, export)
+}
+
+/// The same where the list of keys has a name of its own.
+fn let_in_with_keys(set: &str, keys: &str, export: &str) -> bool {
+    let [set, keys] = [format!("json/{set}.set"), format!("json/{keys}.keys")].map(|name| example(&name));
     let mut space = vec![0; ROW_CELLS * MAX_ROWS];
     let (mut work, mut run) = (vec![0; ANNOTATION_CELLS * MAX_ROOM], vec![0; STEP_CELLS * MAX_ROOM]);
     let rows =
@@ -184,4 +215,12 @@ fn the_bad_evening_in_json() {
     assert!(!let_in("evening", "evening-queue"));
     assert!(!let_in("evening", "evening-swapped"));
     assert!(let_in("uwsgi", "uwsgi"));
+}
+
+#[test]
+fn paired_servers() {
+    assert!(let_in("paired", "paired"));
+    assert!(!let_in("paired", "paired-mixed"));
+    assert!(!let_in("paired", "paired-odd"));
+    assert!(!let_in_with_keys("paired-strict", "paired", "paired"));
 }

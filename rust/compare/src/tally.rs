@@ -48,7 +48,7 @@ impl Tally {
 }
 
 /// The refusals of a set.
-pub const SET: [u8; 7] = [1, 2, 3, 4, 5, 6, 7];
+pub const SET: [u8; 8] = [1, 2, 3, 4, 5, 6, 7, 9];
 /// The refusals of a table.
 pub const TABLE: [u8; 7] = [11, 12, 13, 14, 15, 16, 17];
 /// The refusals of a run.

@@ -1,12 +1,15 @@
 //! The library's check of a stored set against the reference's.
 
 use cidhomba::interface::check_automaton;
+use cidhomba::MAX_SET_BYTES;
 use compare::answer::Answer;
 use compare::case::{Case, Expected, Input};
 use compare::tally::{Tally, SET};
 use generate::{set_bytes, sets, Random};
-use reference::examples::{rule, set_b, set_d, set_e, set_g, state};
-use reference::limits::{HEADER_BYTES, RULE_BYTES};
+use reference::examples::{
+    balanced_trees, doubled_lists, lists_of_equal_pairs, rule, set_b, set_d, set_e, set_g, state,
+};
+use reference::limits::HEADER_BYTES;
 use reference::{Automaton, Form, Rule};
 
 /// Compares one call, and answers what both answered.
@@ -29,10 +32,13 @@ fn number_in(form: Form, automaton: &Automaton) -> Option<u8> {
     compare(&automaton.encode_in(form)).number()
 }
 
-/// The examples in both forms.
+/// The examples in all forms, and those that forget in theirs.
 fn examples() -> impl Iterator<Item = Vec<u8>> {
     let sets = [set_e(), set_g(), set_d(), set_b()];
-    sets.into_iter().flat_map(|set| Form::BOTH.map(|form| set.encode_in(form)))
+    let forgetting = [lists_of_equal_pairs(), doubled_lists(), balanced_trees()];
+    sets.into_iter()
+        .flat_map(|set| Form::ALL.map(|form| set.encode_in(form)))
+        .chain(forgetting.map(|set| set.encode()))
 }
 
 #[test]
@@ -41,7 +47,7 @@ fn seeded_sets() {
     for seed in 0..25_000 {
         let random = &mut Random::new(seed);
         let sizes = sets::any_sizes(random);
-        let automaton = sets::automaton(random, &sizes);
+        let automaton = sets::any_automaton(random, &sizes);
         let set = set_bytes::stored(random, &automaton, 85);
         tally.count(compare(&set), |_| "sound");
     }
@@ -81,8 +87,9 @@ fn every_length_of_the_examples() {
 #[test]
 fn every_number_of_a_middling_set() {
     let automaton = sets::automaton(&mut Random::new(7), &sets::medium_sizes());
-    for sound in Form::BOTH.map(|form| automaton.encode_in(form)) {
-        let rules_at = sound.len() - RULE_BYTES * automaton.rules.len();
+    for form in Form::ALL {
+        let sound = automaton.encode_in(form);
+        let rules_at = form.rules_offset(automaton.arities.len(), automaton.states.len());
         let header = (0..HEADER_BYTES).step_by(2);
         for at in header.chain((rules_at..sound.len()).step_by(2)) {
             let old = u16::from_le_bytes([sound[at], sound[at + 1]]);
@@ -104,15 +111,15 @@ fn with_lengths(automaton: &Automaton, form: Form, rules_offset: usize, total: u
     set
 }
 
-/// The distance from the states to the rules tells the form, and total and length must be that form's.
+/// The distance from the states to the rules and the total tell the form, and the length must be that form's.
 #[test]
-fn every_distance_with_the_lengths_of_both_forms() {
+fn every_distance_with_the_lengths_of_all_forms() {
     for states in [1, 2, 3, 12, 24] {
         let automaton = of_counts(2, states, 0, 5 % states);
         let rules = automaton.rules.len();
-        for form in Form::BOTH {
+        for form in Form::ALL {
             for rules_offset in 0..16 + 2 + 5 * states {
-                for total in Form::BOTH.map(|form| form.total(2, states, rules)) {
+                for total in Form::ALL.map(|form| form.total(2, states, rules)) {
                     let set = with_lengths(&automaton, form, rules_offset, total);
                     let is_sound = rules_offset == form.rules_offset(2, states) && total == set.len();
                     let expected = if is_sound { None } else { Some(3) };
@@ -156,7 +163,7 @@ fn counts_at_their_limits() {
         (1, 64, 0, 1025, Some(2)),
     ] {
         let automaton = of_counts(symbols, states, tags, rules);
-        for form in Form::BOTH {
+        for form in Form::ALL {
             let found = number_in(form, &automaton);
             assert_eq!(found, expected, "{form:?} {symbols} {states} {tags} {rules}");
         }
@@ -166,8 +173,10 @@ fn counts_at_their_limits() {
             let automaton = of_counts(symbols, states, tags, rules);
             assert_eq!(number_in(Form::Narrow, &automaton), narrow, "{tags} tags");
             assert_eq!(number_in(Form::Wide, &automaton), None, "{tags} tags");
+            assert_eq!(number_in(Form::Isolating, &automaton), None, "{tags} tags");
         }
     }
+    assert_eq!(of_counts(64, 256, 16, 1024).encode_in(Form::Isolating).len(), MAX_SET_BYTES);
 }
 
 #[test]
@@ -186,7 +195,7 @@ fn tags_at_their_limits() {
         for mask in 0..=255 {
             let mut automaton = of_counts(2, 256, tags, 3);
             automaton.states[255].tags = mask;
-            for form in Form::BOTH {
+            for form in Form::ALL {
                 assert_eq!(number_in(form, &automaton), fits(mask, tags), "{tags} tags, mask {mask}");
             }
         }
@@ -195,14 +204,85 @@ fn tags_at_their_limits() {
         for mask in (0..=255).flat_map(|byte| [byte << 8, byte << 8 | 1, byte << 4]) {
             let mut automaton = of_counts(2, 3, tags, 3);
             automaton.states[2].tags = mask;
-            assert_eq!(number_in(Form::Wide, &automaton), fits(mask, tags), "{tags} tags, mask {mask}");
+            for form in [Form::Wide, Form::Isolating] {
+                assert_eq!(number_in(form, &automaton), fits(mask, tags), "{tags} tags, mask {mask}");
+            }
+        }
+    }
+}
+
+/// The set of so many tags whose rule at a place forgets a mask, and no other rule anything.
+fn forgetting(tags: usize, rules: usize, place: usize, mask: u16) -> Automaton {
+    let mut automaton = of_counts(2, 64, tags, rules);
+    automaton.rules[place].forgets = mask;
+    automaton
+}
+
+#[test]
+fn tags_to_forget_at_their_limits() {
+    for tags in 0..=16 {
+        let one_tag = (0..16).map(|tag| 1 << tag);
+        let all_below = (0..=16).map(|tags| ((1u32 << tags) - 1) as u16);
+        for mask in one_tag.chain(all_below).chain([0xff00, 0x8001, 0x0101]) {
+            let expected = (u32::from(mask) >= 1 << tags).then_some(9);
+            for place in 0..3 {
+                let found = number_in(Form::Isolating, &forgetting(tags, 3, place, mask));
+                assert_eq!(found, expected, "{tags} tags, mask {mask:016b}, rule {place}");
+            }
         }
     }
 }
 
 #[test]
-fn final_bytes_in_either_form() {
-    for form in Form::BOTH {
+fn a_strange_tag_to_forget_is_found_wherever_it_stands_and_behind_7() {
+    for place in [0, 1, 511, 1022, 1023] {
+        let strange = forgetting(3, 1024, place, 8);
+        assert_eq!(number_in(Form::Isolating, &strange), Some(9), "rule {place}");
+        for unsorted in [0, 512, 1022] {
+            let mut automaton = strange.clone();
+            automaton.rules.swap(unsorted, unsorted + 1);
+            assert_eq!(number_in(Form::Isolating, &automaton), Some(7), "rules {place} and {unsorted}");
+        }
+        let mut automaton = strange.clone();
+        automaton.rules[1023].target = 64;
+        assert_eq!(number_in(Form::Isolating, &automaton), Some(6), "rule {place}");
+    }
+}
+
+/// The order does not look at the tags to forget.
+#[test]
+fn a_rule_stands_once_whatever_it_forgets() {
+    for (first, second) in [(0, 0), (0, 1), (1, 0), (1, 2), (0xffff, 1)] {
+        for place in [0, 512, 1022] {
+            let mut automaton = of_counts(3, 64, 16, 1024);
+            automaton.rules[place].forgets = first;
+            automaton.rules[place + 1].forgets = second;
+            assert_eq!(number_in(Form::Isolating, &automaton), None, "{first} and {second}");
+            automaton.rules[place + 1] = automaton.rules[place].clone().forgetting(second);
+            assert_eq!(number_in(Form::Isolating, &automaton), Some(7), "{first} and {second}");
+        }
+    }
+}
+
+/// With both total and length of the other wide form, rules are cut otherwise.
+#[test]
+fn rules_of_one_wide_form_taken_for_those_of_the_other() {
+    let mut tally = Tally::of("check_automaton, rules cut otherwise");
+    for rules in 0..60 {
+        let automaton = of_counts(2, 64, 16, rules);
+        for (form, other) in [(Form::Wide, Form::Isolating), (Form::Isolating, Form::Wide)] {
+            let total = other.total(2, 64, rules);
+            let mut set = with_lengths(&automaton, form, form.rules_offset(2, 64), total);
+            set.resize(total, 0);
+            tally.count(compare(&set), |_| "sound");
+        }
+    }
+    tally.must_reach(120, 3, &[6, 7], &["sound"]);
+}
+
+#[test]
+fn final_bytes_in_each_form() {
+    for form in Form::ALL {
         let sound = of_counts(2, 256, 8, 3).encode_in(form);
         for state in [0, 1, 127, 254, 255] {
             for value in [0, 1, 2, 3, 128, 255] {

@@ -14,13 +14,13 @@ fn seeded_tables() {
     for seed in 0..25_000 {
         let random = &mut Random::new(seed);
         let sizes = sets::any_sizes(random);
-        let automaton = sets::automaton(random, &sizes);
+        let automaton = sets::any_automaton(random, &sizes);
         let most = random.pick(&[1, 3, 8, 8, 40, 40, 300]);
         let rows = rows::lent(random, &automaton, most, 75);
         let set = set_bytes::stored(random, &automaton, 20);
         tally.count(compare(&set, &rows), |_| "sound");
     }
-    let numbers = [SET, TABLE].concat();
+    let numbers = [&SET[..], &TABLE].concat();
     tally.must_reach(20_000, 200, &numbers, &["sound"]);
 }
 

@@ -1,7 +1,8 @@
-//! A set in the narrow form and the same set widened (document 02, Wish 2): every function of the library gives the same
-//! answer for both and leaves the same in its spaces, and each move undoes the other.
+//! A set in the narrow form, the same set widened (document 02, Wish 2), and that with rules of 14 bytes that forget
+//! nothing (Wish 9): every function of the library gives the same answer for all three and leaves the same in its spaces,
+//! and each move between the first two undoes the other.
 
-use cidhomba::interface;
+use cidhomba::{interface, MAX_SET_BYTES};
 use compare::answer::Answer;
 use compare::calls::{
     check_document, check_run, membership, narrow_states, read_term, widen_states, write_term,
@@ -12,17 +13,18 @@ use generate::example_files::file;
 use generate::{documents, pairs, rows, runs, sets, texts, Random};
 use reference::examples::{set_b, set_d, set_e, set_g};
 use reference::limits::{ANNOTATION_CELLS, MAX_NARROW_TAGS, MAX_ROWS, ROW_CELLS, STEP_CELLS};
-use reference::{check_names, Automaton, Form};
+use reference::{check_automaton, check_names, Automaton, Form};
 
 /// Bytes that hold every set.
-const SET_SPACE: usize = 13_136;
+const SET_SPACE: usize = MAX_SET_BYTES;
 /// Annotations for which there is room, and steps in the run space.
 const ROOM: usize = 300;
 
-/// A set in both forms; the wide one is the library's own work.
+/// A set that forgets nothing in all forms; the wide one is the library's own work.
 struct Forms {
     narrow: Vec<u8>,
     wide: Vec<u8>,
+    isolating: Vec<u8>,
 }
 
 impl Forms {
@@ -32,20 +34,39 @@ impl Forms {
         assert_eq!(wide.len() as u64, length);
         assert_eq!(narrow_states(&wide, narrow.len()), Answer::Value(narrow.len() as u64));
         assert_eq!(written(|out| interface::narrow_states(&wide, out)), narrow, "there and back");
-        assert_eq!(interface::check_automaton(&narrow), 0);
-        assert_eq!(interface::check_automaton(&wide), 0);
-        Forms { narrow, wide }
+        let set = check_automaton(&narrow).expect("the library took it");
+        let isolating = set.encode_in(Form::Isolating);
+        for set in [&narrow, &wide, &isolating] {
+            assert_eq!(interface::check_automaton(set), 0);
+        }
+        Forms { narrow, wide, isolating }
     }
 
     fn of_set(set: &Automaton) -> Forms {
         Forms::of(set.encode_in(Form::Narrow))
     }
 
-    /// What a call answers for either form, which must be the same.
+    /// What a call answers for any form, which must be the same.
     fn alike<T: PartialEq + std::fmt::Debug>(&self, call: impl Fn(&[u8]) -> T) -> T {
+        let by_short_rules = self.alike_in_the_first_two(&call);
+        assert_eq!(by_short_rules, call(&self.isolating), "narrow {:?}", self.narrow);
+        by_short_rules
+    }
+
+    /// What a call answers for either form with rules of 12 bytes, which must be the same.
+    fn alike_in_the_first_two<T: PartialEq + std::fmt::Debug>(&self, call: impl Fn(&[u8]) -> T) -> T {
         let (by_narrow, by_wide) = (call(&self.narrow), call(&self.wide));
         assert_eq!(by_narrow, by_wide, "narrow {:?}", self.narrow);
         by_narrow
+    }
+
+    fn all(&self) -> impl Iterator<Item = &[u8]> {
+        [&self.narrow, &self.wide, &self.isolating].into_iter().map(|set| &set[..])
+    }
+
+    /// Whether the set has rules, without which the two wide forms are the same bytes.
+    fn has_rules(&self) -> bool {
+        self.isolating != self.wide
     }
 
     /// The rows of a sound text.
@@ -100,7 +121,7 @@ fn kind(value: u64) -> &'static str {
 #[test]
 fn tables_and_runs_are_checked_alike() {
     let (mut tables, mut checked) =
-        (Tally::of("check_document in both forms"), Tally::of("check_run in both forms"));
+        (Tally::of("check_document in all forms"), Tally::of("check_run in all forms"));
     for seed in 0..12_000 {
         let random = &mut Random::new(seed);
         let set = sets::automaton(random, &sets::tagged_sizes());
@@ -119,7 +140,7 @@ fn tables_and_runs_are_checked_alike() {
 
 #[test]
 fn documents_are_judged_alike_with_the_same_run() {
-    let mut tally = Tally::of("membership in both forms");
+    let mut tally = Tally::of("membership in all forms");
     for seed in 0..12_000 {
         let random = &mut Random::new(seed);
         let set = sets::automaton(random, &sets::tagged_sizes());
@@ -139,7 +160,7 @@ fn documents_are_judged_alike_with_the_same_run() {
 
 #[test]
 fn lowest_documents_are_alike() {
-    let mut tally = Tally::of("witness in both forms");
+    let mut tally = Tally::of("witness in all forms");
     for seed in 0..4000 {
         let random = &mut Random::new(seed);
         let sizes = random.pick(&[sets::tagged_sizes, sets::medium_sizes, sets::largest_narrow_sizes])();
@@ -154,7 +175,7 @@ fn lowest_documents_are_alike() {
 #[test]
 fn texts_are_read_and_written_alike() {
     let (mut reading, mut writing) =
-        (Tally::of("read_term in both forms"), Tally::of("write_term in both forms"));
+        (Tally::of("read_term in all forms"), Tally::of("write_term in all forms"));
     for seed in 0..8000 {
         let random = &mut Random::new(seed);
         let set = sets::automaton(random, &sets::small_sizes());
@@ -180,10 +201,22 @@ fn joined(operation: Operation, first: &[u8], second: &[u8], space: usize) -> (A
     (Answer::of_library(operation(first, second, out.space())), out.contents().to_vec())
 }
 
-/// The same bytes, in the wide form, for any of the two sets in any form.
+/// Where either of two sets has rules of 14 bytes, the result has them too; it is the same set.
+fn has_long_rules_with_either(operation: Operation, first: &Forms, second: &Forms, result: &[u8]) {
+    let expected = check_automaton(result).expect("a sound set").encode_in(Form::Isolating);
+    let same = |one: &[u8], other: &[u8]| assert_eq!(written(|out| operation(one, other, out)), expected);
+    if first.has_rules() {
+        second.all().for_each(|other| same(&first.isolating, other));
+    }
+    if second.has_rules() {
+        first.all().for_each(|one| same(one, &second.isolating));
+    }
+}
+
+/// The same bytes, in the wide form, for any of the two sets in either form with rules of 12 bytes.
 #[test]
 fn unions_and_products_are_the_same_bytes() {
-    let mut tally = Tally::of("union and product in both forms");
+    let mut tally = Tally::of("union and product in all forms");
     for seed in 0..4000 {
         let random = &mut Random::new(seed);
         let (first, second) = pairs::pair(random);
@@ -193,12 +226,15 @@ fn unions_and_products_are_the_same_bytes() {
         let (first, second) = (Forms::of_set(&first), Forms::of_set(&second));
         let space = random.pick(&[SET_SPACE, SET_SPACE, 200]);
         for operation in [interface::union, interface::product] {
-            let with_first = |one: &[u8]| second.alike(|other| joined(operation, one, other, space));
-            let (answer, out) = first.alike(with_first);
+            let with_first =
+                |one: &[u8]| second.alike_in_the_first_two(|other| joined(operation, one, other, space));
+            let (answer, out) = first.alike_in_the_first_two(with_first);
             if let Answer::Value(length) = answer {
-                assert_eq!(interface::check_automaton(&out[..length as usize]), 0, "seed {seed}");
-                let again = interface::widen_states(&out[..length as usize], &mut vec![0; SET_SPACE]);
+                let result = &out[..length as usize];
+                assert_eq!(interface::check_automaton(result), 0, "seed {seed}");
+                let again = interface::widen_states(result, &mut vec![0; SET_SPACE]);
                 assert_eq!(Answer::of_library(again).number(), Some(18), "seed {seed}: it is wide already");
+                has_long_rules_with_either(operation, &first, &second, result);
             }
             tally.count(answer, |_| "written");
         }

@@ -4,11 +4,15 @@ use cidhomba::interface::membership;
 use compare::answer::Answer;
 use compare::calls::membership as compare;
 use compare::tally::{Tally, SET, TABLE};
+use generate::example_files::file;
+use generate::paired_list::{paired_list, paired_list_set};
 use generate::wide_export::{wide_export, wide_set, PARTS};
 use generate::{documents, rows, set_bytes, sets, Random};
 use reference::boolean::multiplied;
-use reference::examples::{rule, set_b, set_d, set_e, set_g, state};
-use reference::limits::{ANNOTATION_CELLS, MAX_ROOM, ROW_CELLS, STEP_CELLS};
+use reference::examples::{
+    balanced_trees, doubled_lists, lists_of_equal_pairs, rule, set_b, set_d, set_e, set_g, state,
+};
+use reference::limits::{ANNOTATION_CELLS, MAX_ROOM, MAX_ROWS, ROW_CELLS, STEP_CELLS};
 use reference::{Automaton, Document, Row, Scalar, MINUS_ZERO};
 
 fn kind(value: u64) -> &'static str {
@@ -45,7 +49,7 @@ fn seeded_documents() {
     for seed in 0..30_000 {
         let random = &mut Random::new(seed);
         let sizes = random.pick(&SIZES)();
-        let automaton = sets::automaton(random, &sizes);
+        let automaton = sets::any_automaton(random, &sizes);
         let most = random.pick(&[1, 4, 8, 16, 30]);
         let Some(document) = documents::document(random, &automaton, most) else { continue };
         let room = telling_room(random, &automaton, &document);
@@ -61,12 +65,24 @@ fn seeded_documents() {
     tally.must_reach(20_000, 200, &numbers, &["yes", "no"]);
 }
 
+/// Whether a set lets the document in, whatever the room.
+fn is_let_in(automaton: &Automaton, document: &Document) -> bool {
+    let judgement = reference::membership::judge(automaton, document, usize::MAX);
+    judgement.expect("no bound, no refusal").is_yes()
+}
+
 /// Whether the set would let the document in if no state had a tag.
 fn is_let_in_without_tags(automaton: &Automaton, document: &Document) -> bool {
     let mut untagged = automaton.clone();
     untagged.states.iter_mut().for_each(|state| state.tags = 0);
-    let judgement = reference::membership::judge(&untagged, document, usize::MAX);
-    judgement.expect("no bound, no refusal").is_yes()
+    is_let_in(&untagged, document)
+}
+
+/// Whether the set would let the document in if it forgot nothing.
+fn is_let_in_without_forgetting(automaton: &Automaton, document: &Document) -> bool {
+    let mut remembering = automaton.clone();
+    remembering.rules.iter_mut().for_each(|rule| rule.forgets = 0);
+    is_let_in(&remembering, document)
 }
 
 #[test]
@@ -83,6 +99,28 @@ fn documents_grown_along_the_rules() {
         tally.count(answer, |value| if turned_down { "no, by its tags" } else { kind(value) });
     }
     tally.must_reach(2000, 200, &[31], &["yes", "no, by its tags"]);
+}
+
+#[test]
+fn documents_grown_along_rules_that_forget() {
+    let mut tally = Tally::of("membership, rules that forget");
+    for seed in 0..20_000 {
+        let random = &mut Random::new(seed);
+        let automaton = sets::forgetful(random);
+        let Some(document) = documents::grown(random, &automaton, 40) else { continue };
+        let room = random.pick(&[20, 300, 300]);
+        let answer = compare_with_room(&automaton, &document, room);
+        let kind = match answer {
+            Answer::Value(0) if is_let_in_without_tags(&automaton, &document) => "no, by its tags",
+            Answer::Value(1..) if !is_let_in_without_forgetting(&automaton, &document) => {
+                "yes, by forgetting"
+            }
+            Answer::Value(value) => kind(value),
+            _ => "refused",
+        };
+        tally.count(answer, |_| kind);
+    }
+    tally.must_reach(4000, 200, &[31], &["yes", "yes, by forgetting", "no, by its tags"]);
 }
 
 /// A pair over one or two leaves of symbol 1, for the examples.
@@ -130,6 +168,108 @@ fn loads_of_either_sign() {
         let read = reference::read_term(&set_e().encode(), b"", b"", text.as_bytes(), 3 * ROW_CELLS);
         let answer = compare_with_room(&set_e(), &read.expect("a sound text"), 9);
         assert_eq!(answer, Answer::Value(as_text), "{text}");
+    }
+}
+
+/// Source document 000, with every room up to one that is enough: P, D and B, and lists that each turns away.
+#[test]
+fn the_examples_that_forget_with_every_room() {
+    let pair = |x: usize, y: usize| format!("s0(s3={x},s3={y})");
+    let list = |parts: &[String]| {
+        parts.iter().rev().fold("s2".to_string(), |rest, part| format!("s1({part},{rest})"))
+    };
+    let elements = |numbers: &[usize]| list(&numbers.iter().map(|x| format!("s3={x}")).collect::<Vec<_>>());
+    let (pairs, doubled, balanced) = (lists_of_equal_pairs(), doubled_lists(), balanced_trees());
+    for (set, text, is_yes) in [
+        (&pairs, list(&[]), true),
+        (&pairs, list(&[pair(1, 1), pair(2, 2), pair(1, 1)]), true),
+        (&pairs, list(&[pair(1, 1), pair(2, 3)]), false),
+        (&pairs, pair(1, 1), false),
+        (&doubled, elements(&[1, 1, 2, 2, 1, 1]), true),
+        (&doubled, elements(&[1, 1, 2]), false),
+        (&doubled, elements(&[1, 2, 2, 1]), false),
+        (&balanced, "s0(s0(s1,s1),s0(s1,s1))".to_string(), true),
+        (&balanced, "s0(s0(s1,s1),s1)".to_string(), false),
+        (&balanced, "s0(s1=1,s1=2)".to_string(), false),
+    ] {
+        let read = reference::read_term(&set.encode(), b"", b"", text.as_bytes(), ROW_CELLS * 40);
+        let document = read.expect("a sound text");
+        for room in 0..30 {
+            compare_with_room(set, &document, room);
+        }
+        let last = compare_with_room(set, &document, 30);
+        assert_eq!(matches!(last, Answer::Value(1..)), is_yes, "{text}");
+        assert_eq!(last.number(), None, "{text}");
+    }
+}
+
+/// a in two states that carry a tag each, and g over either; what g forgets is no part of its annotations.
+#[test]
+fn annotations_are_counted_after_forgetting() {
+    for (forgets, annotations) in [(0, 4), (1, 4), (2, 4), (3, 3)] {
+        let set = Automaton {
+            arities: vec![1, 0],
+            states: vec![state(true, 0), state(false, 1), state(false, 2)],
+            tag_count: 2,
+            rules: vec![
+                rule(0, &[1], 0).forgetting(forgets),
+                rule(0, &[2], 0).forgetting(forgets),
+                rule(1, &[], 1),
+                rule(1, &[], 2),
+            ],
+        };
+        let document = documents::chain(&set, 2).expect("there is a leaf");
+        assert_eq!(compare_with_room(&set, &document, annotations), Answer::Value(2), "forgets {forgets}");
+        assert_eq!(compare_with_room(&set, &document, annotations - 1).number(), Some(31));
+    }
+}
+
+/// The exports of `examples/json` whose servers stand in pairs, with the set that forgets and with the one that does not.
+#[test]
+fn paired_servers() {
+    let keys = file("json/paired.keys");
+    for (set, export, is_yes) in [
+        ("paired", "paired", true),
+        ("paired", "paired-mixed", false),
+        ("paired", "paired-odd", false),
+        ("paired-strict", "paired", false),
+    ] {
+        let read = reference::read_json(&keys, &file(&format!("json/{export}.json")), ROW_CELLS * MAX_ROWS);
+        let (set, rows) = (file(&format!("json/{set}.set")), read.expect("an export is read").cells());
+        let answer = compare(&set, &rows, ANNOTATION_CELLS * MAX_ROWS, STEP_CELLS * MAX_ROWS);
+        assert_eq!(matches!(answer, Answer::Value(1..)), is_yes, "{export}");
+    }
+}
+
+/// As many pairs as a table holds, and each of them mixed once.
+#[test]
+fn long_lists_of_paired_servers() {
+    let set = paired_list_set();
+    for pairs in [1, 40, 200, 204] {
+        let list = paired_list(pairs, None);
+        let rows = list.rows.len();
+        assert_eq!(compare_with_room(&set, &list, rows), Answer::Value(rows as u64), "{pairs} pairs");
+        assert_eq!(compare_with_room(&set, &list, rows - 1).number(), Some(31), "{pairs} pairs");
+    }
+    for mixed in 0..40 {
+        let answer = compare_with_room(&set, &paired_list(40, Some(mixed)), MAX_ROWS);
+        assert_eq!(answer, Answer::Value(0), "pair {mixed}");
+    }
+}
+
+/// A target may carry a tag that its rule forgets, since dropping comes before adding.
+#[test]
+fn a_tag_is_dropped_before_it_is_added() {
+    let set = Automaton {
+        arities: vec![2, 0],
+        states: vec![state(true, 1)],
+        tag_count: 1,
+        rules: vec![rule(0, &[0, 0], 0).forgetting(1), rule(1, &[], 0)],
+    };
+    for (text, expected) in [("s0(s1,s1)", 2), ("s0(s0(s1,s1),s1)", 0), ("s0(s0(s1,s1),s0(s1,s1))", 3)] {
+        let read = reference::read_term(&set.encode(), b"", b"", text.as_bytes(), ROW_CELLS * 9);
+        let answer = compare_with_room(&set, &read.expect("a sound text"), 9);
+        assert_eq!(answer, Answer::Value(expected), "{text}");
     }
 }
 

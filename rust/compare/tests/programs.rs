@@ -12,10 +12,12 @@ use std::thread::sleep;
 use std::time::Duration;
 
 use generate::{documents, set_bytes, sets, texts, Random};
-use reference::examples::{rule, set_b, set_d, set_e, set_g, state};
+use reference::examples::{
+    balanced_trees, doubled_lists, lists_of_equal_pairs, rule, set_b, set_d, set_e, set_g, state,
+};
 use reference::limits::{MAX_PROGRAM_INPUT, MAX_SYMBOLS};
 use reference::term_writer::text_within;
-use reference::{check_names, judge_program, sample_program, Automaton, Rule};
+use reference::{check_names, judge_program, sample_program, Automaton, Form, Rule};
 
 /// Inputs that each program is run on; starting a program takes about a millisecond.
 const INPUTS: u64 = 4000;
@@ -126,6 +128,7 @@ fn seeded_sets_for_the_sample_program() {
             let sizes = sets::any_sizes(random);
             let make = random.pick(&[sets::layered, sets::with_own_tags, sets::automaton]);
             let automaton = make(random, &sizes);
+            let automaton = sets::forgetting_perhaps(random, automaton);
             SAMPLE.compare(&set_bytes::stored(random, &automaton, 25))
         })
         .collect();
@@ -133,7 +136,7 @@ fn seeded_sets_for_the_sample_program() {
     must_have_seen(&outputs, &refusals);
     must_have_seen(
         &outputs,
-        &["refused 6\n", "refused 7\n", "refused 41\n", "dead\n", "alive 1\n", "alive 2\n"],
+        &["refused 6\n", "refused 7\n", "refused 9\n", "refused 41\n", "dead\n", "alive 1\n", "alive 2\n"],
     );
 }
 
@@ -151,7 +154,8 @@ fn seeded_texts_for_the_judging_program() {
         })
         .collect();
     assert!(two_zeros_let_in >= 10, "a text with both zeros was let in only {two_zeros_let_in} times");
-    let refusals = ["refused 2\n", "refused 3\n", "refused 6\n", "refused 31\n", "refused 63 at "];
+    let refusals =
+        ["refused 2\n", "refused 3\n", "refused 6\n", "refused 9\n", "refused 31\n", "refused 63 at "];
     must_have_seen(&outputs, &refusals);
     must_have_seen(&outputs, &["refused 64 at ", "refused 65 at ", "refused 66 at ", "yes\n", "no\n"]);
 }
@@ -170,7 +174,7 @@ fn set_and_text(random: &mut Random) -> (Automaton, Vec<u8>) {
         return (automaton, text.unwrap_or_default());
     }
     let sizes = random.pick(&[sets::small_sizes, sets::tagged_sizes, sets::many_tags_sizes])();
-    let automaton = sets::automaton(random, &sizes);
+    let automaton = sets::any_automaton(random, &sizes);
     let names = plain_names(&automaton);
     let text = match documents::grown(random, &automaton, 300) {
         Some(document) if random.percent(40) => text_within(&document, &names, 20_000).unwrap_or_default(),
@@ -220,6 +224,31 @@ fn the_examples() {
     ] {
         assert_eq!(judge(&set, text), expected, "{text}");
     }
+}
+
+/// Sets with rules of 14 bytes: those of source document 000, and E as it is and with a tag to forget that it lacks.
+#[test]
+fn sets_that_forget() {
+    let pairs = lists_of_equal_pairs();
+    assert_eq!(SAMPLE.compare(&pairs.encode()), "alive 1\ns2\n");
+    assert_eq!(SAMPLE.compare(&balanced_trees().encode()), "alive 1\ns1\n");
+    for (set, text, expected) in [
+        (&pairs, "s1(s0(s3=1,s3=1),s1(s0(s3=2,s3=2),s2))", "yes\n"),
+        (&pairs, "s1(s0(s3=1,s3=1),s1(s0(s3=2,s3=3),s2))", "no\n"),
+        (&doubled_lists(), "s1(s3=1,s1(s3=1,s1(s3=2,s1(s3=2,s2))))", "yes\n"),
+        (&doubled_lists(), "s1(s3=1,s1(s3=1,s1(s3=2,s2)))", "no\n"),
+        (&balanced_trees(), "s0(s0(s1,s1),s0(s1,s1))", "yes\n"),
+        (&balanced_trees(), "s0(s0(s1,s1),s1)", "no\n"),
+    ] {
+        assert_eq!(judge(set, text), expected, "{text}");
+    }
+    let mut e = set_e().encode_in(Form::Isolating);
+    assert_eq!(SAMPLE.compare(&e), "alive 2\ns0(s1,s1)\n");
+    assert_eq!(JUDGE.compare(&[&e[..], b"s0(s1=7,s1=7)"].concat()), "yes\n");
+    let last_mask = e.len() - 2;
+    e[last_mask] = 2;
+    assert_eq!(SAMPLE.compare(&e), "refused 9\n");
+    assert_eq!(JUDGE.compare(&[&e[..], b"s0(s1=7,s1=7)"].concat()), "refused 9\n");
 }
 
 /// The texts of the settled readings, with the places of their faults.
@@ -292,7 +321,9 @@ fn sets_at_the_limits() {
     for sizes in [sets::largest_narrow_sizes(), sets::largest_sizes()] {
         let largest = sets::automaton(&mut Random::new(5), &sizes);
         SAMPLE.compare(&largest.encode());
+        SAMPLE.compare(&largest.encode_in(Form::Isolating));
         judge(&largest, "s0");
+        JUDGE.compare(&[&largest.encode_in(Form::Isolating)[..], b"s0"].concat());
     }
 }
 

@@ -136,6 +136,9 @@ fn exports_of_the_examples() {
         ("evening", "evening"),
         ("evening-queue", "evening"),
         ("evening-swapped", "evening"),
+        ("paired", "paired"),
+        ("paired-mixed", "paired"),
+        ("paired-odd", "paired"),
     ] {
         let (text, keys) =
             (file(&format!("examples/json/{export}.json")), file(&format!("examples/json/{keys}.keys")));

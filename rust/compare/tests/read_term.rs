@@ -28,7 +28,7 @@ struct Call {
 
 fn seeded(random: &mut Random) -> Call {
     let sizes = sets::any_sizes(random);
-    let automaton = sets::automaton(random, &sizes);
+    let automaton = sets::any_automaton(random, &sizes);
     let symbols = automaton.arities.len();
     let (site, built_in) = lists::both(random, symbols, 15);
     let names = check_names(&site, &built_in, symbols)

@@ -4,13 +4,14 @@
 use std::thread;
 
 use cidhomba::*;
+use generate::paired_list::{paired_list, paired_list_set};
 use generate::runs::unfolded;
 use generate::wide_export::{wide_export, wide_set};
 use generate::{documents, Random};
 use reference::examples::{rule, set_g, state};
 use reference::membership::judge;
 use reference::run::run_cells;
-use reference::{Automaton, Rule};
+use reference::{Automaton, Form, Rule};
 
 /// Bytes of stack that serve every call but one, the scratch of the functions included.
 const STACK: usize = 128 * 1024;
@@ -243,6 +244,14 @@ fn a_table_with_sixteen_tags_is_judged() {
     assert_eq!(judged(&wide_set().encode(), &export.cells()), export.rows.len());
 }
 
+/// 1,021 rows, and a tag that is forgotten 204 times.
+#[test]
+fn a_table_of_paired_servers_is_judged() {
+    let list = paired_list(204, None);
+    assert_eq!(list.rows.len(), 1021);
+    assert_eq!(judged(&paired_list_set().encode(), &list.cells()), list.rows.len());
+}
+
 #[test]
 fn the_longest_run_is_checked() {
     let set = lenient(1);
@@ -266,27 +275,31 @@ fn a_chain_of_256_states_has_a_lowest_document() {
     assert_eq!((rows.len(), levels), (ROW_CELLS * MAX_STATES, LEVELS));
 }
 
-/// A set over one symbol with one child.
-fn over_one_symbol(states: usize, tag_count: usize, rules: Vec<Rule>) -> Vec<u8> {
-    Automaton { arities: vec![1], states: vec![state(true, 0); states], tag_count, rules }.encode()
+/// A set over one symbol with one child, in each form.
+fn over_one_symbol(states: usize, tag_count: usize, rules: Vec<Rule>) -> [Vec<u8>; 3] {
+    let set = Automaton { arities: vec![1], states: vec![state(true, 0); states], tag_count, rules };
+    Form::ALL.map(|form| set.encode_in(form))
 }
 
 #[test]
 fn a_product_of_1024_rules_is_sorted() {
     let first = over_one_symbol(32, 0, (0..32).map(|q| rule(0, &[q], q)).collect());
     let second = over_one_symbol(8, 0, (0..32).map(|n| rule(0, &[n / 4], n % 4)).collect());
-    let mut out = vec![0; MAX_SET_BYTES];
-    let both = with_little_stack(|| product(&first, &second, &mut out)).expect("the result fits");
-    assert_eq!((&both[2..4], &both[6..8]), (&256u16.to_le_bytes()[..], &1024u16.to_le_bytes()[..]));
+    for (first, second) in first.iter().zip(&second) {
+        let mut out = vec![0; MAX_SET_BYTES];
+        let both = with_little_stack(|| product(first, second, &mut out)).expect("the result fits");
+        assert_eq!((&both[2..4], &both[6..8]), (&256u16.to_le_bytes()[..], &1024u16.to_le_bytes()[..]));
+    }
 }
 
 #[test]
 fn a_union_of_1024_rules_is_merged() {
-    let set = over_one_symbol(128, 8, (0..512).map(|n| rule(0, &[n / 4], n % 4)).collect());
-    let mut out = vec![0; MAX_SET_BYTES];
-    let either = with_little_stack(|| union(&set, &set, &mut out)).expect("the result fits");
-    assert_eq!(either[2..8], [256u16.to_le_bytes(), 16u16.to_le_bytes(), 1024u16.to_le_bytes()].concat());
-    assert_eq!(with_little_stack(|| check_automaton(either)), Ok(()));
+    for set in over_one_symbol(128, 8, (0..512).map(|n| rule(0, &[n / 4], n % 4)).collect()) {
+        let mut out = vec![0; MAX_SET_BYTES];
+        let either = with_little_stack(|| union(&set, &set, &mut out)).expect("the result fits");
+        assert_eq!(either[2..8], [256u16.to_le_bytes(), 16u16.to_le_bytes(), 1024u16.to_le_bytes()].concat());
+        assert_eq!(with_little_stack(|| check_automaton(either)), Ok(()));
+    }
 }
 
 #[test]
@@ -298,7 +311,12 @@ fn the_longest_sets_are_moved_to_the_other_form() {
     let narrow = set.encode();
     let (mut out, mut back) = (vec![0; MAX_SET_BYTES], vec![0; MAX_SET_BYTES]);
     let wide = with_little_stack(|| widen_states(&narrow, &mut out)).expect("the result fits");
-    assert_eq!(wide.len(), MAX_SET_BYTES);
+    assert_eq!(wide.len(), MAX_SET_BYTES - 2 * set.rules.len());
     assert_eq!(with_little_stack(|| check_automaton(wide)), Ok(()));
     assert_eq!(with_little_stack(|| narrow_states(wide, &mut back)), Ok(&narrow[..]));
+    let longest = set.encode_in(Form::Isolating);
+    assert_eq!(longest.len(), MAX_SET_BYTES);
+    assert_eq!(with_little_stack(|| check_automaton(&longest)), Ok(()));
+    let refused = with_little_stack(|| narrow_states(&longest, &mut back));
+    assert_eq!(refused, Err(Refusal { reason: Reason::SetForm, place: None }));
 }

@@ -2,7 +2,8 @@
 
 use cidhomba::*;
 use generate::sets::{
-    layered, layered_over_symbols, over_symbols, separate_tags, tiny_sizes, with_own_tags, Sizes,
+    forgetting_perhaps, layered, layered_over_symbols, over_symbols, separate_tags, tiny_sizes,
+    with_own_tags, Sizes,
 };
 use generate::{documents, set_bytes, sets, trees, Random};
 use reference::examples::{set_b, set_e};
@@ -31,8 +32,9 @@ fn union_and_product_mean_either_and_both() {
         let random = &mut Random::new(seed);
         let tags = random.pick(&[4, 8]);
         let sizes = Sizes { states: 1..=6, tags: 0..=tags, rules: 4..=40, ..sets::small_sizes() };
-        let first = sets::automaton(random, &sizes);
+        let first = sets::any_automaton(random, &sizes);
         let second = over_symbols(random, &sizes, first.arities.clone());
+        let second = forgetting_perhaps(random, second);
         let Some(document) = documents::document(random, &first, 12) else { continue };
         let [first, second] = [first, second].map(|set| set_bytes::stored(random, &set, 0));
         let rows = document.cells();
@@ -75,6 +77,7 @@ fn a_lowest_document_is_sound_and_let_in() {
         let random = &mut Random::new(seed);
         let sizes = random.pick(&[sets::small_sizes, sets::medium_sizes, sets::largest_sizes])();
         let automaton = random.pick(&[layered, with_own_tags])(random, &sizes);
+        let automaton = forgetting_perhaps(random, automaton);
         let (set, mut rows) = (set_bytes::stored(random, &automaton, 0), vec![0; ROW_CELLS * MAX_STATES]);
         match witness(&set, &mut rows) {
             Ok(Witness::Live { rows, .. }) => {
@@ -120,6 +123,7 @@ fn no_tree_let_in_is_lower_than_the_lowest_document() {
                 automaton = over_symbols(random, &sizes, arities.clone());
                 separate_tags(&mut automaton);
             }
+            let automaton = forgetting_perhaps(random, automaton);
             let lowest = lowest_let_in(&automaton, &tables);
             let mut rows = vec![0; ROW_CELLS * MAX_STATES];
             match witness(&automaton.encode(), &mut rows).expect("no state shares a tag") {

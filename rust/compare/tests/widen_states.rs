@@ -3,7 +3,7 @@
 mod moves;
 
 use compare::calls::widen_states;
-use moves::{largest, of_counts, Move, PLENTY};
+use moves::{largest, of_counts, strange, Move, PLENTY};
 use reference::examples::set_e;
 use reference::{Automaton, Form};
 
@@ -17,6 +17,11 @@ const WIDENING: Move = Move {
 #[test]
 fn seeded_sets() {
     WIDENING.compare_seeded_sets();
+}
+
+#[test]
+fn seeded_sets_with_rules_of_14_bytes() {
+    WIDENING.compare_sets_with_long_rules();
 }
 
 #[test]
@@ -39,7 +44,9 @@ fn every_number_of_tags() {
     for tags in 0..=16 {
         let narrow = if tags > 8 { Some(3) } else { None };
         assert_eq!(WIDENING.number(&of_counts(5, tags, 3), Form::Narrow), narrow, "{tags} tags");
-        assert_eq!(WIDENING.number(&of_counts(5, tags, 3), Form::Wide), Some(18), "{tags} tags");
+        for form in [Form::Wide, Form::Isolating] {
+            assert_eq!(WIDENING.number(&of_counts(5, tags, 3), form), Some(18), "{tags} tags");
+        }
     }
     let past = Automaton { tag_count: 17, ..of_counts(5, 8, 3) };
     assert_eq!(WIDENING.number(&past, Form::Narrow), Some(2));
@@ -50,6 +57,9 @@ fn every_number_of_tags() {
 fn sets_at_the_limits() {
     for (states, rules) in [(1, 0), (1, 1), (2, 4), (255, 1023), (256, 1024), (256, 0)] {
         assert_eq!(WIDENING.number(&of_counts(states, 8, rules), Form::Narrow), None, "{states} {rules}");
+        for form in [Form::Wide, Form::Isolating] {
+            assert_eq!(WIDENING.number(&of_counts(states, 8, rules), form), Some(18), "{states} {rules}");
+        }
     }
     assert_eq!(WIDENING.number(&of_counts(257, 8, 3), Form::Narrow), Some(2));
     assert_eq!(WIDENING.number(&largest(8), Form::Narrow), None);
@@ -65,6 +75,8 @@ fn the_order_of_numbers() {
     unsorted.rules.reverse();
     for space in [0, 60, 61, PLENTY] {
         let number = |set: &Automaton, form| widen_states(&set.encode_in(form), space).number();
+        assert_eq!(number(&strange(), Form::Isolating), Some(9), "9 before 18");
+        assert_eq!(number(&set_e(), Form::Isolating), Some(18), "18 before 53");
         assert_eq!(number(&unsorted, Form::Narrow), Some(7));
         assert_eq!(number(&unsorted, Form::Wide), Some(7), "7 before 18");
         assert_eq!(number(&set_e(), Form::Wide), Some(18), "18 before 53");

@@ -40,11 +40,12 @@ fn kind(value: u64) -> &'static str {
 
 fn some_set(random: &mut Random) -> Automaton {
     let sizes = sets::any_sizes(random);
-    match random.below(10) {
+    let set = match random.below(10) {
         0..=4 => sets::layered(random, &sizes),
         5..=7 => sets::with_own_tags(random, &sizes),
         _ => sets::automaton(random, &sizes),
-    }
+    };
+    sets::forgetting_perhaps(random, set)
 }
 
 #[test]
@@ -68,7 +69,7 @@ fn seeded_sets() {
 fn the_examples_with_every_space() {
     for (set, rows, levels) in [(set_e(), 2, 2), (set_g(), 1, 1), (set_d(), 0, 0), (set_b(), 2, 2)] {
         for space in 0..=ROW_CELLS * (set.states.len() + 2) {
-            for answer in Form::BOTH.map(|form| compare(&set.encode_in(form), space)) {
+            for answer in Form::ALL.map(|form| compare(&set.encode_in(form), space)) {
                 if space < ROW_CELLS * set.states.len() {
                     assert_eq!(answer.number(), Some(42));
                 } else {
@@ -77,6 +78,24 @@ fn the_examples_with_every_space() {
             }
         }
     }
+}
+
+/// What rules forget changes no sample: it is that of the set that forgets nothing, refusals included.
+#[test]
+fn samples_ignore_forgetting() {
+    let mut tally = Tally::of("witness, rules that forget");
+    for seed in 0..9000 {
+        let random = &mut Random::new(seed);
+        let sizes = random.pick(&[sets::small_sizes, sets::tagged_sizes, sets::many_tags_sizes])();
+        let make = random.pick(&[sets::layered, sets::with_own_tags, sets::automaton]);
+        let mut set = make(random, &sizes);
+        let (space, plain) = (ROW_CELLS * set.states.len(), set.encode());
+        sets::forget_some(random, &mut set);
+        let answer = compare(&set.encode(), space);
+        assert_eq!(answer, compare(&plain, space), "seed {seed}");
+        tally.count(answer, kind);
+    }
+    tally.must_reach(6000, 200, &[41], &["dead", "live", "live with three or more levels"]);
 }
 
 /// Each state over two of the one before, so that the tree doubles 255 times; states counted up or down.

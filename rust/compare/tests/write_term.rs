@@ -24,7 +24,7 @@ struct Call {
 
 fn seeded(random: &mut Random) -> Call {
     let sizes = sets::any_sizes(random);
-    let automaton = sets::automaton(random, &sizes);
+    let automaton = sets::any_automaton(random, &sizes);
     let (site, built_in) = lists::both(random, automaton.arities.len(), 15);
     let most = random.pick(&[1, 4, 12, 12, 60]);
     let rows = rows::lent(random, &automaton, most, 35);

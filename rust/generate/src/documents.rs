@@ -2,7 +2,7 @@
 
 use reference::limits::{MAX_LEVELS, MAX_ROWS, MAX_TAGS};
 use reference::table::TableBuilder;
-use reference::{Automaton, Document, Row, Scalar, MINUS_ZERO};
+use reference::{Automaton, Document, Row, Rule, Scalar, MINUS_ZERO};
 
 use crate::Random;
 
@@ -241,10 +241,7 @@ impl Grower<'_> {
             return Some(row);
         }
         let rule = self.automaton.rules[self.rule_for(random, state, depth)].clone();
-        let mut children = Vec::new();
-        for &child in &rule.children {
-            children.push(self.grow(random, child, depth.saturating_sub(1))?);
-        }
+        let children = self.grow_children(random, &rule, depth)?;
         if self.rows.len() == self.most {
             return None;
         }
@@ -255,6 +252,19 @@ impl Grower<'_> {
             self.row_of_tag[tag] = Some(row);
         }
         Some(row)
+    }
+
+    /// Rows for the children of a rule. The tags that it forgets are held to one row among these alone.
+    fn grow_children(&mut self, random: &mut Random, rule: &Rule, depth: usize) -> Option<Vec<usize>> {
+        let outside = self.row_of_tag;
+        let forgotten: Vec<usize> = self.automaton.tags_forgotten_by(rule).collect();
+        forgotten.iter().for_each(|&tag| self.row_of_tag[tag] = None);
+        let mut children = Vec::new();
+        for &child in &rule.children {
+            children.push(self.grow(random, child, depth.saturating_sub(1))?);
+        }
+        forgotten.iter().for_each(|&tag| self.row_of_tag[tag] = outside[tag]);
+        Some(children)
     }
 
     /// A rule to a state whose children have trees; at the depth's end one that leads to leaves at once.

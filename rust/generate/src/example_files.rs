@@ -1,23 +1,29 @@
 //! The files of `examples/`, made anew.
 
-use reference::examples::set_e;
+use reference::examples::{lists_of_equal_pairs, set_e};
 use reference::{Document, Form, Row, Scalar};
 
 use crate::export::{agreed_set, dead_set, export_text, name_list, Columns};
 use crate::json_export::{self, key_list, Layout};
 use crate::json_shapes;
 use crate::lists::saved_on_windows;
+use crate::paired_export::{self, paired_set, strict_set, Servers};
 
 /// Servers in the exports: their rows are fewer than the annotations that the judging program has room for.
 const SERVERS: usize = 8;
 
+/// Pairs of servers in the exports of paired servers.
+const PAIRS: usize = 4;
+
 /// Every file by its name.
 pub fn all() -> Vec<(&'static str, Vec<u8>)> {
     let text = |columns: Columns| export_text(SERVERS, columns).into_bytes();
+    let paired = |servers: Servers| paired_export::export_text(PAIRS, servers).into_bytes();
     let json = |columns: Columns| json_export::export_text(SERVERS, columns, Layout::Pretty).into_bytes();
     vec![
         ("e.set", set_e().encode()),
         ("e-wide.set", set_e().encode_in(Form::Wide)),
+        ("pairs.set", lists_of_equal_pairs().encode()),
         ("pair-7-7.rows", bytes(&pair(&[7]))),
         ("pair-7-8.rows", bytes(&pair(&[7, 8]))),
         ("pair-7-7.run", low_byte_first(&RUN)),
@@ -34,6 +40,12 @@ pub fn all() -> Vec<(&'static str, Vec<u8>)> {
         ("json/evening.json", json(Columns::Agreed)),
         ("json/evening-queue.json", json(Columns::WithQueue)),
         ("json/evening-swapped.json", json(Columns::SwappedOnce)),
+        ("json/paired.set", paired_set().encode()),
+        ("json/paired-strict.set", strict_set().encode_in(Form::Isolating)),
+        ("json/paired.keys", key_list(&paired_export::KEYS)),
+        ("json/paired.json", paired(Servers::Paired)),
+        ("json/paired-mixed.json", paired(Servers::OnePairMixed)),
+        ("json/paired-odd.json", paired(Servers::OneMissing)),
         ("json/uwsgi.set", json_shapes::uwsgi_set().encode()),
         ("json/uwsgi.keys", key_list(&json_shapes::UWSGI_KEYS)),
         ("dead.set", dead_set().encode()),

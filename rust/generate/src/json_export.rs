@@ -103,14 +103,15 @@ fn fields(server: usize, servers: usize, columns: Columns) -> Vec<(&'static str,
     fields
 }
 
-fn object(members: &[(&str, String)], layout: Layout, depth: usize) -> String {
+/// An object whose brackets stand so many levels in.
+pub(crate) fn object(members: &[(&str, String)], layout: Layout, depth: usize) -> String {
     let space = if layout == Layout::Pretty { " " } else { "" };
     let parts: Vec<String> = members.iter().map(|(key, value)| format!("\"{key}\":{space}{value}")).collect();
     bracketed("{", "}", &parts, layout, depth)
 }
 
 /// Parts with commas in brackets that stand so many levels in.
-fn bracketed(open: &str, close: &str, parts: &[String], layout: Layout, depth: usize) -> String {
+pub(crate) fn bracketed(open: &str, close: &str, parts: &[String], layout: Layout, depth: usize) -> String {
     match layout {
         Layout::Compact => format!("{open}{}{close}", parts.join(",")),
         Layout::Pretty => {

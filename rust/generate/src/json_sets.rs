@@ -34,9 +34,14 @@ impl Shape {
 
     /// A rule from the children's states to a target.
     pub fn rule(&mut self, symbol: usize, children: &[&str], target: &str) {
+        self.forgetting_rule(symbol, children, target, 0);
+    }
+
+    /// A rule as above that forgets tags.
+    fn forgetting_rule(&mut self, symbol: usize, children: &[&str], target: &str, forgets: u16) {
         let children: Vec<usize> = children.iter().map(|child| self.state(child)).collect();
         let target = self.state(target);
-        self.rules.push(rule(symbol, &children, target));
+        self.rules.push(rule(symbol, &children, target).forgetting(forgets));
     }
 
     /// An object whose keys are these, in this order and no others, with values in these states.
@@ -65,6 +70,16 @@ impl Shape {
         self.rule(STOP, &[], &stop);
         self.rule(ITEM, &[element, &stop], target);
         self.rule(ITEM, &[element, target], target);
+    }
+
+    /// An array of one pair or more of neighbours, all in this state. Where a pair is whole, these tags are forgotten, so
+    /// that they hold within each pair alone.
+    pub fn array_of_pairs(&mut self, element: &str, target: &str, forgets: u16) {
+        let (stop, odd) = (format!("{target}: stop"), format!("{target}: odd"));
+        self.rule(STOP, &[], &stop);
+        self.rule(ITEM, &[element, &stop], &odd);
+        self.rule(ITEM, &[element, target], &odd);
+        self.forgetting_rule(ITEM, &[element, &odd], target, forgets);
     }
 
     /// Every tree at all.

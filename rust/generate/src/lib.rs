@@ -13,6 +13,8 @@ pub mod json_shapes;
 pub mod json_texts;
 pub mod json_values;
 pub mod lists;
+pub mod paired_export;
+pub mod paired_list;
 pub mod pairs;
 pub mod random;
 pub mod rows;

@@ -6,12 +6,18 @@ use reference::limits::MAX_TAGS;
 use reference::Automaton;
 
 use crate::sets::{
-    automaton, largest_narrow_sizes, largest_sizes, many_tags_sizes, medium_sizes, over_symbols, small_sizes,
-    tiny_sizes, Sizes,
+    automaton, forgetting_perhaps, largest_narrow_sizes, largest_sizes, many_tags_sizes, medium_sizes,
+    over_symbols, small_sizes, tiny_sizes, Sizes,
 };
 use crate::Random;
 
-/// Two sets whose sizes make results of all sizes likely, up to the limits and past them.
+/// Two sets as below, each with rules that forget tags in about two of five cases.
+pub fn any_pair(random: &mut Random) -> (Automaton, Automaton) {
+    let (first, second) = pair(random);
+    (forgetting_perhaps(random, first), forgetting_perhaps(random, second))
+}
+
+/// Two sets that forget nothing, whose sizes make results of all sizes likely, up to the limits and past them.
 pub fn pair(random: &mut Random) -> (Automaton, Automaton) {
     let (mut first_sizes, mut second_sizes) = (some_sizes(random), some_sizes(random));
     if random.percent(30) {

@@ -41,9 +41,49 @@ fn some_run(random: &mut Random, automaton: &Automaton, document: &Document) -> 
         state.tags = if any_tags { 0 } else { state.tags };
         state.is_final |= any_end;
     }
-    let judgement = judge(&lenient, document, ROOM);
-    let run = judgement.ok().and_then(|judgement| judgement.run);
-    run.unwrap_or_else(|| vec![Step { rule: 0, row: 0, children: Vec::new() }])
+    if random.percent(10) {
+        lenient.rules.iter_mut().for_each(|rule| rule.forgets = u16::MAX);
+    }
+    run_of(&lenient, document).unwrap_or_else(|| vec![Step { rule: 0, row: 0, children: Vec::new() }])
+}
+
+/// A run that a set lets the document in by, if it is found.
+fn run_of(automaton: &Automaton, document: &Document) -> Option<Vec<Step>> {
+    judge(automaton, document, ROOM).ok().and_then(|judgement| judgement.run)
+}
+
+/// Sound steps of runs on some rows, one behind the other and none using another's (25, 26), often with a run of the whole
+/// document behind them or alone. Some are those of a set that is more lenient about tags (24).
+pub fn beside_each_other(random: &mut Random, automaton: &Automaton, document: &Document) -> Vec<u16> {
+    let mut steps = Vec::new();
+    for _ in 0..random.below(4) {
+        steps = behind(&steps, run_on_some_row(random, automaton, document));
+    }
+    if steps.is_empty() || random.percent(60) {
+        steps = behind(&steps, some_run(random, automaton, document));
+    }
+    run_cells(&steps)
+}
+
+/// The steps that lead to some state on some row, none where there are none. They need not end on the last row, nor in a
+/// final state.
+fn run_on_some_row(random: &mut Random, automaton: &Automaton, document: &Document) -> Vec<Step> {
+    let last = random.below(document.rows.len());
+    let end = random.below(automaton.states.len());
+    let mut ending = automaton.clone();
+    for (number, state) in ending.states.iter_mut().enumerate() {
+        state.is_final = number == end;
+    }
+    run_of(&ending, &Document { rows: document.rows[..=last].to_vec() }).unwrap_or_default()
+}
+
+/// Steps, and behind them those of a run, which use none of the first.
+fn behind(first: &[Step], run: Vec<Step>) -> Vec<Step> {
+    let shift = first.len();
+    let shifted = run
+        .into_iter()
+        .map(|step| Step { children: step.children.iter().map(|child| child + shift).collect(), ..step });
+    first.iter().cloned().chain(shifted).collect()
 }
 
 /// The same run with steps repeated instead of shared, up to so many steps. Where the run unfolds to

@@ -3,6 +3,7 @@
 use std::collections::BTreeSet;
 use std::ops::RangeInclusive;
 
+use reference::examples::rule;
 use reference::limits::{MAX_NARROW_TAGS, MAX_RULES, MAX_STATES, MAX_SYMBOLS, MAX_TAGS};
 use reference::{Automaton, Form, Rule, State};
 
@@ -70,14 +71,54 @@ pub fn any_sizes(random: &mut Random) -> Sizes {
     }
 }
 
-/// A sound set.
+/// A sound set that forgets nothing.
 pub fn automaton(random: &mut Random, sizes: &Sizes) -> Automaton {
     let symbols = within(random, &sizes.symbols);
     let arities = arities(random, symbols);
     over_symbols(random, sizes, arities)
 }
 
-/// A sound set with the symbols given.
+/// A sound set whose rules forget tags in about two of five cases.
+pub fn any_automaton(random: &mut Random, sizes: &Sizes) -> Automaton {
+    let automaton = automaton(random, sizes);
+    forgetting_perhaps(random, automaton)
+}
+
+/// A sound set whose rules forget tags. Mostly it has few, so that what is forgotten often decides.
+pub fn forgetful(random: &mut Random) -> Automaton {
+    let few_tags = || Sizes { tags: 1..=2, ..tagged_sizes() };
+    let sizes = random.pick::<fn() -> Sizes>(&[few_tags, few_tags, tagged_sizes, many_tags_sizes])();
+    let mut automaton = automaton(random, &sizes);
+    forget_some(random, &mut automaton);
+    automaton
+}
+
+/// A set as it is, or in about two of five cases with tags to forget.
+pub fn forgetting_perhaps(random: &mut Random, mut automaton: Automaton) -> Automaton {
+    if random.percent(40) {
+        forget_some(random, &mut automaton);
+    }
+    automaton
+}
+
+/// Lets rules forget tags that the set has, where it has any: a few rules, about half of them, or all; one tag or several.
+pub fn forget_some(random: &mut Random, automaton: &mut Automaton) {
+    let tag_count = automaton.tag_count;
+    let forgetful = random.pick(&[10, 50, 100]);
+    for rule in &mut automaton.rules {
+        if tag_count > 0 && random.percent(forgetful) {
+            let mask = if random.percent(70) { 1 << random.below(tag_count) } else { random.word() as u16 };
+            rule.forgets = mask & all_tags(tag_count);
+        }
+    }
+}
+
+/// The mask of all tags below a number.
+fn all_tags(tag_count: usize) -> u16 {
+    ((1u32 << tag_count) - 1) as u16
+}
+
+/// A sound set that forgets nothing with the symbols given.
 pub fn over_symbols(random: &mut Random, sizes: &Sizes, arities: Vec<u8>) -> Automaton {
     let state_count = within(random, &sizes.states);
     let tag_count = within(random, &sizes.tags);
@@ -110,7 +151,7 @@ pub fn of_equal_parts(random: &mut Random) -> Automaton {
     let numbers: Vec<usize> = (0..symbols).collect();
     let over_any = |(symbol, &arity): (usize, &u8)| {
         let children = all_lists(&numbers, usize::from(arity)).into_iter();
-        children.map(move |children| Rule { symbol, children, target: symbol })
+        children.map(move |children| rule(symbol, &children, symbol))
     };
     let rules = arities.iter().enumerate().flat_map(over_any).collect();
     Automaton { arities, states, tag_count, rules }
@@ -126,12 +167,10 @@ pub fn of_choices(tag_count: usize, free: usize) -> Automaton {
     for row in 0..tag_count {
         for target in reached(row) {
             match row.checked_sub(1) {
-                None => rules.push(Rule { symbol: 1, children: Vec::new(), target }),
-                Some(below) => rules.extend(reached(below).into_iter().map(|child| Rule {
-                    symbol: 0,
-                    children: vec![child],
-                    target,
-                })),
+                None => rules.push(rule(1, &[], target)),
+                Some(below) => {
+                    rules.extend(reached(below).into_iter().map(|child| rule(0, &[child], target)));
+                }
             }
         }
     }
@@ -217,7 +256,6 @@ fn arities(random: &mut Random, symbols: usize) -> Vec<u8> {
 }
 
 fn states(random: &mut Random, count: usize, tag_count: usize) -> Vec<State> {
-    let allowed = ((1u32 << tag_count) - 1) as u16;
     let bits = Form::for_tags(tag_count).most_tags();
     let tagged = random.pick(&[10, 30, 80]);
     (0..count)
@@ -225,7 +263,7 @@ fn states(random: &mut Random, count: usize, tag_count: usize) -> Vec<State> {
             let mask = if random.percent(70) { 1 << random.below(bits) } else { random.word() as u16 };
             State {
                 is_final: random.percent(40),
-                tags: if random.percent(tagged) { mask & allowed } else { 0 },
+                tags: if random.percent(tagged) { mask & all_tags(tag_count) } else { 0 },
             }
         })
         .collect()
@@ -245,9 +283,6 @@ fn rules(random: &mut Random, arities: &[u8], states: usize, wanted: usize) -> V
 
 fn any_rule(random: &mut Random, arities: &[u8], states: usize) -> Rule {
     let symbol = random.below(arities.len());
-    Rule {
-        symbol,
-        children: (0..arities[symbol]).map(|_| random.below(states)).collect(),
-        target: random.below(states),
-    }
+    let children: Vec<usize> = (0..arities[symbol]).map(|_| random.below(states)).collect();
+    rule(symbol, &children, random.below(states))
 }

@@ -3,8 +3,10 @@
 use std::fs;
 use std::path::Path;
 
-use reference::limits::{MAX_ROWS, ROW_CELLS};
-use reference::{check_names, check_run, judge_program, read_term, sample_program, write_term};
+use reference::limits::{ANNOTATION_CELLS, MAX_ROOM, MAX_ROWS, ROW_CELLS, STEP_CELLS};
+use reference::{
+    check_names, check_run, judge_program, membership, read_json, read_term, sample_program, write_term,
+};
 
 fn example(name: &str) -> Vec<u8> {
     let path = Path::new(env!("CARGO_MANIFEST_DIR")).join("../../examples").join(name);
@@ -26,6 +28,29 @@ fn the_bad_evening() {
     assert_eq!(judged("export-swapped.term"), b"no\n");
     assert_eq!(sample_program(&example("dead.set")), b"dead\n");
     assert!(sample_program(&example("agreed.set")).starts_with(b"alive 7\n"));
+}
+
+#[test]
+fn lists_of_equal_pairs() {
+    let set = example("pairs.set");
+    let judged = |text: &str| judge_program(&[&set[..], text.as_bytes()].concat());
+    assert_eq!(judged("s1(s0(s3=1,s3=1),s1(s0(s3=2,s3=2),s2))"), b"yes\n");
+    assert_eq!(judged("s1(s0(s3=1,s3=1),s1(s0(s3=2,s3=3),s2))"), b"no\n");
+    assert_eq!(sample_program(&set), b"alive 1\ns2\n");
+}
+
+#[test]
+fn paired_servers() {
+    let judged = |set: &str, export: &str| {
+        let rows = read_json(&example("json/paired.keys"), &example(export), ROW_CELLS * MAX_ROWS);
+        let (set, rows) = (example(set), rows.expect("the export is read").cells());
+        let judgement = membership(&set, &rows, ANNOTATION_CELLS * MAX_ROOM, STEP_CELLS * MAX_ROOM);
+        judgement.expect("there is room").is_yes()
+    };
+    assert!(judged("json/paired.set", "json/paired.json"));
+    assert!(!judged("json/paired.set", "json/paired-mixed.json"));
+    assert!(!judged("json/paired.set", "json/paired-odd.json"));
+    assert!(!judged("json/paired-strict.set", "json/paired.json"));
 }
 
 #[test]

@@ -79,6 +79,8 @@ fn the_judging_program() {
         ("e.set", b"s0(s1=7,s1=7)".to_vec(), "yes\n"),
         ("e.set", b"s0(s1=7,s1=8)".to_vec(), "no\n"),
         ("e.set", b"s0(s1=7,s1".to_vec(), "refused 63 at 10\n"),
+        ("pairs.set", b"s1(s0(s3=1,s3=1),s1(s0(s3=2,s3=2),s2))".to_vec(), "yes\n"),
+        ("pairs.set", b"s1(s0(s3=1,s3=1),s1(s0(s3=2,s3=3),s2))".to_vec(), "no\n"),
         ("dead.set", example("export.term"), "no\n"),
         ("agreed.set", example("export.term"), "yes\n"),
         ("agreed.set", example("export-queue.term"), "no\n"),

@@ -1,36 +1,36 @@
 //! Union and product of two stored sets, refusals 51 to 53 (document 01, "Joining, demanding both, and the sample"). Both
-//! are written in the wide form, whatever the forms of the two sets (document 02, Wish 2).
+//! are written in the wide form (document 02, Wish 2), with rules of 14 bytes if either set has such rules (Wish 9).
 
 use crate::automaton::{Automaton, Rule, State};
 use crate::forms::{write, Form};
 use crate::limits::{MAX_RULES, MAX_STATES, MAX_TAGS};
 use crate::refusal::{refuse_if, Refusal};
-use crate::stored::check_automaton;
+use crate::stored::check_with_form;
 
 /// The bytes of the union, for a result space of so many bytes.
 pub fn union(first: &[u8], second: &[u8], space: usize) -> Result<Vec<u8>, Refusal> {
-    let (first, second) = check_both(first, second)?;
+    let (form, first, second) = check_both(first, second)?;
     let states = first.states.len() + second.states.len();
     let rules = first.rules.len() + second.rules.len();
     refuse_if(result_is_too_large(&first, &second, states, rules), 52)?;
-    write(&united(&first, &second), Form::Wide, space)
+    write(&united(&first, &second), form, space)
 }
 
 /// The bytes of the product, for a result space of so many bytes.
 pub fn product(first: &[u8], second: &[u8], space: usize) -> Result<Vec<u8>, Refusal> {
-    let (first, second) = check_both(first, second)?;
+    let (form, first, second) = check_both(first, second)?;
     let states = first.states.len() * second.states.len();
     let rules = rule_pairs(&first, &second).count();
     refuse_if(result_is_too_large(&first, &second, states, rules), 52)?;
-    write(&multiplied(&first, &second), Form::Wide, space)
+    write(&multiplied(&first, &second), form, space)
 }
 
-/// Both sets, the first checked before the second, with the same symbols.
-fn check_both(first: &[u8], second: &[u8]) -> Result<(Automaton, Automaton), Refusal> {
-    let first = check_automaton(first)?;
-    let second = check_automaton(second)?;
+/// Both sets, the first checked before the second, with the same symbols, and the form of the result.
+fn check_both(first: &[u8], second: &[u8]) -> Result<(Form, Automaton, Automaton), Refusal> {
+    let (first_form, first) = check_with_form(first)?;
+    let (second_form, second) = check_with_form(second)?;
     refuse_if(first.arities != second.arities, 51)?;
-    Ok((first, second))
+    Ok((first_form.max(second_form).max(Form::Wide), first, second))
 }
 
 fn result_is_too_large(first: &Automaton, second: &Automaton, states: usize, rules: usize) -> bool {
@@ -48,6 +48,7 @@ pub fn united(first: &Automaton, second: &Automaton) -> Automaton {
         symbol: rule.symbol,
         children: rule.children.iter().map(|child| child + shift).collect(),
         target: rule.target + shift,
+        forgets: shifted(rule.forgets, first.tag_count),
     });
     let mut rules: Vec<Rule> = first.rules.iter().cloned().chain(shifted_rules).collect();
     rules.sort();
@@ -59,7 +60,7 @@ pub fn united(first: &Automaton, second: &Automaton) -> Automaton {
     }
 }
 
-/// All pairs of states and all pairs of rules with the same symbol.
+/// All pairs of states and all pairs of rules with the same symbol; such a pair forgets what either of the two forgets.
 pub fn multiplied(first: &Automaton, second: &Automaton) -> Automaton {
     let pair = |p: usize, q: usize| p * second.states.len() + q;
     let mut states = Vec::new();
@@ -76,6 +77,7 @@ pub fn multiplied(first: &Automaton, second: &Automaton) -> Automaton {
             symbol: one.symbol,
             children: one.children.iter().zip(&other.children).map(|(&p, &q)| pair(p, q)).collect(),
             target: pair(one.target, other.target),
+            forgets: one.forgets | shifted(other.forgets, first.tag_count),
         })
         .collect();
     rules.sort();

@@ -1,24 +1,29 @@
-//! The two forms of a stored set, which differ in how wide its states are, and the moves from one to the other
-//! (document 02, Wish 2), refusals 18, 8 and 53.
+//! The three forms of a stored set, which differ in how wide its states and its rules are (document 02, Wishes 2 and 9),
+//! and the moves between the first two, refusals 18, 8 and 53.
 
 use crate::automaton::Automaton;
-use crate::limits::{HEADER_BYTES, MAX_NARROW_TAGS, MAX_TAGS, NARROW_TAG_BYTES, RULE_BYTES, WIDE_TAG_BYTES};
+use crate::limits::{
+    FORGETS_BYTES, HEADER_BYTES, MAX_NARROW_TAGS, MAX_TAGS, NARROW_TAG_BYTES, RULE_BYTES, WIDE_TAG_BYTES,
+};
 use crate::refusal::{refuse_if, Refusal};
 use crate::stored::check_with_form;
 
-/// How a set stores the tags of a state.
-#[derive(Clone, Copy, Debug, PartialEq, Eq)]
+/// How a set stores the tags of a state and those that a rule forgets. Each form holds what the forms before it hold.
+#[derive(Clone, Copy, Debug, PartialEq, Eq, PartialOrd, Ord)]
 pub enum Form {
-    /// In one byte, as document 01 has it.
+    /// A state's tags in one byte, as document 01 has it.
     Narrow,
-    /// In two bytes, the lower one first.
+    /// A state's tags in two bytes, the lower one first.
     Wide,
+    /// The wide form with rules of 14 bytes, the last two the tags to forget. A set without rules is not told from a wide
+    /// one, and counts as that.
+    Isolating,
 }
 
 impl Form {
-    pub const BOTH: [Form; 2] = [Form::Narrow, Form::Wide];
+    pub const ALL: [Form; 3] = [Form::Narrow, Form::Wide, Form::Isolating];
 
-    /// The narrower form that has a bit for each of so many tags.
+    /// The shortest form that has a bit for each of so many tags, where nothing is forgotten.
     pub fn for_tags(tags: usize) -> Form {
         if tags <= Form::Narrow.most_tags() {
             Form::Narrow
@@ -27,16 +32,16 @@ impl Form {
         }
     }
 
-    /// The form that the distance from the states' offset to the rules' tells, for so many states.
-    pub fn told_by(distance: usize, states: usize) -> Option<Form> {
-        Form::BOTH.into_iter().find(|form| distance == form.state_bytes() * states)
+    /// The forms that hold a set of so many tags that forgets nothing.
+    pub fn that_hold(tags: usize) -> impl Iterator<Item = Form> {
+        Form::ALL.into_iter().filter(move |form| tags <= form.most_tags())
     }
 
     /// Bytes of a state's tags.
     pub fn tag_bytes(self) -> usize {
         match self {
             Form::Narrow => NARROW_TAG_BYTES,
-            Form::Wide => WIDE_TAG_BYTES,
+            Form::Wide | Form::Isolating => WIDE_TAG_BYTES,
         }
     }
 
@@ -45,11 +50,24 @@ impl Form {
         1 + self.tag_bytes()
     }
 
+    /// Bytes of a rule's tags to forget.
+    pub fn forgets_bytes(self) -> usize {
+        match self {
+            Form::Narrow | Form::Wide => 0,
+            Form::Isolating => FORGETS_BYTES,
+        }
+    }
+
+    /// Bytes of a rule: symbol, target and child places, then the tags to forget.
+    pub fn rule_bytes(self) -> usize {
+        RULE_BYTES + self.forgets_bytes()
+    }
+
     /// Most tags of a set in this form.
     pub fn most_tags(self) -> usize {
         match self {
             Form::Narrow => MAX_NARROW_TAGS,
-            Form::Wide => MAX_TAGS,
+            Form::Wide | Form::Isolating => MAX_TAGS,
         }
     }
 
@@ -68,9 +86,9 @@ impl Form {
         self.states_offset(symbols) + self.state_bytes() * states
     }
 
-    /// The total length: 12R past the rules' offset.
+    /// The total length: 12R or 14R past the rules' offset.
     pub fn total(self, symbols: usize, states: usize, rules: usize) -> usize {
-        self.rules_offset(symbols, states) + RULE_BYTES * rules
+        self.rules_offset(symbols, states) + self.rule_bytes() * rules
     }
 }
 
@@ -82,7 +100,7 @@ pub fn widen_states(set: &[u8], space: usize) -> Result<Vec<u8>, Refusal> {
 }
 
 /// The bytes of a wide set in the narrow form, for a result space of so many bytes. What counts is how many tags the set
-/// has, not which of them a state carries.
+/// has, not which of them a state carries; and that its rules have 12 bytes, not whether they would forget anything.
 pub fn narrow_states(set: &[u8], space: usize) -> Result<Vec<u8>, Refusal> {
     let (form, automaton) = check_with_form(set)?;
     refuse_if(form != Form::Wide, 18)?;

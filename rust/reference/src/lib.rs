@@ -21,6 +21,7 @@ pub mod json_tokens;
 pub mod json_tree;
 pub mod limits;
 pub mod membership;
+pub mod memory;
 pub mod names;
 pub mod programs;
 pub mod refusal;

@@ -46,8 +46,10 @@ pub const HEADER_BYTES: usize = 16;
 pub const NARROW_TAG_BYTES: usize = 1;
 /// Bytes of a stored state's tags in the wide form (document 02, Wish 2).
 pub const WIDE_TAG_BYTES: usize = 2;
-/// Bytes of a stored rule: six 16-bit numbers.
+/// Bytes of a stored rule without tags to forget: six 16-bit numbers.
 pub const RULE_BYTES: usize = 12;
+/// Bytes of a stored rule's tags to forget, behind its six numbers (document 02, Wish 9).
+pub const FORGETS_BYTES: usize = 2;
 
 /// 16-bit cells of a row: symbol, four child places, kind, four cells of payload.
 pub const ROW_CELLS: usize = 10;

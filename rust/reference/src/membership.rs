@@ -1,18 +1,14 @@
-//! Judging (document 01, "Runs"): all annotations from the bottom up, the decision, refusals 32 and 31.
+//! Judging (document 01, "Runs", and document 02, Wish 9): all annotations from the bottom up, the decision, refusals 32
+//! and 31.
 
 use std::collections::{BTreeMap, HashSet};
 
 use crate::automaton::{Automaton, Rule};
 use crate::document::{check_document, Document};
-use crate::limits::{ANNOTATION_CELLS, MAX_ROOM, MAX_TAGS, STEP_CELLS};
+use crate::limits::{ANNOTATION_CELLS, MAX_ROOM, STEP_CELLS};
+use crate::memory::{after_rule, join, Memory, EMPTY_MEMORY};
 use crate::refusal::{refuse_if, Refusal};
 use crate::run::Step;
-
-/// A memory: the row that each tag has been given, if any.
-pub type Memory = [Option<usize>; MAX_TAGS];
-
-/// A memory in which no tag has a row.
-pub const EMPTY_MEMORY: Memory = [None; MAX_TAGS];
 
 /// A row, a state and a memory; it says that the row's tree has a run in that state that leaves that memory.
 #[derive(Clone, Debug, PartialEq, Eq, Hash, PartialOrd, Ord)]
@@ -102,7 +98,7 @@ impl<'a> Annotations<'a> {
             return;
         }
         for (joined, children) in self.joined_memories(row, rule) {
-            if let Some(memory) = self.finish(joined, rule.target, row) {
+            if let Some(memory) = after_rule(self.automaton, rule, row, &joined) {
                 let annotation = Annotation { row, state: rule.target, memory };
                 self.add(Derived { annotation, rule: rule_number, children });
             }
@@ -129,15 +125,6 @@ impl<'a> Annotations<'a> {
             joined = longer;
         }
         joined
-    }
-
-    /// A joined memory with each tag of the target going to this row, unless a tag gets two rows.
-    fn finish(&self, joined: Memory, target: usize, row: usize) -> Option<Memory> {
-        let mut own = EMPTY_MEMORY;
-        for tag in self.automaton.tags_of(target) {
-            own[tag] = Some(row);
-        }
-        join(&joined, &own)
     }
 
     fn add(&mut self, derived: Derived) {
@@ -179,19 +166,6 @@ impl<'a> Annotations<'a> {
         }
         run
     }
-}
-
-/// Two memories as one, unless a tag gets two rows.
-fn join(first: &Memory, second: &Memory) -> Option<Memory> {
-    let mut both = *first;
-    for (place, &row) in both.iter_mut().zip(second) {
-        match (*place, row) {
-            (Some(one), Some(other)) if one != other => return None,
-            (None, Some(_)) => *place = row,
-            _ => {}
-        }
-    }
-    Some(both)
 }
 
 /// All distinct annotations, for tests that hold them against another way of finding them.

@@ -1,8 +1,9 @@
-//! Written runs (document 01, "Runs"): the check, refusals 21 to 26, and the lent cells.
+//! Written runs (document 01, "Runs", and document 02, Wish 9): the check, refusals 21 to 26, and the lent cells.
 
 use crate::automaton::{Automaton, Rule};
 use crate::document::{check_document, Document};
-use crate::limits::{MAX_CHILDREN, MAX_STEPS, MAX_TAGS, STEP_CELLS, UNUSED};
+use crate::limits::{MAX_CHILDREN, MAX_STEPS, STEP_CELLS, UNUSED};
+use crate::memory::{after_rule, join_all, Memory};
 use crate::refusal::{refuse_if, Refusal};
 
 /// A step of a written run: a rule used on a row, on top of one lower step for each child.
@@ -43,7 +44,7 @@ pub fn check_steps(automaton: &Automaton, document: &Document, cells: &[u16]) ->
     let run = Run { automaton, document, steps: read_steps(cells) };
     refuse_if(run.names_unknown_rule_or_row(), 22)?;
     refuse_if(run.a_step_does_not_fit(), 23)?;
-    refuse_if(run.a_tag_has_two_rows(), 24)?;
+    refuse_if(run.memories().is_none(), 24)?;
     refuse_if(run.ends_wrongly(), 25)?;
     refuse_if(run.has_unused_step(), 26)
 }
@@ -114,17 +115,16 @@ impl Run<'_> {
             && self.rule(below).target == self.rule(step).children[child]
     }
 
-    /// Whether some tag is carried on two different rows, over all steps, used or not.
-    fn a_tag_has_two_rows(&self) -> bool {
-        let mut row_of_tag = [None; MAX_TAGS];
+    /// The memory of each step, from those of its child steps; nothing where a tag gets two rows in some step, whether or
+    /// not that step is used later.
+    fn memories(&self) -> Option<Vec<Memory>> {
+        let mut memories: Vec<Memory> = Vec::with_capacity(self.steps.len());
         for step in &self.steps {
-            for tag in self.automaton.tags_of(self.rule(step).target) {
-                if *row_of_tag[tag].get_or_insert(step.row) != step.row {
-                    return true;
-                }
-            }
+            let below = step.places.iter().filter(|&&place| place != UNUSED);
+            let joined = join_all(below.map(|&place| &memories[usize::from(place)]))?;
+            memories.push(after_rule(self.automaton, self.rule(step), step.row, &joined)?);
         }
-        false
+        Some(memories)
     }
 
     fn ends_wrongly(&self) -> bool {

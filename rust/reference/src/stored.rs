@@ -1,5 +1,5 @@
-//! The check of a stored set in either form, refusals 1 to 7, and its decoding (document 01, "Sets", and document 02,
-//! Wish 2).
+//! The check of a stored set in any form, refusals 1 to 7 and 9, and its decoding (document 01, "Sets", and document 02,
+//! Wishes 2 and 9).
 
 use crate::automaton::{Automaton, Rule, State};
 use crate::forms::Form;
@@ -18,13 +18,13 @@ pub fn check_with_form(set: &[u8]) -> Result<(Form, Automaton), Refusal> {
     refuse_if(set.len() < HEADER_BYTES, 1)?;
     let header = Header::read(set);
     refuse_if(header.a_count_is_out_of_range(), 2)?;
-    let form = header.form().ok_or(Refusal::plain(3))?;
-    refuse_if(header.differs_from(form, set.len()), 3)?;
+    let form = header.form(set.len()).ok_or(Refusal::plain(3))?;
     let parts = Parts::cut(set, &header, form);
     refuse_if(parts.a_symbol_has_too_many_children(), 4)?;
     refuse_if(parts.a_state_is_wrong(header.tags), 5)?;
     refuse_if(parts.a_rule_is_wrong(), 6)?;
     refuse_if(!parts.rules_ascend_strictly(), 7)?;
+    refuse_if(parts.a_forgotten_tag_is_unknown(header.tags), 9)?;
     Ok((form, parts.decode(header.tags)))
 }
 
@@ -62,20 +62,21 @@ impl Header {
             || self.rules > MAX_RULES
     }
 
-    /// The form, by how far the rules are from the states; none where that is neither 2Q nor 3Q.
-    fn form(&self) -> Option<Form> {
-        Form::told_by(self.rules_offset.checked_sub(self.states_offset)?, self.states)
+    /// The form whose formulas offsets and lengths follow, if there is one: 2Q or 3Q tells how wide states are, and the
+    /// total how wide rules are. Without rules the latter do not differ, and the first such form counts.
+    fn form(&self, lent_length: usize) -> Option<Form> {
+        Form::ALL.into_iter().find(|&form| self.follows(form, lent_length))
     }
 
-    /// Whether an offset or a length is not the form's, or the form has no bits for so many tags.
-    fn differs_from(&self, form: Form, lent_length: usize) -> bool {
+    /// Whether every offset and length is the form's, and the form has bits for so many tags.
+    fn follows(&self, form: Form, lent_length: usize) -> bool {
         let total = form.total(self.symbols, self.states, self.rules);
-        self.symbols_offset != form.symbols_offset()
-            || self.states_offset != form.states_offset(self.symbols)
-            || self.rules_offset != form.rules_offset(self.symbols, self.states)
-            || self.total != total
-            || lent_length != total
-            || self.tags > form.most_tags()
+        self.symbols_offset == form.symbols_offset()
+            && self.states_offset == form.states_offset(self.symbols)
+            && self.rules_offset == form.rules_offset(self.symbols, self.states)
+            && self.total == total
+            && lent_length == total
+            && self.tags <= form.most_tags()
     }
 }
 
@@ -95,6 +96,7 @@ struct StoredRule {
     symbol: u16,
     target: u16,
     children: [u16; MAX_CHILDREN],
+    forgets: u16,
 }
 
 impl Parts {
@@ -106,7 +108,7 @@ impl Parts {
         Parts {
             arities: symbols.to_vec(),
             states: states.chunks_exact(form.state_bytes()).map(StoredState::read).collect(),
-            rules: rules.chunks_exact(RULE_BYTES).map(StoredRule::read).collect(),
+            rules: rules.chunks_exact(form.rule_bytes()).map(StoredRule::read).collect(),
         }
     }
 
@@ -115,8 +117,7 @@ impl Parts {
     }
 
     fn a_state_is_wrong(&self, tags: usize) -> bool {
-        let beyond = 1u32 << tags;
-        self.states.iter().any(|state| state.is_final > 1 || u32::from(state.tags) >= beyond)
+        self.states.iter().any(|state| state.is_final > 1 || has_tag_past(state.tags, tags))
     }
 
     fn a_rule_is_wrong(&self) -> bool {
@@ -142,6 +143,10 @@ impl Parts {
         self.rules.windows(2).all(|pair| pair[0].sort_key() < pair[1].sort_key())
     }
 
+    fn a_forgotten_tag_is_unknown(&self, tags: usize) -> bool {
+        self.rules.iter().any(|rule| has_tag_past(rule.forgets, tags))
+    }
+
     fn decode(&self, tag_count: usize) -> Automaton {
         Automaton {
             arities: self.arities.clone(),
@@ -158,8 +163,14 @@ impl Parts {
             symbol,
             children: rule.children[..arity].iter().map(|&child| usize::from(child)).collect(),
             target: usize::from(rule.target),
+            forgets: rule.forgets,
         }
     }
+}
+
+/// Whether a mask has the bit of a tag at or above T.
+fn has_tag_past(mask: u16, tags: usize) -> bool {
+    u32::from(mask) >= 1 << tags
 }
 
 impl StoredState {
@@ -175,16 +186,18 @@ impl StoredState {
 }
 
 impl StoredRule {
+    /// Six numbers, and the tags to forget where the form has them.
     fn read(bytes: &[u8]) -> StoredRule {
         let number = |index: usize| number_at(bytes, 2 * index);
         StoredRule {
             symbol: number(0),
             target: number(1),
             children: [number(2), number(3), number(4), number(5)],
+            forgets: if bytes.len() > RULE_BYTES { number_at(bytes, RULE_BYTES) } else { 0 },
         }
     }
 
-    /// Rules ascend by symbol, then child places left to right, then target.
+    /// Rules ascend by symbol, then child places left to right, then target. The tags to forget do not count.
     fn sort_key(&self) -> (u16, [u16; MAX_CHILDREN], u16) {
         (self.symbol, self.children, self.target)
     }

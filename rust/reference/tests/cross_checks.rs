@@ -1,8 +1,8 @@
 //! Random sets and documents, judged in two unlike ways that must agree.
 
 use generate::sets::{
-    layered, layered_over_symbols, many_tags_sizes, over_symbols, separate_tags, small_sizes, tiny_sizes,
-    Sizes,
+    any_automaton, forget_some, forgetting_perhaps, layered, layered_over_symbols, many_tags_sizes,
+    over_symbols, separate_tags, small_sizes, tiny_sizes, Sizes,
 };
 use generate::{documents, runs, trees, Random};
 use reference::boolean::{multiplied, united};
@@ -14,11 +14,12 @@ use reference::{check_automaton, witness, Automaton, Document};
 /// Most labellings that a test tries on one tree.
 const MOST_LABELLINGS: usize = 20_000;
 
-/// A tiny set, with many tags in one of four cases, and a document small enough for every labelling to be tried.
+/// A tiny set, with many tags in one of four cases and often with tags to forget, and a document small enough for every
+/// labelling to be tried.
 fn small_case(seed: u64) -> Option<(Automaton, Document)> {
     let random = &mut Random::new(seed);
     let tags = if random.percent(25) { many_tags_sizes().tags } else { tiny_sizes().tags };
-    let automaton = generate::sets::automaton(random, &Sizes { tags, ..tiny_sizes() });
+    let automaton = any_automaton(random, &Sizes { tags, ..tiny_sizes() });
     let document = documents::document(random, &automaton, 6)?;
     can_be_tried(&automaton, &document).then_some((automaton, document))
 }
@@ -65,6 +66,34 @@ fn tags_decide_many_of_the_cases_tried() {
     assert!(turned_down_by_tags > 30, "only {turned_down_by_tags} cases");
 }
 
+/// A tiny set in which most rules forget tags, and a document grown along them.
+fn forgetting_case(seed: u64) -> Option<(Automaton, Document)> {
+    let random = &mut Random::new(seed);
+    let sizes = Sizes { symbols: 2..=4, tags: 1..=2, rules: 4..=14, ..tiny_sizes() };
+    let mut automaton = generate::sets::automaton(random, &sizes);
+    forget_some(random, &mut automaton);
+    let document = documents::grown(random, &automaton, 8)?;
+    can_be_tried(&automaton, &document).then_some((automaton, document))
+}
+
+#[test]
+fn forgetting_agrees_with_all_labellings_and_lets_in_more() {
+    let (mut by_forgetting, mut turned_down) = (0, 0);
+    for (automaton, document) in (0..60_000).filter_map(forgetting_case) {
+        let expected = lets_in(&automaton, &Tree::of_row(&document, document.last()));
+        assert_eq!(says_yes(&automaton, &document), expected, "{automaton:?} {document:?}");
+        let found = all_annotations(&automaton, &document);
+        assert_eq!(found, brute_force::annotations(&automaton, &document), "{automaton:?} {document:?}");
+        let mut remembering = automaton.clone();
+        remembering.rules.iter_mut().for_each(|rule| rule.forgets = 0);
+        let without = says_yes(&remembering, &document);
+        assert!(expected || !without, "what is forgotten turns nothing away: {automaton:?} {document:?}");
+        by_forgetting += usize::from(expected && !without);
+        turned_down += usize::from(!expected);
+    }
+    assert!(by_forgetting > 100 && turned_down > 100, "{by_forgetting} let in, {turned_down} turned down");
+}
+
 #[test]
 fn the_room_is_exactly_the_number_of_annotations() {
     for (automaton, document) in (0..2000).filter_map(small_case) {
@@ -83,7 +112,7 @@ fn a_run_handed_back_passes_the_check_and_is_no_longer_than_the_annotations() {
     for seed in 0..4000 {
         let random = &mut Random::new(seed);
         let sizes = random.pick(&[small_sizes, small_sizes, many_tags_sizes])();
-        let automaton = generate::sets::automaton(random, &sizes);
+        let automaton = any_automaton(random, &sizes);
         let Some(document) = documents::document(random, &automaton, 20) else { continue };
         let Ok(judgement) = judge(&automaton, &document, 2000) else { continue };
         if let Some(run) = judgement.run {
@@ -120,8 +149,9 @@ fn union_and_product_mean_either_and_both() {
         let random = &mut Random::new(seed);
         let tags = random.pick(&[2, 2, 8]);
         let sizes = Sizes { states: 1..=2, tags: 0..=tags, ..tiny_sizes() };
-        let first = generate::sets::automaton(random, &sizes);
+        let first = any_automaton(random, &sizes);
         let second = over_symbols(random, &sizes, first.arities.clone());
+        let second = forgetting_perhaps(random, second);
         let Some(document) = documents::document(random, &first, 5) else { continue };
         let (either, both) = (united(&first, &second), multiplied(&first, &second));
         if !can_be_tried(&either, &document) {
@@ -159,6 +189,7 @@ fn no_tree_let_in_is_lower_than_the_sample() {
                 automaton = over_symbols(random, &sizes, arities.clone());
                 separate_tags(&mut automaton);
             }
+            let automaton = forgetting_perhaps(random, automaton);
             let lowest = lowest_tree_let_in(&automaton, &trees);
             match witness(&automaton.encode(), 1000).expect("no state shares a tag") {
                 None => {
@@ -181,7 +212,9 @@ fn no_tree_let_in_is_lower_than_the_sample() {
 fn a_sample_is_a_sound_table_in_first_finishing_order() {
     let mut with_shared_rows = 0;
     for seed in 0..3000 {
-        let automaton = layered(&mut Random::new(seed), &small_sizes());
+        let random = &mut Random::new(seed);
+        let automaton = layered(random, &small_sizes());
+        let automaton = forgetting_perhaps(random, automaton);
         let set = automaton.encode();
         let Some(sample) = witness(&set, 1000).expect("no state shares a tag") else { continue };
         assert!(reference::check_document(&set, &sample.cells()).is_ok());

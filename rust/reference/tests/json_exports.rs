@@ -21,7 +21,12 @@ fn read(keys: &str, export: &[u8]) -> Result<Document, Refusal> {
 
 /// Whether the set of that name lets an export in.
 fn is_let_in(set: &str, export: &[u8]) -> bool {
-    let rows = read(set, export).expect("the export is read").cells();
+    is_let_in_with_keys(set, set, export)
+}
+
+/// The same where the list of keys has a name of its own.
+fn is_let_in_with_keys(set: &str, keys: &str, export: &[u8]) -> bool {
+    let rows = read(keys, export).expect("the export is read").cells();
     let (work, run) = (ANNOTATION_CELLS * MAX_ROOM, STEP_CELLS * MAX_ROOM);
     membership(&file(&format!("{set}.set")), &rows, work, run).expect("there is room").is_yes()
 }
@@ -87,6 +92,35 @@ fn a_server_of_another_pool_is_turned_away() {
     let export = String::from_utf8(file("evening.json")).expect("exports are UTF-8");
     let last = export.rfind("\"web\"").expect("the last server has a pool");
     assert!(!is_let_in("evening", [&export[..last], "\"dns\"", &export[last + 5..]].concat().as_bytes()));
+}
+
+#[test]
+fn paired_servers() {
+    let judged = |export: &str| is_let_in("paired", &file(export));
+    assert!(judged("paired.json"));
+    assert!(!judged("paired-mixed.json"), "the last pair has two cluster names");
+    assert!(!judged("paired-odd.json"), "the last server has no other");
+    assert!(!is_let_in_with_keys("paired-strict", "paired", &file("paired.json")), "nothing is forgotten");
+    let one_cluster = ["cluster-2", "cluster-3", "cluster-4"]
+        .iter()
+        .fold(String::from_utf8(file("paired.json")).expect("exports are UTF-8"), |text, name| {
+            text.replace(name, "cluster-1")
+        });
+    assert!(is_let_in("paired", one_cluster.as_bytes()));
+    assert!(is_let_in_with_keys("paired-strict", "paired", one_cluster.as_bytes()));
+}
+
+#[test]
+fn each_pair_of_servers_has_one_cluster_and_pairs_may_share_theirs() {
+    let judged = |from: &str, to: &str| is_let_in("paired", &changed("paired.json", from, to));
+    assert!(judged("cluster-3", "cluster-1"));
+    assert!(judged("\n", " "));
+    assert!(!judged(
+        "\"name\": \"web03\",\n         \"cluster\": \"cluster-2\"",
+        "\"name\": \"web03\", \"cluster\": \"x\""
+    ));
+    assert!(!judged("\"weight\": 20", "\"weight\": \"20\""));
+    assert!(!judged("\"cluster\": \"cluster-1\",", ""));
 }
 
 #[test]

@@ -9,7 +9,7 @@ use reference::limits::{ROW_CELLS, STEP_CELLS, UNUSED};
 use reference::run::run_cells;
 use reference::{
     check_automaton, check_document, check_names, check_run, judge_program, membership, product, read_term,
-    union, witness, write_term, Automaton, Refusal, Scalar, Step, MINUS_ZERO,
+    union, witness, write_term, Automaton, Form, Refusal, Scalar, Step, MINUS_ZERO,
 };
 
 /// The number that set E is refused with after some of its bytes are changed.
@@ -76,6 +76,18 @@ fn rules_not_strictly_ascending_are_7() {
     assert_eq!(set_number(&[(47, 1)]), Some(7), "the last rule becomes the one before it");
     assert_eq!(set_number(&[(35, 2), (47, 1)]), Some(7), "the last two change places");
     assert_eq!(set_number(&[(47, 1), (49, 1)]), None, "a higher target ascends");
+}
+
+#[test]
+fn a_forgotten_tag_at_or_above_t_is_9() {
+    let number = |forgets| {
+        let mut set = set_e();
+        set.rules[2].forgets = forgets;
+        check_automaton(&set.encode_in(Form::Isolating)).err().map(|refusal| refusal.number)
+    };
+    assert_eq!(number(1), None);
+    assert_eq!(number(2), Some(9));
+    assert_eq!(number(0x8001), Some(9));
 }
 
 /// The number that the table of pair(a=1,pair(a=1,a=2)) is refused with after some cells are changed.
@@ -244,7 +256,8 @@ fn a_tag_with_two_rows_is_24() {
     let run = [leaf(1, 0), leaf(2, 1), Step { rule: 0, row: 2, children: vec![0, 1] }];
     assert_eq!(check_run(&set_e().encode(), &rows, &run_cells(&run)), Err(Refusal::plain(24)));
     let unfinished = run_cells(&run[..2]);
-    assert_eq!(check_run(&set_e().encode(), &rows, &unfinished), Err(Refusal::plain(24)));
+    let answer = check_run(&set_e().encode(), &rows, &unfinished);
+    assert_eq!(answer, Err(Refusal::plain(25)), "no step sees the two together");
 }
 
 #[test]

@@ -1,6 +1,6 @@
 //! Writing and reading back: stored sets, rows and texts.
 
-use generate::sets::{any_sizes, automaton, small_sizes, tagged_sizes};
+use generate::sets::{any_automaton, any_sizes, automaton, small_sizes, tagged_sizes};
 use generate::{documents, lists, set_bytes, texts, Random};
 use reference::limits::{MAX_ROWS, ROW_CELLS};
 use reference::stored::check_with_form;
@@ -12,25 +12,28 @@ fn a_stored_set_decodes_to_what_was_encoded() {
     for seed in 0..2000 {
         let random = &mut Random::new(seed);
         let sizes = any_sizes(random);
-        let automaton = automaton(random, &sizes);
+        let automaton = any_automaton(random, &sizes);
         assert_eq!(check_automaton(&automaton.encode()), Ok(automaton.clone()));
-        assert_eq!(check_automaton(&automaton.encode_in(Form::Wide)), Ok(automaton));
+        for form in Form::ALL.into_iter().filter(|&form| form >= automaton.shortest_form()) {
+            assert_eq!(check_automaton(&automaton.encode_in(form)), Ok(automaton.clone()), "{form:?}");
+        }
     }
 }
 
 #[test]
-fn seeded_sets_have_either_form_and_the_narrow_one_mostly() {
-    let wide = (0..2000).filter(|&seed| {
+fn seeded_sets_have_all_forms_and_the_narrow_one_mostly() {
+    let mut seen = [0; 3];
+    for seed in 0..2000 {
         let random = &mut Random::new(seed);
         let sizes = any_sizes(random);
-        let automaton = automaton(random, &sizes);
+        let automaton = any_automaton(random, &sizes);
         let (form, decoded) =
             check_with_form(&set_bytes::stored(random, &automaton, 0)).expect("a sound set");
         assert_eq!(decoded, automaton);
-        form == Form::Wide
-    });
-    let wide = wide.count();
-    assert!((600..1000).contains(&wide), "{wide} of 2,000 sets are wide");
+        seen[form as usize] += 1;
+    }
+    let [narrow, wide, isolating] = seen;
+    assert!(narrow > 700 && wide > 350 && isolating > 500, "{seen:?}");
 }
 
 #[test]

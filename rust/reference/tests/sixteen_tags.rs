@@ -16,6 +16,9 @@ use reference::{
     Step,
 };
 
+/// The two forms whose rules have 12 bytes.
+const SHORT_RULES: [Form; 2] = [Form::Narrow, Form::Wide];
+
 /// Union or product: two sets and the length of the result space.
 type Join = fn(&[u8], &[u8], usize) -> Result<Vec<u8>, Refusal>;
 
@@ -64,7 +67,7 @@ fn a_tag_past_the_eighth_stands_in_the_second_byte() {
 }
 
 #[test]
-fn the_longest_set_has_13136_bytes() {
+fn the_longest_set_with_rules_of_12_bytes_has_13136_bytes() {
     assert_eq!(Form::Wide.total(MAX_SYMBOLS, MAX_STATES, MAX_RULES), 13_136);
     assert_eq!(Form::Narrow.total(MAX_SYMBOLS, MAX_STATES, MAX_RULES), 12_880);
 }
@@ -142,10 +145,10 @@ fn with_lengths(set: &Automaton, form: Form, rules_offset: usize, total: usize) 
 
 #[test]
 fn the_distance_tells_the_form_and_total_and_length_must_follow() {
-    for form in Form::BOTH {
+    for form in Form::ALL {
         let length = set_e().encode_in(form).len();
         for rules_offset in 0..=80 {
-            for total in [59, 60, 61, 62] {
+            for total in 58..=68 {
                 let bytes = with_lengths(&set_e(), form, rules_offset, total);
                 let is_sound = total == length && rules_offset == form.rules_offset(3, 2);
                 let expected = if is_sound { None } else { Some(3) };
@@ -286,7 +289,7 @@ fn union_and_product_are_wide_and_the_same_bytes_whatever_the_forms_of_the_two_s
             set.tag_count = set.tag_count.min(8);
             set.states.iter_mut().for_each(|state| state.tags &= 0xff);
         }
-        let forms = Form::BOTH.into_iter().flat_map(|one| Form::BOTH.map(|other| (one, other)));
+        let forms = SHORT_RULES.into_iter().flat_map(|one| SHORT_RULES.map(|other| (one, other)));
         let answers = forms.map(|(one, other)| {
             let (first, second) = (first.encode_in(one), second.encode_in(other));
             (union(&first, &second, 20_000), product(&first, &second, 20_000))
@@ -391,7 +394,7 @@ fn the_order_of_a_moves_numbers() {
 
 #[test]
 fn a_set_that_is_refused_has_the_same_number_for_both_moves() {
-    let mut refused = [0; 8];
+    let mut refused = [0; 10];
     for seed in 0..6000 {
         let random = &mut Random::new(seed);
         let sizes = any_sizes(random);
@@ -403,7 +406,8 @@ fn a_set_that_is_refused_has_the_same_number_for_both_moves() {
             refused[usize::from(refusal.number)] += 1;
         }
     }
-    assert!(refused[1..].iter().all(|&count| count > 50), "{refused:?}");
+    let of_a_set = [1, 2, 3, 4, 5, 6, 7, 9];
+    assert!(of_a_set.iter().all(|&number| refused[number] > 50), "{refused:?}");
 }
 
 // What else takes a set takes it in either form, with the same answer.

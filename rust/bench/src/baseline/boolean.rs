@@ -14,6 +14,7 @@ pub fn union(first: &[u8], second: &[u8], space: usize) -> Result<Vec<u8>, u8> {
         symbol: rule.symbol,
         children: rule.children.map(|child| if child == UNUSED { UNUSED } else { child + by }),
         target: rule.target + by,
+        forgets: moved(rule.forgets, &first),
     };
     let states = first.states.iter().copied().chain(second.states.iter().map(moved_state)).collect();
     let rules = first.rules.iter().copied().chain(second.rules.iter().map(moved_rule)).collect();
@@ -42,6 +43,7 @@ pub fn product(first: &[u8], second: &[u8], space: usize) -> Result<Vec<u8>, u8>
             symbol: one.symbol,
             children: std::array::from_fn(|place| pair(one.children[place], other.children[place])),
             target: pair(one.target, other.target),
+            forgets: one.forgets | moved(other.forgets, &first),
         }));
     }
     written(first, second, states, rules, space)
@@ -90,7 +92,8 @@ fn written(
     space: usize,
 ) -> Result<Vec<u8>, u8> {
     rules.sort_unstable();
-    let result = Set { arities: first.arities, states, tags: first.tags + second.tags, rules };
+    let rule_bytes = first.rule_bytes.max(second.rule_bytes);
+    let result = Set { arities: first.arities, states, tags: first.tags + second.tags, rules, rule_bytes };
     if result.stored_length() > space {
         return Err(53);
     }

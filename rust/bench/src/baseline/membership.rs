@@ -90,9 +90,9 @@ impl<'a, const TAGS: usize> Engine<'a, TAGS> {
         chosen: &mut [u16; 4],
     ) -> Result<(), u8> {
         let (set, rows) = (self.set, self.rows);
-        let Rule { children: states, target, .. } = &set.rules[usize::from(rule)];
+        let states = &set.rules[usize::from(rule)].children;
         let Some(&child) = rows[usize::from(row)].used().get(place) else {
-            return self.finish(row, rule, *target, memory, *chosen);
+            return self.finish(row, rule, memory, *chosen);
         };
         for number in self.on_row[usize::from(child)].clone() {
             let below = &self.annotations[number];
@@ -107,16 +107,19 @@ impl<'a, const TAGS: usize> Engine<'a, TAGS> {
         Ok(())
     }
 
-    /// Adds the target's tags to the joined memory, and the annotation where it is new.
+    /// Drops what the rule forgets from the joined memory and adds the target's tags, and the annotation where it is new.
     fn finish(
         &mut self,
         row: u16,
         rule: u16,
-        state: u16,
-        joined: Memory<TAGS>,
+        mut joined: Memory<TAGS>,
         children: [u16; 4],
     ) -> Result<(), u8> {
+        let Rule { target: state, forgets, .. } = self.set.rules[usize::from(rule)];
         let tags = self.set.states[usize::from(state)].tags;
+        if forgets != 0 {
+            forget(&mut joined, forgets);
+        }
         let own = std::array::from_fn(|tag| if tags >> tag & 1 == 1 { row } else { UNUSED });
         let Some(memory) = join(&joined, &own) else {
             return Ok(());
@@ -142,6 +145,13 @@ fn join<const TAGS: usize>(first: &Memory<TAGS>, second: &Memory<TAGS>) -> Optio
         }
     }
     Some(both)
+}
+
+/// Drops some tags from a memory.
+fn forget<const TAGS: usize>(memory: &mut Memory<TAGS>, tags: u16) {
+    for (_, place) in memory.iter_mut().enumerate().filter(|(tag, _)| tags >> tag & 1 == 1) {
+        *place = UNUSED;
+    }
 }
 
 /// A step for each annotation that the goal rests on, in the order found.

@@ -1,4 +1,5 @@
-//! A stored set: checked (1 to 7) and decoded in either form, and written in the wide one.
+//! A stored set: checked (1 to 7 and 9) and decoded in any form, and written in the wide one, with tags to forget or
+//! without.
 
 use super::UNUSED;
 
@@ -7,6 +8,8 @@ pub struct Set {
     pub states: Vec<State>,
     pub tags: usize,
     pub rules: Vec<Rule>,
+    /// Bytes of a stored rule: 12, or 14 with tags to forget. Without rules it is 12.
+    pub rule_bytes: usize,
 }
 
 #[derive(Clone, Copy)]
@@ -26,18 +29,29 @@ impl State {
     }
 }
 
-/// A rule; the order of the fields is the order of stored rules.
+/// A rule; the order of the fields is the order of stored rules, to which the tags to forget do not count.
 #[derive(Clone, Copy, PartialEq, Eq, PartialOrd, Ord)]
 pub struct Rule {
     pub symbol: u16,
     pub children: [u16; 4],
     pub target: u16,
+    pub forgets: u16,
 }
 
 impl Rule {
-    fn read(bytes: &[u8]) -> Rule {
-        let [symbol, target, a, b, c, d] = numbers(bytes);
-        Rule { symbol, children: [a, b, c, d], target }
+    /// The rules in some bytes, of 12 each or of 14.
+    fn read_all<const BYTES: usize>(bytes: &[u8]) -> Vec<Rule> {
+        let read = |bytes: &[u8]| {
+            let [symbol, target, a, b, c, d] = numbers(bytes);
+            let forgets = if BYTES == 14 { u16::from_le_bytes([bytes[12], bytes[13]]) } else { 0 };
+            Rule { symbol, children: [a, b, c, d], target, forgets }
+        };
+        bytes.chunks_exact(BYTES).map(read).collect()
+    }
+
+    /// Whether the rule stands before another.
+    fn is_below(&self, other: &Rule) -> bool {
+        (self.symbol, self.children, self.target) < (other.symbol, other.children, other.target)
     }
 
     /// The states of the children that are used.
@@ -52,8 +66,17 @@ fn numbers<const N: usize>(bytes: &[u8]) -> [u16; N] {
     std::array::from_fn(|at| u16::from_le_bytes([bytes[2 * at], bytes[2 * at + 1]]))
 }
 
-/// The set in some bytes, or the number of its refusal.
-pub fn read(bytes: &[u8]) -> Result<Set, u8> {
+/// What a sound header says.
+struct Header {
+    tags: usize,
+    states_at: usize,
+    rules_at: usize,
+    state_bytes: usize,
+    rule_bytes: usize,
+}
+
+/// The header of some bytes, or 1, 2 or 3.
+fn header(bytes: &[u8]) -> Result<Header, u8> {
     if bytes.len() < 16 {
         return Err(1);
     }
@@ -62,31 +85,43 @@ pub fn read(bytes: &[u8]) -> Result<Set, u8> {
     if !(1..=64).contains(&symbols) || !(1..=256).contains(&states) || tags > 16 || rules > 1024 {
         return Err(2);
     }
-    let width = if rules_at == states_at + 3 * states { 3 } else { 2 };
-    let rules_due = 16 + symbols + width * states;
-    let offsets = (16, 16 + symbols, rules_due, rules_due + 12 * rules);
-    let tags_fit = width == 3 || tags <= 8;
+    let state_bytes = if rules_at == states_at + 3 * states { 3 } else { 2 };
+    let rules_due = 16 + symbols + state_bytes * states;
+    let rule_bytes = if state_bytes == 3 && total != rules_due + 12 * rules { 14 } else { 12 };
+    let offsets = (16, 16 + symbols, rules_due, rules_due + rule_bytes * rules);
+    let tags_fit = state_bytes == 3 || tags <= 8;
     if (symbols_at, states_at, rules_at, total) != offsets || bytes.len() != total || !tags_fit {
         return Err(3);
     }
-    let arities = bytes[symbols_at..states_at].to_vec();
+    Ok(Header { tags, states_at, rules_at, state_bytes, rule_bytes })
+}
+
+/// The set in some bytes, or the number of its refusal.
+pub fn read(bytes: &[u8]) -> Result<Set, u8> {
+    let Header { tags, states_at, rules_at, state_bytes, rule_bytes } = header(bytes)?;
+    let arities = bytes[16..states_at].to_vec();
     if arities.iter().any(|&arity| arity > 4) {
         return Err(4);
     }
-    let stored = bytes[states_at..rules_at].chunks_exact(width);
-    if stored.clone().any(|state| state[0] > 1 || usize::from(State::tags(state)) >= 1 << tags) {
+    let is_strange = |mask: u16| usize::from(mask) >= 1 << tags;
+    let stored = bytes[states_at..rules_at].chunks_exact(state_bytes);
+    if stored.clone().any(|state| state[0] > 1 || is_strange(State::tags(state))) {
         return Err(5);
     }
     let states: Vec<State> =
         stored.map(|state| State { is_final: state[0] == 1, tags: State::tags(state) }).collect();
-    let rules: Vec<Rule> = bytes[rules_at..].chunks_exact(12).map(Rule::read).collect();
+    let read_rules = if rule_bytes == 14 { Rule::read_all::<14> } else { Rule::read_all::<12> };
+    let rules = read_rules(&bytes[rules_at..]);
     if !rules.iter().all(|rule| fits(rule, &arities, states.len())) {
         return Err(6);
     }
-    if !rules.windows(2).all(|pair| pair[0] < pair[1]) {
+    if !rules.windows(2).all(|pair| pair[0].is_below(&pair[1])) {
         return Err(7);
     }
-    Ok(Set { arities, states, tags, rules })
+    if rule_bytes == 14 && rules.iter().any(|rule| is_strange(rule.forgets)) {
+        return Err(9);
+    }
+    Ok(Set { arities, states, tags, rules, rule_bytes })
 }
 
 /// Whether a rule names known symbols and states and leaves unused places at 65535.
@@ -99,9 +134,9 @@ fn fits(rule: &Rule, arities: &[u8], states: usize) -> bool {
 }
 
 impl Set {
-    /// The length of the wide form.
+    /// The length of the wide form, with rules as long as they are to be.
     pub fn stored_length(&self) -> usize {
-        16 + self.arities.len() + 3 * self.states.len() + 12 * self.rules.len()
+        16 + self.arities.len() + 3 * self.states.len() + self.rule_bytes * self.rules.len()
     }
 
     /// The wide form.
@@ -119,9 +154,12 @@ impl Set {
             let [low, high] = state.tags.to_le_bytes();
             bytes.extend([u8::from(state.is_final), low, high]);
         }
-        for Rule { symbol, children: [a, b, c, d], target } in &self.rules {
+        for Rule { symbol, children: [a, b, c, d], target, forgets } in &self.rules {
             for number in [symbol, target, a, b, c, d] {
                 bytes.extend(number.to_le_bytes());
+            }
+            if self.rule_bytes == 14 {
+                bytes.extend(forgets.to_le_bytes());
             }
         }
         bytes

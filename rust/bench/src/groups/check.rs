@@ -8,11 +8,16 @@ use reference::examples::set_e;
 
 pub fn measure() {
     let table = Table::open("The checks");
-    for (sizes, kind) in [(sets::largest_narrow_sizes(), "set"), (sets::largest_sizes(), "wide set")] {
-        let largest = sets::automaton(&mut Random::new(1), &sizes);
-        let bytes = largest.encode();
+    let largest = |sizes| sets::automaton(&mut Random::new(1), &sizes);
+    let (narrow, wide) = (largest(sets::largest_narrow_sizes()), largest(sets::largest_sizes()));
+    let mut forgetting = wide.clone();
+    sets::forget_some(&mut Random::new(2), &mut forgetting);
+    for (set, kind) in
+        [(narrow, "set"), (wide, "wide set"), (forgetting, "set that forgets, 14 bytes a rule,")]
+    {
+        let bytes = set.encode();
         assert!(check_automaton(&bytes).is_ok() && set::read(&bytes).is_ok());
-        let input = format!("{kind} of {} rules", largest.rules.len());
+        let input = format!("{kind} of {} rules", set.rules.len());
         table.row(&input, || check_automaton(&bytes), || set::read(&bytes).is_ok());
     }
     let set = set_e().encode();

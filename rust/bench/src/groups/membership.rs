@@ -1,9 +1,11 @@
-//! Judging: exports, many states, a full room, a hard input, and wide sets whose sixteen tags are all carried.
+//! Judging: exports, many states, a full room, a hard input, wide sets whose sixteen tags are all carried, and paired
+//! servers with a set that forgets.
 
 use bench::baseline;
 use bench::measure::Table;
 use cidhomba::{membership, Judgement, ANNOTATION_CELLS, MAX_ROOM, STEP_CELLS};
 use generate::export::{agreed_set, export, Columns};
+use generate::paired_list::{paired_list, paired_list_set};
 use generate::wide_export::{wide_export, wide_set};
 use generate::{documents, sets, Random};
 use reference::examples::{rule, state};
@@ -27,6 +29,11 @@ pub fn measure() {
     let (set, document) = hard();
     judged(&table, "hard: 2 million choices, all in vain", &set, &document, MAX_ROOM);
     sixteen_tags(&table);
+    for pairs in [40, 200] {
+        let document = paired_list(pairs, None);
+        let input = format!("{pairs} pairs of servers, by a set that forgets, {} rows", document.rows.len());
+        judged(&table, &input, &paired_list_set(), &document, 1024);
+    }
 }
 
 /// Servers with sixteen parts each that must be the same, then one of them with another part, and a chain whose rows

@@ -1,10 +1,11 @@
-//! What the comparisons of the two moves between the forms share.
+//! What the comparisons of the two moves between the narrow and the wide form share.
 
 use compare::answer::Answer;
 use compare::tally::{Tally, SET};
 use generate::{set_bytes, sets, Random};
-use reference::examples::{rule, set_b, set_d, set_e, set_g, state};
-use reference::limits::{HEADER_BYTES, MAX_NARROW_TAGS};
+use reference::examples::{lists_of_equal_pairs, rule, set_b, set_d, set_e, set_g, state};
+use reference::limits::HEADER_BYTES;
+use reference::stored::check_with_form;
 use reference::{Automaton, Form, Refusal};
 
 /// One of the two moves: its comparison, the reference's own, and the form that it starts from.
@@ -16,14 +17,14 @@ pub struct Move {
 }
 
 /// Space for every result.
-pub const PLENTY: usize = 14_000;
+pub const PLENTY: usize = 16_000;
 
 impl Move {
     /// The numbers between the set's and 53.
     fn own_numbers(&self) -> &'static [u8] {
         match self.from {
             Form::Narrow => &[18],
-            Form::Wide => &[18, 8],
+            _ => &[18, 8],
         }
     }
 
@@ -36,9 +37,9 @@ impl Move {
     fn seeded(&self, random: &mut Random) -> Vec<u8> {
         let sizes = sets::any_sizes(random);
         let automaton = sets::automaton(random, &sizes);
-        let form = if random.percent(85) { self.from } else { random.pick(&Form::BOTH) };
+        let form = if random.percent(75) { self.from } else { random.pick(&Form::ALL) };
         // A narrow set of many tags is no set at all; damage makes enough of these.
-        let form = if automaton.tag_count > MAX_NARROW_TAGS { Form::Wide } else { form };
+        let form = form.max(Form::for_tags(automaton.tag_count));
         set_bytes::stored_in(random, &automaton, form, 60)
     }
 
@@ -59,6 +60,23 @@ impl Move {
         tally.must_reach(20_000, 200, &numbers, &["written"]);
     }
 
+    /// Many seeded sets with rules of 14 bytes, whether they forget anything or not: 18, behind the set's numbers.
+    pub fn compare_sets_with_long_rules(&self) {
+        let mut tally = Tally::of(self.name);
+        for seed in 0..12_000 {
+            let random = &mut Random::new(seed);
+            let sizes = sets::any_sizes(random);
+            let automaton = sets::any_automaton(random, &sizes);
+            let set = set_bytes::stored_in(random, &automaton, Form::Isolating, 50);
+            // Without rules a set is a wide one, and damage may make it one.
+            if matches!(check_with_form(&set), Ok((form, _)) if form != Form::Isolating) {
+                continue;
+            }
+            tally.count((self.compare)(&set, random.pick(&[0, 60, PLENTY])), |_| "written");
+        }
+        tally.must_reach(10_000, 200, &[&SET[..], &[18]].concat(), &[]);
+    }
+
     /// Every space from none to more than enough, for each of the examples.
     pub fn compare_every_space(&self) {
         for automaton in [set_e(), set_g(), set_d(), set_b()] {
@@ -71,11 +89,12 @@ impl Move {
         }
     }
 
-    /// Every value of every byte of the examples in both forms, with a space that is long enough and one that is not.
+    /// Every value of every byte of the examples in all forms, with a space that is long enough and one that is not.
     pub fn compare_every_byte(&self) {
         let mut tally = Tally::of(self.name);
         let examples = [set_e(), set_g(), set_d(), set_b()];
-        for sound in examples.iter().flat_map(|set| Form::BOTH.map(|form| set.encode_in(form))) {
+        let in_all_forms = examples.iter().flat_map(|set| Form::ALL.map(|form| set.encode_in(form)));
+        for sound in in_all_forms.chain([lists_of_equal_pairs().encode()]) {
             for (at, value) in (0..sound.len()).flat_map(|at| (0..=255).map(move |value| (at, value))) {
                 let mut set = sound.clone();
                 set[at] = value;
@@ -86,9 +105,9 @@ impl Move {
         tally.must_reach(20_000, 5, &[&SET[1..], self.own_numbers()].concat(), &["written"]);
     }
 
-    /// Every length of an example in both forms.
+    /// Every length of an example in all forms.
     pub fn compare_every_length(&self) {
-        for form in Form::BOTH {
+        for form in Form::ALL {
             let sound = set_e().encode_in(form);
             let longer = [&sound[..], &sound[..]].concat();
             for length in 0..=longer.len() {
@@ -132,6 +151,13 @@ pub fn of_counts(states: usize, tags: usize, rules: usize) -> Automaton {
         tag_count: tags,
         rules: (0..rules).map(numbered).collect(),
     }
+}
+
+/// A set with a tag to forget that it does not have.
+pub fn strange() -> Automaton {
+    let mut set = set_e();
+    set.rules[1].forgets = 2;
+    set
 }
 
 /// A set with symbols, states and rules at their limits and so many tags.

@@ -43,6 +43,12 @@ pub fn json_refusal_with(keys: &str, text: impl AsRef<[u8]>) -> (u8, usize) {
     (refusal.number, refusal.place.expect("a place"))
 }
 
+/// A set with nothing forgotten.
+pub fn remembering(mut set: Automaton) -> Automaton {
+    set.rules.iter_mut().for_each(|rule| rule.forgets = 0);
+    set
+}
+
 /// A row without children.
 pub fn leaf(symbol: usize, scalar: Scalar) -> Row {
     Row { symbol, children: Vec::new(), scalar }
