@@ -1,26 +1,30 @@
 -- A set that no test refuses stands for a sound automaton. Assumes nothing.
-use mathlib.Core.Path.{_≡_, sym, ap, _∙_, subst}
-use mathlib.Core.Bool.{true}
+use mathlib.Core.Path.{_≡_, refl, sym, ap, _∙_, subst}
+use mathlib.Core.Bool.{true, false}
 use mathlib.Core.Logic.{⊎-elim}
 use mathlib.Core.List.{List, [], _∷_, _++_, List·Memᴰ as In}
 use Prim.Native.Nat.{ℕ, zero, suc, _+_, _≤_, _<_}
 use native.Mathlib.Omega.{arith}
 use native.Mathlib.Numerals.{add-one}
 use lib.Dec.{T}
+use lib.ListN.{length}
 use lib.Pow.{pow-pos}
 use borrow.Author.Tests.{lt-ltb, le-ltb, ltb-true, eqb-true}
 use Rattle.model.specs.Limits.{maxChildren, unused}
 use Rattle.model.specs.Lists.{tab}
-use Rattle.model.specs.Automaton.{Rule, Wellformed, arityOf}
+use Rattle.model.specs.Automaton.{Rule, Wellformed, ForgetsNothing, arityOf}
 use Rattle.model.specs.Order.{place, key, lower?, before?, Ascending}
 use Rattle.model.specs.Sound.{Sound}
 use Rattle.model.proofs.Members.{T-true}
 use Rattle.model.proofs.Tab.{tab-at, tab-past, length-tab, in-tab}
-use Rattle.automaton.specs.Stored.{symbolCount, stateCount, tagCount, ruleCount, symbolByte, ruleWord, placeWord, formOf, forgetOf, ruleOf, decode}
-use Rattle.automaton.specs.Form.{HasRoom}
+use Rattle.automaton.specs.Stored.{symbolCount, stateCount, tagCount, ruleCount, rulesAt, symbolByte, ruleWord, placeWord, formOf, forgetOf, ruleOf, decode}
+use Rattle.automaton.specs.Form.{stateWidth, tagsWidth, ruleWidth, ruleNumbers, isolating?, keptMask, rulesOffset, totalLength, HasRoom}
+use Rattle.automaton.specs.declared.Form.{Form}
+use Rattle.automaton.specs.declared.Form.the-variants.{Narrow, Wide, Isolating}
+use Rattle.automaton.specs.Encode.{encodedLength}
 use Rattle.automaton.specs.Check.{placeOk, keyWord, ascendsAt, checkOf}
 use Rattle.automaton.proofs.Parts.{below-or, tab-same}
-use Rattle.automaton.proofs.Widths.{kept-mask-twice}
+use Rattle.automaton.proofs.Widths.{Told, form-told, kept-mask-twice}
 use Rattle.automaton.proofs.Decode.{symbols-are, states-are, rules-are, arity-known, arity-unknown, state-known, state-unknown}
 use Rattle.automaton.proofs.Passes.{Passes, passes}
 
@@ -114,3 +118,40 @@ room-own s h =
       bits = passes s h .offsets .bits;
       masks = λ r m. let (i, l, e) = in-tab (ruleCount s) (ruleOf s) m in rw e (kept-mask-twice (formOf s) (ruleWord s i (maxChildren + 2)));
     }
+
+-- Rules in a form without a place for masks forget nothing, whatever the bytes.
+pub plain-forgets : (s : List ℕ) → isolating? (formOf s) ≡ false → ForgetsNothing (decode s)
+unfolding decode forgetOf keptMask
+plain-forgets s e r m = let (i, l, d) = in-tab (ruleCount s) (ruleOf s) m in rw d (go (formOf s) (ruleWord s i (maxChildren + 2)) e)
+  where
+    go : (form : Form) (mask : ℕ) → isolating? form ≡ false → keptMask form mask ≡ 0
+    go Narrow mask e = refl
+    go Wide mask e = refl
+    go Isolating mask e = let z : _≡_ {A = ℕ} 0 1 = cc in absurd (omega arith)
+
+-- Of a sound set the header tells the form ..
+pub told-own : (s : List ℕ) → checkOf s ≡ 0 → Told (formOf s) (length ((decode s) .rules))
+unfolding formOf stateWidth tagsWidth ruleWidth ruleNumbers
+told-own s h = subst (Told (formOf s)) (sym (rules-are s)) (go (formOf s) refl)
+  where
+    p : Passes s
+    p = passes s h
+
+    none : formOf s ≡ Isolating → ruleCount s < 1 → formOf s ≡ Wide
+    none e l =
+        let at : rulesAt s ≡ rulesOffset Wide (symbolCount s) (stateCount s) = p .offsets .rules-at ∙ ap (λ (form : Form). rulesOffset form (symbolCount s) (stateCount s)) e in
+        let total = p .offsets .total ∙ ap (λ (form : Form). totalLength form (symbolCount s) (stateCount s) (ruleCount s)) e in
+        form-told Wide (symbolCount s) (stateCount s) (ruleCount s) _ _ _ _ _ (p .counts .some-state) tt refl (p .offsets .states-at) at refl (omega arith)
+
+    one-place : true ≡ false → ⊥
+    one-place z = let n : _≡_ {A = ℕ} 0 1 = cc in omega arith
+
+    go : (form : Form) → formOf s ≡ form → Told form (ruleCount s)
+    go Narrow e = tt
+    go Wide e = tt
+    go Isolating e =
+        ⊎-elim (λ l. absurd (one-place (ap isolating? (sym e ∙ none e l)))) (λ l. l) (below-or (ruleCount s) 1)
+
+-- .. and it is as long as that form makes it.
+pub length-own : (s : List ℕ) → checkOf s ≡ 0 → length s ≡ encodedLength (formOf s) (decode s)
+length-own s h = rw (symbols-are s, states-are s, rules-are s) (passes s h .offsets .whole)

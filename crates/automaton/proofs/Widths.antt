@@ -71,6 +71,19 @@ form-told Narrow S Q R q a r n t l d eq ea er en et = rw (ne-eqb r (a + stateWid
 form-told Wide S Q R q a r n t l d eq ea er en et = rw (eq-eqb r (a + stateWidth Wide * q) (omega arith), eq-eqb t (r + ruleWidth Wide * n) (omega arith))
 form-told Isolating S Q R q a r n t l d eq ea er en et = rw (eq-eqb r (a + stateWidth Wide * q) (omega arith), ne-eqb t (r + ruleWidth Wide * n) (λ e. omega arith))
 
+-- Sets of as many symbols, states and rules are as long in two forms that the header tells only where these are one.
+pub length-tells : (a b : Form) (S Q R : ℕ) → 1 ≤ Q → Told a R → Told b R → totalLength a S Q R ≡ totalLength b S Q R → a ≡ b
+unfolding stateWidth tagsWidth ruleWidth ruleNumbers
+length-tells Narrow Narrow S Q R l d g e = refl
+length-tells Narrow Wide S Q R l d g e = absurd (omega arith)
+length-tells Narrow Isolating S Q R l d g e = absurd (omega arith)
+length-tells Wide Narrow S Q R l d g e = absurd (omega arith)
+length-tells Wide Wide S Q R l d g e = refl
+length-tells Wide Isolating S Q R l d g e = absurd (omega arith)
+length-tells Isolating Narrow S Q R l d g e = absurd (omega arith)
+length-tells Isolating Wide S Q R l d g e = absurd (omega arith)
+length-tells Isolating Isolating S Q R l d g e = refl
+
 -- the same of the rules' offset x, the place `end` after wide states, the stated total t and the place `last` after rules without masks, as they were read
 module _ (s : List ℕ) (x end : ℕ) (a : x ≡ rulesAt s) (b : end ≡ statesAt s + stateWidth Wide * stateCount s) where
   pub form-narrow : (x ≡ end → ⊥) → Narrow ≡ formOf s

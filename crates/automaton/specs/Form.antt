@@ -1,5 +1,6 @@
 -- The three stored forms: their widths and places, each stated once (document 01, section "Sets"; document 02, Wishes 2 and 9). Assumes nothing.
 use mathlib.Core.Path.{_≡_}
+use mathlib.Core.Bool.{Bool, true, false}
 use mathlib.Core.List.{List·Memᴰ as In}
 use Prim.Native.Nat.{ℕ, _+_, _*_, _≤_}
 use Rattle.model.specs.Automaton.{Rule, Automaton}
@@ -44,6 +45,12 @@ rulesOffset form S Q = statesOffset S + stateWidth form * Q
 -- the bytes of S symbols, Q states and R rules in all
 abbrev pub totalLength : Form → ℕ → ℕ → ℕ → ℕ
 totalLength form S Q R = rulesOffset form S Q + ruleWidth form * R
+
+-- whether rules in a form have a place for the tags that they forget
+abbrev pub isolating? : Form → Bool
+isolating? Narrow = false
+isolating? Wide = false
+isolating? Isolating = true
 
 -- what a form keeps of the mask of tags that a rule forgets: nothing where rules have no place for it
 unfoldable pub keptMask : Form → ℕ → ℕ

@@ -1,7 +1,7 @@
 // The stored forms: their widths and places, each stated once.
 ghost use mathlib.Core.Path.{_≡_};
 ghost use Prim.Native.Nat.{_+_, _*_, _<_};
-ghost use Rattle.automaton.specs.Form.{stateWidth, tagBits, ruleNumbers, ruleWidth, statesOffset, rulesOffset, totalLength};
+ghost use Rattle.automaton.specs.Form.{stateWidth, tagBits, ruleNumbers, ruleWidth, isolating?, statesOffset, rulesOffset, totalLength};
 use super::Form;
 use super::State;
 use base::numbers::size;
@@ -46,6 +46,17 @@ pub fn tag_bits(form: Form) -> u16
         Form::Narrow => 8,
         Form::Wide => 16,
         Form::Isolating => 16,
+    }
+}
+
+// Whether rules in a form have a place for the tags that they forget.
+pub fn isolating(form: Form) -> bool
+    ensures { λ r. ⌜ r ≡ isolating? form ⌝ }
+{
+    match form {
+        Form::Narrow => false,
+        Form::Wide => false,
+        Form::Isolating => true,
     }
 }
 

@@ -16,29 +16,19 @@ use Rattle.model.proofs.SoundUnion.{union-nothing, union-accepts}
 use Rattle.model.proofs.SoundProduct.{product-nothing, product-accepts}
 use Rattle.automaton.specs.declared.Form.{Form}
 use Rattle.automaton.specs.declared.Form.the-variants.{Narrow, Wide, Isolating}
-use Rattle.automaton.specs.Form.{keptMask, HasRoom}
+use Rattle.automaton.specs.Form.{isolating?, HasRoom}
 use Rattle.automaton.specs.Stored.{formOf, decode}
 use Rattle.automaton.specs.Check.{checkOf}
 use Rattle.automaton.specs.Answer.{Stores}
-use Rattle.automaton.proofs.Sound.{sound-decode, room-own}
+use Rattle.automaton.proofs.Sound.{sound-decode, plain-forgets}
 use Rattle.automaton.proofs.Encoded.{wide-room, isolating-room}
 use Rattle.automaton.proofs.Answering.{given-length, given-stores}
-use Rattle.boolean.specs.Combine.{isolating?, resultForm, combineCheckOf}
+use Rattle.boolean.specs.Combine.{resultForm, combineCheckOf}
 use Rattle.boolean.specs.Answer.{combinedOf, combinedSpace}
 use Rattle.boolean.specs.Ready.{Ready}
 use Rattle.boolean.proofs.Refusing.{ready, ready-union, ready-product}
 
--- A set in a form without a place for masks forgets nothing ..
-plain-forgets : (s : List ℕ) → checkOf s ≡ 0 → isolating? (formOf s) ≡ false → ForgetsNothing (decode s)
-unfolding keptMask
-plain-forgets s h e r m = go (formOf s) e (room-own s h .masks r m)
-  where
-    go : (form : Form) → isolating? form ≡ false → keptMask form (r .forget) ≡ r .forget → r .forget ≡ 0
-    go Narrow e k = sym k
-    go Wide e k = sym k
-    go Isolating e k = let z : _≡_ {A = ℕ} 0 1 = cc in absurd (omega arith)
-
--- .. so the form of a result has room for it, where it forgets nothing if neither input does.
+-- The form of a result has room for it, where it forgets nothing if neither input does.
 result-room : (first second : List ℕ) (R : Automaton) → checkOf first ≡ 0 → checkOf second ≡ 0 → Sound R → (ForgetsNothing (decode first) → ForgetsNothing (decode second) → ForgetsNothing R) → HasRoom (resultForm first second) R
 unfolding resultForm
 result-room first second R hf hs sound none = go (isolating? (formOf first)) (isolating? (formOf second)) refl refl
@@ -46,7 +36,7 @@ result-room first second R hf hs sound none = go (isolating? (formOf first)) (is
     go : (a b : Bool) → isolating? (formOf first) ≡ a → isolating? (formOf second) ≡ b → HasRoom (cond (a || b) Isolating Wide) R
     go true b ea eb = isolating-room R sound
     go false true ea eb = isolating-room R sound
-    go false false ea eb = wide-room R sound (none (plain-forgets first hf ea) (plain-forgets second hs eb))
+    go false false ea eb = wide-room R sound (none (plain-forgets first ea) (plain-forgets second eb))
 
 module _ (result : Automaton → Automaton → Automaton) (first second space : List ℕ) (n : ℕ) (e : combinedOf result first second space ≡ gives n) where
   abbrev R : Automaton

@@ -17,7 +17,7 @@ use Rattle.model.specs.Boolean.{union, product}
 use Rattle.model.proofs.Below.{at}
 use Rattle.model.proofs.SoundUnion.{union-states, union-rules, union-sound}
 use Rattle.model.proofs.SoundProduct.{product-states, product-rules, product-sound}
-use Rattle.automaton.specs.Form.{totalLength}
+use Rattle.automaton.specs.Form.{totalLength, isolating?}
 use Rattle.automaton.specs.declared.Form.{Form}
 use Rattle.automaton.specs.declared.Form.the-variants.{Wide, Isolating}
 use Rattle.automaton.specs.Stored.{formOf, decode}
@@ -26,7 +26,7 @@ use Rattle.automaton.specs.Encode.{encode, encodedLength}
 use Rattle.automaton.proofs.Passes.{split}
 use Rattle.automaton.proofs.Sound.{sound-decode}
 use Rattle.automaton.proofs.Encoded.{encode-length}
-use Rattle.boolean.specs.Combine.{isolating?, resultForm, sameSymbols, withinLimits, resultCheckOf, combineCheckOf}
+use Rattle.boolean.specs.Combine.{resultForm, sameSymbols, withinLimits, resultCheckOf, combineCheckOf}
 use Rattle.automaton.specs.Laid.{Laid}
 use Rattle.boolean.specs.Ready.{Ready, Sized}
 use Rattle.boolean.specs.declared.Size.{Size}

@@ -1,6 +1,6 @@
 -- Which number refuses a union or a product of two stored automata (document 01, section "Turned away, by place"; document 02, Wishes 2 and 9). Assumes nothing.
 use mathlib.Core.List.{List}
-use mathlib.Core.Bool.{Bool, true, false, _&&_, _||_, cond}
+use mathlib.Core.Bool.{Bool, _&&_, _||_, cond}
 use Prim.Native.Nat.{ℕ}
 use lib.Dec.{leb, eqb}
 use lib.ListN.{length}
@@ -8,17 +8,12 @@ use Rattle.model.specs.Limits.{maxStates, maxTags, maxRules}
 use Rattle.model.specs.Lists.{allBelow}
 use Rattle.model.specs.Refusal.{demand, andAfter}
 use Rattle.model.specs.Automaton.{Automaton, arityOf}
+use Rattle.automaton.specs.Form.{isolating?}
 use Rattle.automaton.specs.Stored.{formOf, decode}
 use Rattle.automaton.specs.Check.{checkOf}
 use Rattle.automaton.specs.declared.Form.{Form}
-use Rattle.automaton.specs.declared.Form.the-variants.{Narrow, Wide, Isolating}
+use Rattle.automaton.specs.declared.Form.the-variants.{Wide, Isolating}
 use Rattle.automaton.specs.Encode.{encodedLength}
-
--- whether rules in a form have a place for the tags that they forget
-abbrev pub isolating? : Form → Bool
-isolating? Narrow = false
-isolating? Wide = false
-isolating? Isolating = true
 
 -- the form that a union and a product are written in: with that place if either input has it, else the wide one
 unfoldable pub resultForm : List ℕ → List ℕ → Form

@@ -8,7 +8,7 @@ ghost use Rattle.automaton.specs.Form.{totalLength};
 ghost use Rattle.automaton.specs.Stored.{decode};
 ghost use Rattle.automaton.specs.Check.{checkOf};
 ghost use Rattle.automaton.specs.Answer.{writtenAnswer};
-ghost use Rattle.boolean.specs.Combine.{isolating?, resultForm, sameSymbols, withinLimits};
+ghost use Rattle.boolean.specs.Combine.{resultForm, sameSymbols, withinLimits};
 ghost use Rattle.boolean.specs.Answer.{combinedOf, combinedSpace};
 ghost use Rattle.boolean.specs.Ready.{Sized};
 
@@ -21,6 +21,7 @@ mod write;
 use automaton::Checked;
 use automaton::Form;
 use automaton::Written;
+use automaton::layout::isolating;
 use automaton::layout::total_length;
 use base::limits::MAX_RULES;
 use base::limits::MAX_STATES;
@@ -90,17 +91,6 @@ fn result(form: Form, symbols: u16, size: Size, space: usize) -> u16
         0
     } else {
         53
-    }
-}
-
-// Whether rules in a form have a place for the tags that they forget.
-fn isolating(form: Form) -> bool
-    ensures { λ r. ⌜ r ≡ isolating? form ⌝ }
-{
-    match form {
-        Form::Narrow => false,
-        Form::Wide => false,
-        Form::Isolating => true,
     }
 }
 

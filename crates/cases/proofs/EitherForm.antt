@@ -1,5 +1,6 @@
 -- Every entry point answers for one of two stored sets that stand for one automaton as it answers for the other, and leaves the same in the lent spaces, and
 -- the programs print the same; so it is for a set and the set moved to the other form (`moved-same` of `forms`). Union and product also go by whether the forms have a place for what rules forget. Assumes nothing.
+use mathlib.Core.Bool.{false}
 use mathlib.Core.Path.{_≡_, refl, sym, ap, _∙_, subst}
 use mathlib.Core.List.{List, [], _++_}
 use mathlib.Core.Option.{Option, none, some}
@@ -9,6 +10,7 @@ use borrow.Author.Tests.{le-leb}
 use lib.ListN.{length, getD, take, drop, List·getD-append}
 use lib.Seq.{take-at, drop-at}
 use Rattle.model.specs.Automaton.{Automaton}
+use Rattle.model.specs.Boolean.{union, product}
 use Rattle.model.specs.Limits.{maxStates, maxRows}
 use Rattle.model.specs.Tree.{Tree, levels}
 use Rattle.model.specs.Table.{Row}
@@ -18,8 +20,10 @@ use Rattle.model.specs.Refusal.{Answer, gives, refuses, unless}
 use Rattle.model.specs.Annotation.{annotations, accepts?}
 use Rattle.automaton.specs.declared.Form.{Form}
 use Rattle.automaton.specs.declared.Form.the-variants.{Narrow, Wide}
+use Rattle.automaton.specs.Form.{isolating?}
 use Rattle.automaton.specs.Stored.{word, statedTotal, formOf, decode}
 use Rattle.automaton.specs.Check.{checkOf}
+use Rattle.automaton.specs.Answer.{Stores}
 use Rattle.document.specs.Rows.{rowCells, decodeRows, encodeRows}
 use Rattle.document.specs.Check.{documentCheckOf}
 use Rattle.runs.specs.Steps.{stepCells}
@@ -27,8 +31,9 @@ use Rattle.runs.specs.Check.{checkRunOf}
 use Rattle.membership.specs.Judge.{judgeCheckOf, workAfter, Judging, RunAfter}
 use Rattle.membership.specs.declared.Judged.{Judged}
 use Rattle.membership.specs.declared.Judged.the-variants.{Yes, No, Refused}
-use Rattle.boolean.specs.Combine.{isolating?, resultForm, combineCheckOf}
+use Rattle.boolean.specs.Combine.{resultForm, combineCheckOf}
 use Rattle.boolean.specs.Answer.{combinedOf, combinedSpace}
+use Rattle.boolean.proofs.Meaning.{union-stored, product-stored}
 use Rattle.emptiness.specs.Answer.{witnessCheckOf, emptinessOf}
 use Rattle.emptiness.specs.Answer.{spaceAfter as witnessSpace}
 use Rattle.term.specs.Read.{Reading, rowsRead, refusedAt, readOf}
@@ -36,7 +41,8 @@ use Rattle.spelling.specs.Write.{writeOf}
 use Rattle.console.specs.Output.{maxInput, textSpace, liveLines, sampleLines, sampleOutput, rowsLine, readLine, judgedLine, judgeOutput}
 use Rattle.automaton.proofs.Passes.{Passes, passes}
 use Rattle.forms.specs.Move.{movedOf, SameSet}
-use Rattle.forms.proofs.Meaning.{Between, widening, narrowing, moved, moved-from, moved-form}
+use Rattle.forms.proofs.InForm.{in-plain-form}
+use Rattle.forms.proofs.Meaning.{moved, moved-stores, moved-sound, moved-from, moved-form}
 
 -- a set and a text behind it are told apart by the total that the header states
 total-behind : (s : List ℕ) → Passes s → (text : List ℕ) → statedTotal (s ++ text) ≡ length s
@@ -153,13 +159,29 @@ module _ (result : Automaton → Automaton → Automaton) (s s′ t t′ : List 
   unfolding combineCheckOf resultForm
   same-result space = rw (m .checked, m .decoded, n .checked, n .decoded, p, q)
 
--- so it is for a set and the set moved, by either move
-module _ (from to : Form) (between : Between from to) (alike : isolating? from ≡ isolating? to) (set space : List ℕ) (n : ℕ) (e : movedOf from to set space ≡ gives n) where
-  pub same-place : isolating? (formOf set) ≡ isolating? (formOf (moved from to between set space n e))
-  same-place = ap isolating? (moved-from from to between set space n e) ∙ alike ∙ sym (ap isolating? (moved-form from to between set space n e))
+-- so it is for a set and the set moved between the forms without such a place, by either move of states
+module _ (from to : Form) (plain : isolating? from ≡ false) (plain′ : isolating? to ≡ false) (set space : List ℕ) (n : ℕ) (e : movedOf from to set space ≡ gives n) where
+  pub same-place : isolating? (formOf set) ≡ isolating? (formOf (moved from to set space n e))
+  same-place =
+      in-plain-form from set (moved-sound from to set space n e) (moved-from from to set space n e) plain
+      ∙ sym (in-plain-form to (moved from to set space n e) (moved-stores from to set space n e .sound) (moved-form from to set space n e) plain′)
 
-pub widened-place : (set space : List ℕ) (n : ℕ) (e : movedOf Narrow Wide set space ≡ gives n) → isolating? (formOf set) ≡ isolating? (formOf (moved Narrow Wide widening set space n e))
-widened-place = same-place Narrow Wide widening refl
+pub widened-place : (set space : List ℕ) (n : ℕ) (e : movedOf Narrow Wide set space ≡ gives n) → isolating? (formOf set) ≡ isolating? (formOf (moved Narrow Wide set space n e))
+widened-place = same-place Narrow Wide refl refl
 
-pub narrowed-place : (set space : List ℕ) (n : ℕ) (e : movedOf Wide Narrow set space ≡ gives n) → isolating? (formOf set) ≡ isolating? (formOf (moved Wide Narrow narrowing set space n e))
-narrowed-place = same-place Wide Narrow narrowing refl
+pub narrowed-place : (set space : List ℕ) (n : ℕ) (e : movedOf Wide Narrow set space ≡ gives n) → isolating? (formOf set) ≡ isolating? (formOf (moved Wide Narrow set space n e))
+narrowed-place = same-place Wide Narrow refl refl
+
+-- Whatever the forms, what union and product write (`union-stored` and `product-stored` of `boolean`) stands for one automaton.
+module _ (result : Automaton → Automaton → Automaton) (stored : (first second space : List ℕ) (n : ℕ) → combinedOf result first second space ≡ gives n → Stores (take n (combinedSpace result first second space)) (result (decode first) (decode second))) (s s′ t t′ : List ℕ) (m : SameSet s s′) (n : SameSet t t′) where
+  pub same-stored : (space space′ : List ℕ) (k k′ : ℕ) → combinedOf result s t space ≡ gives k → combinedOf result s′ t′ space′ ≡ gives k′ → SameSet (take k (combinedSpace result s t space)) (take k′ (combinedSpace result s′ t′ space′))
+  same-stored space space′ k k′ e e′ =
+      let one = stored s t space k e in
+      let two = stored s′ t′ space′ k′ e′ in
+      record { checked = one .sound ∙ sym (two .sound); decoded = one .decoded ∙ ap (λ (A : Automaton). result A (decode t)) (m .decoded) ∙ ap (result (decode s′)) (n .decoded) ∙ sym (two .decoded) }
+
+pub same-union : (s s′ t t′ : List ℕ) (m : SameSet s s′) (n : SameSet t t′) (space space′ : List ℕ) (k k′ : ℕ) → combinedOf union s t space ≡ gives k → combinedOf union s′ t′ space′ ≡ gives k′ → SameSet (take k (combinedSpace union s t space)) (take k′ (combinedSpace union s′ t′ space′))
+same-union = same-stored union union-stored
+
+pub same-product : (s s′ t t′ : List ℕ) (m : SameSet s s′) (n : SameSet t t′) (space space′ : List ℕ) (k k′ : ℕ) → combinedOf product s t space ≡ gives k → combinedOf product s′ t′ space′ ≡ gives k′ → SameSet (take k (combinedSpace product s t space)) (take k′ (combinedSpace product s′ t′ space′))
+same-product = same-stored product product-stored

@@ -4,6 +4,7 @@ pub mod Papers
 pub mod Edges
 pub mod SixteenTags
 pub mod EqualPairs
+pub mod RuleMoves
 pub mod EitherForm
 pub mod Zeros
 pub mod JudgedJson

@@ -13,7 +13,7 @@ ghost use mathlib.Core.Path.{_≡_};
 ghost use lib.ListN.{length};
 ghost use Rattle.model.specs.Refusal.{unless, answerMap};
 ghost use Rattle.model.specs.Boolean.{union, product};
-ghost use Rattle.automaton.specs.declared.Form.the-variants.{Narrow, Wide};
+ghost use Rattle.automaton.specs.declared.Form.the-variants.{Narrow, Wide, Isolating};
 ghost use Rattle.automaton.specs.Check.{checkOf};
 ghost use Rattle.document.specs.Check.{documentCheckOf};
 ghost use Rattle.runs.specs.Check.{checkRunOf};
@@ -100,6 +100,24 @@ pub extern "C" fn cidhomba_narrow_states(set: &[u8], out: &mut [u8]) -> u64
     ensures space { λ _. ⌜ now (out .exit) ≡ movedSpace Wide Narrow (now (set .entry)) (now (out .entry)) ⌝ }
 {
     written_code(forms::narrow_states(set, out))
+}
+
+// The length of the set written with rules of 14 bytes, or its refusal.
+#[no_mangle]
+pub extern "C" fn cidhomba_widen_rules(set: &[u8], out: &mut [u8]) -> u64
+    ensures answer { λ r. ⌜ r ≡ countCode (movedOf Wide Isolating (now (set .entry)) (now (out .entry))) ⌝ }
+    ensures space { λ _. ⌜ now (out .exit) ≡ movedSpace Wide Isolating (now (set .entry)) (now (out .entry)) ⌝ }
+{
+    written_code(forms::widen_rules(set, out))
+}
+
+// The length of the set written with rules of 12 bytes, or its refusal.
+#[no_mangle]
+pub extern "C" fn cidhomba_narrow_rules(set: &[u8], out: &mut [u8]) -> u64
+    ensures answer { λ r. ⌜ r ≡ countCode (movedOf Isolating Wide (now (set .entry)) (now (out .entry))) ⌝ }
+    ensures space { λ _. ⌜ now (out .exit) ≡ movedSpace Isolating Wide (now (set .entry)) (now (out .entry)) ⌝ }
+{
+    written_code(forms::narrow_rules(set, out))
 }
 
 // 0 for dead; for live the number of rows, which stand at the front of the space, and 65536 times the levels; or the refusal.

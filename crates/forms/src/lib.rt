@@ -1,37 +1,44 @@
-// A stored set moved from one form to the other: the automaton that it stands for is the same.
+// A stored set moved from one form to another: the automaton that it stands for is the same.
 ghost use mathlib.Core.Path.{_≡_};
+ghost use mathlib.Core.Bool.{_||_};
 ghost use mathlib.Core.List.{_++_};
 ghost use Prim.Native.Nat.{_≤_};
 ghost use lib.ListN.{length, drop};
-ghost use Rattle.automaton.specs.declared.Form.the-variants.{Narrow, Wide};
+ghost use Rattle.model.specs.Automaton.{forgetsNothing?};
+ghost use Rattle.automaton.specs.declared.Form.the-variants.{Narrow, Wide, Isolating};
+ghost use Rattle.automaton.specs.Form.{isolating?};
 ghost use Rattle.automaton.specs.Stored.{decode};
 ghost use Rattle.automaton.specs.Encode.{encode, encodedLength};
 ghost use Rattle.automaton.specs.Answer.{writtenAnswer};
-ghost use Rattle.forms.specs.Move.{formNumber, sameForm, moveCheckOf, movedOf, movedSpace};
+ghost use Rattle.forms.specs.Move.{moveCheckOf, movedOf, movedSpace};
 use automaton::Checked;
 use automaton::Form;
 use automaton::Written;
 use automaton::copy::put_rules;
 use automaton::copy::put_states;
 use automaton::copy::put_symbols;
+use automaton::layout::isolating;
 use automaton::layout::tag_bits;
 use automaton::layout::total_length;
 use automaton::write::put_header;
 
-fn form_number(form: Form) -> u16
-    ensures { λ r. ⌜ r ≡ formNumber form ⌝ }
+// The length of a set in a form.
+fn length_in(form: Form, set: &[u8]) -> usize
+    ensures { λ r. ⌜ r ≡ encodedLength form (decode (now (set .entry))) ⌝ }
 {
-    match form {
-        Form::Narrow => 0,
-        Form::Wide => 1,
-        Form::Isolating => 2,
-    }
+    let h = automaton::header(set);
+    total_length(form, h.symbols, h.states, h.rules)
 }
 
-fn same_form(a: Form, b: Form) -> bool
-    ensures { λ r. ⌜ r ≡ sameForm a b ⌝ }
+// Whether a form has a place for what the rules of a set forget: rules without masks forget nothing, and are not looked at.
+fn keeps_masks(form: Form, set: &[u8]) -> bool
+    ensures { λ r. ⌜ r ≡ isolating? form || forgetsNothing? (decode (now (set .entry))) ⌝ }
 {
-    form_number(a) == form_number(b)
+    if isolating(form) | !isolating(automaton::form_of(set)) {
+        true
+    } else {
+        automaton::forgets_nothing(set)
+    }
 }
 
 // The number for a set to be moved, in a space of so many bytes.
@@ -41,14 +48,16 @@ fn refusal(from: Form, to: Form, set: &[u8], space: usize) -> u16
     if let Checked::Refused(n) = automaton::check(set) {
         return n;
     }
-    if !same_form(automaton::form_of(set), from) {
+    if set.len() != length_in(from, set) {
         return 18;
     }
-    let h = automaton::header(set);
-    if tag_bits(to) < h.tags {
+    if tag_bits(to) < automaton::header(set).tags {
         return 8;
     }
-    if space < total_length(to, h.symbols, h.states, h.rules) {
+    if !keeps_masks(to, set) {
+        return 10;
+    }
+    if space < length_in(to, set) {
         return 53;
     }
     0
@@ -85,10 +94,26 @@ pub fn widen_states(set: &[u8], out: &mut [u8]) -> Written
     moved(Form::Narrow, Form::Wide, set, out)
 }
 
-// A wide set of at most 8 tags, its rules without masks, with one byte for the tags of a state.
+// A wide set of at most 8 tags, its rules of 12 bytes, with one byte for the tags of a state.
 pub fn narrow_states(set: &[u8], out: &mut [u8]) -> Written
     ensures answer { λ r. ⌜ writtenAnswer r ≡ movedOf Wide Narrow (now (set .entry)) (now (out .entry)) ⌝ }
     ensures space { λ _. ⌜ now (out .exit) ≡ movedSpace Wide Narrow (now (set .entry)) (now (out .entry)) ⌝ }
 {
     moved(Form::Wide, Form::Narrow, set, out)
+}
+
+// A wide set with rules of 14 bytes instead of 12, which forget nothing.
+pub fn widen_rules(set: &[u8], out: &mut [u8]) -> Written
+    ensures answer { λ r. ⌜ writtenAnswer r ≡ movedOf Wide Isolating (now (set .entry)) (now (out .entry)) ⌝ }
+    ensures space { λ _. ⌜ now (out .exit) ≡ movedSpace Wide Isolating (now (set .entry)) (now (out .entry)) ⌝ }
+{
+    moved(Form::Wide, Form::Isolating, set, out)
+}
+
+// A set whose rules of 14 bytes forget nothing, with rules of 12 bytes.
+pub fn narrow_rules(set: &[u8], out: &mut [u8]) -> Written
+    ensures answer { λ r. ⌜ writtenAnswer r ≡ movedOf Isolating Wide (now (set .entry)) (now (out .entry)) ⌝ }
+    ensures space { λ _. ⌜ now (out .exit) ≡ movedSpace Isolating Wide (now (set .entry)) (now (out .entry)) ⌝ }
+{
+    moved(Form::Isolating, Form::Wide, set, out)
 }

@@ -14,7 +14,7 @@ returns c =
     refused-answer (a .to) (decode (now (a .set))) (now (a .out)) _ _ (c .before .refusal .ensures) (c .if1 .taken)
 
 put-set-requires : tie.Need-put-set-requires
-put-set-requires c κs = movable _ _ _ _ (sym (c .before .before .refusal .ensures) ∙ c .before .if1 .left) .room
+put-set-requires c κs = movable _ _ _ _ (sym (c .before .before .refusal .ensures) ∙ c .before .if1 .left) .long
 
 returns-2 : tie.Need-returns-2
 returns-2 c =
