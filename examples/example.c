@@ -82,8 +82,24 @@ static void two_sets(void)
     told("no space", cidhomba_union(set_e, LENGTH(set_e), set_e, LENGTH(set_e), out, 0));
 }
 
+/* A wide set with rules of 14 bytes, which forget nothing, and back; and with a tag to forget, which cannot go back. */
+static void longer_rules(const uint8_t *wide, size_t wide_length)
+{
+    uint8_t isolating[CIDHOMBA_MAX_SET_BYTES];
+    uint8_t back[CIDHOMBA_MAX_SET_BYTES];
+    uint64_t answer = cidhomba_widen_rules(wide, wide_length, isolating, LENGTH(isolating));
+    told("bytes of that in the isolating form", answer);
+    if (CIDHOMBA_REFUSED(answer)) {
+        return;
+    }
+    told("steps for pair(a=7,a=7) by it", judged(isolating, answer, equal, LENGTH(equal)));
+    told("bytes of it in the wide form", cidhomba_narrow_rules(isolating, answer, back, LENGTH(back)));
+    isolating[answer - 2] = 1; /* the last rule forgets tag 0 */
+    told("the same with a tag to forget", cidhomba_narrow_rules(isolating, answer, back, LENGTH(back)));
+}
+
 /* The set with two bytes for the tags of a state, and back: the same bytes again. */
-static void both_forms(void)
+static void all_forms(void)
 {
     uint8_t wide[CIDHOMBA_MAX_SET_BYTES];
     uint8_t narrow[CIDHOMBA_MAX_SET_BYTES];
@@ -93,8 +109,9 @@ static void both_forms(void)
         return;
     }
     told("steps for pair(a=7,a=7) by it", judged(wide, answer, equal, LENGTH(equal)));
+    longer_rules(wide, answer);
     answer = cidhomba_narrow_states(wide, answer, narrow, LENGTH(narrow));
-    told("bytes of it in the narrow form", answer);
+    told("bytes of the wide form in the narrow one", answer);
     told("set E, which is not in the wide form, narrowed",
          cidhomba_narrow_states(set_e, LENGTH(set_e), narrow, LENGTH(narrow)));
 }
@@ -181,7 +198,7 @@ int main(void)
     checks();
     judging();
     two_sets();
-    both_forms();
+    all_forms();
     lowest();
     reading();
     judging_json();

@@ -29,7 +29,7 @@
  *   work of cidhomba_membership   32 for each annotation of the document   CIDHOMBA_WORK_CELLS
  *   run of cidhomba_membership    6 for each annotation of the room        CIDHOMBA_RUN_CELLS
  *   out of union and product      the length of the result                 CIDHOMBA_MAX_SET_BYTES
- *   out of the moves of states    the length of the result                 CIDHOMBA_MAX_SET_BYTES
+ *   out of the four moves         the length of the result                 CIDHOMBA_MAX_SET_BYTES
  *   rows of cidhomba_witness      10 for each state of the set             CIDHOMBA_WITNESS_CELLS
  *   rows of cidhomba_read_term    10 for each row of the document          CIDHOMBA_TABLE_CELLS
  *   rows of cidhomba_read_json    10 for each row of the document          CIDHOMBA_TABLE_CELLS
@@ -101,8 +101,10 @@ enum cidhomba_refusal {
     CIDHOMBA_SET_RULE = 6,         /* an unknown symbol or state, or an unused place that is not 65535 */
     CIDHOMBA_SET_ORDER = 7,        /* rules that do not ascend strictly by symbol, child places, target; what they forget
                                     * is not looked at */
-    CIDHOMBA_SET_TAGS = 8,         /* over 8 tags in a set that is to be narrowed; tried after 18 */
+    CIDHOMBA_SET_TAGS = 8,         /* over 8 tags in a set whose states are to be narrowed; tried after 18 */
     CIDHOMBA_SET_FORGETS = 9,      /* a rule that forgets a tag at or above the number of tags; tried after 7 */
+    CIDHOMBA_RULE_FORGETS = 10,    /* a rule that forgets a tag, with or without an effect, in a set whose rules are to be
+                                    * narrowed; tried after 18 */
     /* a table */
     CIDHOMBA_TABLE_LENGTH = 11,    /* 0 or over 1,024 rows, or a row cut short */
     CIDHOMBA_ROW_SYMBOL = 12,      /* an unknown symbol */
@@ -112,9 +114,9 @@ enum cidhomba_refusal {
     CIDHOMBA_ROWS_EQUAL = 15,      /* two equal rows */
     CIDHOMBA_ROW_UNUSED = 16,      /* a row, not the last, that no later row uses */
     CIDHOMBA_TABLE_HEIGHT = 17,    /* a tree higher than 256 */
-    /* a set that is to be moved to the other form */
+    /* a set that is to be moved to another form */
     CIDHOMBA_SET_FORM = 18,        /* a set that is not in the form that the move starts from; no move of states starts
-                                    * from the isolating one; tried after 9 */
+                                    * from the isolating one, and none of rules from the narrow one; tried after 9 */
     /* a run */
     CIDHOMBA_RUN_LENGTH = 21,      /* 0 or over 4,096 steps, or a step cut short */
     CIDHOMBA_STEP_UNKNOWN = 22,    /* an unknown rule or row */
@@ -132,7 +134,7 @@ enum cidhomba_refusal {
     /* two sets */
     CIDHOMBA_SETS_DIFFER = 51,     /* numbers of symbols or of their children that differ */
     CIDHOMBA_RESULT_LIMITS = 52,   /* a result with over 256 states, 16 tags or 1,024 rules */
-    CIDHOMBA_RESULT_SPACE = 53,    /* a space shorter than the result */
+    CIDHOMBA_RESULT_SPACE = 53,    /* a space shorter than the result; also of a move to another form, tried last there */
     /* name lists */
     CIDHOMBA_LIST_LINE = 61,       /* over 64 lines, or a line that, but for spaces and bytes 13 at its end, is neither
                                     * empty nor a name */
@@ -178,9 +180,11 @@ static inline const char *cidhomba_refusal_text(unsigned number)
     case CIDHOMBA_SET_ORDER:
         return "the rules of the set do not ascend strictly by symbol, child places and target";
     case CIDHOMBA_SET_TAGS:
-        return "the set has over 8 tags and cannot be narrowed";
+        return "the set has over 8 tags, and its states cannot be narrowed";
     case CIDHOMBA_SET_FORGETS:
         return "a rule of the set forgets a tag that the set does not have";
+    case CIDHOMBA_RULE_FORGETS:
+        return "a rule of the set forgets a tag, and its rules cannot be narrowed";
     case CIDHOMBA_TABLE_LENGTH:
         return "the table has no rows, over 1,024, or a row cut short";
     case CIDHOMBA_ROW_SYMBOL:
@@ -307,6 +311,19 @@ uint64_t cidhomba_widen_states(const uint8_t *set, size_t set_length,
  * narrowed again, or narrowed and widened again, has the same bytes. */
 uint64_t cidhomba_narrow_states(const uint8_t *set, size_t set_length,
                                 uint8_t *out, size_t out_length);
+
+/* A wide set in the isolating form, with nothing forgotten, which lets in the same documents. Value: the bytes written to
+ * the front of out, those of the set and two more for each rule. Refuses: set, 18, 53. A wide set without rules is in both
+ * forms: both moves of rules take it, and write it as it is. */
+uint64_t cidhomba_widen_rules(const uint8_t *set, size_t set_length,
+                              uint8_t *out, size_t out_length);
+
+/* An isolating set that forgets nothing, in the wide form, which lets in the same documents. Value: the bytes written to
+ * the front of out, two fewer for each rule than the set has. Refuses: set, 18, 10, 53. A rule that names a tag to forget
+ * is 10, whether or not that has an effect. A set whose rules are widened and narrowed again, or narrowed and widened
+ * again, has the same bytes. */
+uint64_t cidhomba_narrow_rules(const uint8_t *set, size_t set_length,
+                               uint8_t *out, size_t out_length);
 
 /* Whether the set lets in anything. Value: 0 for dead; for live the number of rows + 65536 * the levels of a
  * document that it lets in, none being lower, written to the front of rows. Refuses: set, 42, 41. What rules forget

@@ -11,6 +11,7 @@ const GROUPS: &[(&str, fn())] = &[
     ("check", groups::check::measure),
     ("membership", groups::membership::measure),
     ("boolean", groups::boolean::measure),
+    ("moves", groups::moves::measure),
     ("witness", groups::witness::measure),
     ("read_term", groups::read_term::measure),
     ("write_term", groups::write_term::measure),

@@ -7,7 +7,7 @@ use generate::{
     documents, json_export, json_lists, json_texts, lists, pairs, rows, set_bytes, sets, texts, Random,
 };
 use reference::limits::{ANNOTATION_CELLS, MAX_ROWS, ROW_CELLS, STEP_CELLS};
-use reference::{check_names, Refusal};
+use reference::{check_names, Form, Refusal};
 
 const SEEDS: u64 = 3000;
 
@@ -147,6 +147,40 @@ fn union_and_product() {
         let product = baseline::boolean::product(&first, &second, space);
         assert_eq!(product, reference::product(&first, &second, space).map_err(number), "seed {seed}");
     }
+}
+
+/// Sets in all forms, many of them damaged, without rules or with tags to forget: each number of a move comes often.
+#[test]
+fn moves() {
+    type Move = (fn(&[u8], usize) -> Result<Vec<u8>, u8>, fn(&[u8], usize) -> Result<Vec<u8>, Refusal>);
+    let moves: [Move; 4] = [
+        (baseline::moves::widen_states, reference::widen_states),
+        (baseline::moves::narrow_states, reference::narrow_states),
+        (baseline::moves::widen_rules, reference::widen_rules),
+        (baseline::moves::narrow_rules, reference::narrow_rules),
+    ];
+    let (mut refused, mut written) = ([0; 54], 0);
+    for seed in 0..2 * SEEDS {
+        let random = &mut Random::new(seed);
+        let sizes = sets::any_sizes(random);
+        let mut automaton = sets::any_automaton(random, &sizes);
+        if random.percent(10) {
+            automaton.rules.clear();
+        }
+        let form = random.pick(&Form::ALL).max(Form::for_tags(automaton.tag_count));
+        let set = set_bytes::stored_in(random, &automaton, form, 20);
+        let space = random.pick(&[set.len(), 20_000, 20_000]);
+        for (found, expected) in moves {
+            let expected = expected(&set, space).map_err(number);
+            assert_eq!(found(&set, space), expected, "seed {seed}");
+            match expected {
+                Ok(_) => written += 1,
+                Err(number) => refused[usize::from(number)] += 1,
+            }
+        }
+    }
+    let numbers = [1, 2, 3, 4, 5, 6, 7, 8, 9, 10, 18, 53];
+    assert!(written > 1000 && numbers.iter().all(|&number| refused[number] > 50), "{written} {refused:?}");
 }
 
 #[test]

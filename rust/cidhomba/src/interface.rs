@@ -55,6 +55,8 @@ extern "C" {
     ) -> u64;
     fn cidhomba_widen_states(set: *const u8, set_length: usize, out: *mut u8, out_length: usize) -> u64;
     fn cidhomba_narrow_states(set: *const u8, set_length: usize, out: *mut u8, out_length: usize) -> u64;
+    fn cidhomba_widen_rules(set: *const u8, set_length: usize, out: *mut u8, out_length: usize) -> u64;
+    fn cidhomba_narrow_rules(set: *const u8, set_length: usize, out: *mut u8, out_length: usize) -> u64;
     fn cidhomba_witness(set: *const u8, set_length: usize, rows: *mut u16, rows_length: usize) -> u64;
     fn cidhomba_read_term(
         set: *const u8,
@@ -166,6 +168,18 @@ pub fn widen_states(set: &[u8], out: &mut [u8]) -> u64 {
 pub fn narrow_states(set: &[u8], out: &mut [u8]) -> u64 {
     // SAFETY: pointers and counts are those of slices that live through the call; `out` is lent mutably.
     unsafe { cidhomba_narrow_states(set.as_ptr(), set.len(), out.as_mut_ptr(), out.len()) }
+}
+
+/// The length written.
+pub fn widen_rules(set: &[u8], out: &mut [u8]) -> u64 {
+    // SAFETY: pointers and counts are those of slices that live through the call; `out` is lent mutably.
+    unsafe { cidhomba_widen_rules(set.as_ptr(), set.len(), out.as_mut_ptr(), out.len()) }
+}
+
+/// The length written.
+pub fn narrow_rules(set: &[u8], out: &mut [u8]) -> u64 {
+    // SAFETY: pointers and counts are those of slices that live through the call; `out` is lent mutably.
+    unsafe { cidhomba_narrow_rules(set.as_ptr(), set.len(), out.as_mut_ptr(), out.len()) }
 }
 
 /// 0 for dead, rows + 65536 * levels for live.

@@ -225,7 +225,7 @@ pub fn product<'a>(first: &[u8], second: &[u8], out: &'a mut [u8]) -> Result<&'a
 }
 
 /// A narrow set in the wide form, which has the tags of a state in two bytes and lets in the same documents. The set may
-/// not be wide already; a space of [`MAX_SET_BYTES`] holds every result.
+/// not be wide already; a space of [`MAX_SET_BYTES`] holds every result, as for the other moves.
 ///
 /// ```
 /// use cidhomba::{check_automaton, widen_states, Reason, MAX_SET_BYTES};
@@ -265,6 +265,52 @@ pub fn widen_states<'a>(set: &[u8], out: &'a mut [u8]) -> Result<&'a [u8], Refus
 /// ```
 pub fn narrow_states<'a>(set: &[u8], out: &'a mut [u8]) -> Result<&'a [u8], Refusal> {
     let length = Refusal::or_value(interface::narrow_states(set, out))?;
+    Ok(&out[..length])
+}
+
+/// A wide set with rules of 14 bytes in place of 12, which name no tags to forget, so that it lets in the same documents.
+/// The set must be wide and have rules of 12 bytes, or none: then its bytes stay as they are.
+///
+/// ```
+/// use cidhomba::{check_automaton, widen_rules, Reason, MAX_SET_BYTES};
+///
+/// let set = include_bytes!("../../../examples/e-wide.set");
+/// let (mut out, mut again) = ([0; MAX_SET_BYTES], [0; MAX_SET_BYTES]);
+/// let long = widen_rules(set, &mut out)?;
+/// assert_eq!(long.len(), set.len() + 6); // two bytes more for each of three rules
+/// assert_eq!(check_automaton(long), Ok(()));
+/// let refusal = widen_rules(long, &mut again).unwrap_err();
+/// assert_eq!(refusal.reason, Reason::SetForm);
+/// let narrow = include_bytes!("../../../examples/e.set"); // its states must be widened first
+/// let refusal = widen_rules(narrow, &mut again).unwrap_err();
+/// assert_eq!(refusal.reason, Reason::SetForm);
+/// # Ok::<(), cidhomba::Refusal>(())
+/// ```
+pub fn widen_rules<'a>(set: &[u8], out: &'a mut [u8]) -> Result<&'a [u8], Refusal> {
+    let length = Refusal::or_value(interface::widen_rules(set, out))?;
+    Ok(&out[..length])
+}
+
+/// A wide set with rules of 12 bytes in place of 14, which lets in the same documents. The set must be wide and have rules
+/// of 14 bytes, or none: then its bytes stay as they are. No rule may name a tag to forget, whether or not that has an
+/// effect. Widening and narrowing undo each other byte for byte.
+///
+/// ```
+/// use cidhomba::{narrow_rules, widen_rules, Reason, MAX_SET_BYTES};
+///
+/// let set = include_bytes!("../../../examples/e-wide.set");
+/// let (mut out, mut back) = ([0; MAX_SET_BYTES], [0; MAX_SET_BYTES]);
+/// let long = widen_rules(set, &mut out)?;
+/// assert_eq!(narrow_rules(long, &mut back)?, set);
+/// let refusal = narrow_rules(set, &mut back).unwrap_err();
+/// assert_eq!(refusal.reason, Reason::SetForm);
+/// let pairs = include_bytes!("../../../examples/pairs.set"); // its first rule forgets tag 0
+/// let refusal = narrow_rules(pairs, &mut back).unwrap_err();
+/// assert_eq!(refusal.reason, Reason::RuleForgets);
+/// # Ok::<(), cidhomba::Refusal>(())
+/// ```
+pub fn narrow_rules<'a>(set: &[u8], out: &'a mut [u8]) -> Result<&'a [u8], Refusal> {
+    let length = Refusal::or_value(interface::narrow_rules(set, out))?;
     Ok(&out[..length])
 }
 

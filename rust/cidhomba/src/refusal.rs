@@ -63,8 +63,9 @@ reasons! {
     SetState = 5 => "a state of the set has a final byte above 1 or a tag that the set does not have";
     SetRule = 6 => "a rule of the set names an unknown symbol or state, or an unused place is not 65535";
     SetOrder = 7 => "the rules of the set do not ascend strictly by symbol, child places and target";
-    SetTags = 8 => "the set has over 8 tags and cannot be narrowed";
+    SetTags = 8 => "the set has over 8 tags, and its states cannot be narrowed";
     SetForgets = 9 => "a rule of the set forgets a tag that the set does not have";
+    RuleForgets = 10 => "a rule of the set forgets a tag, and its rules cannot be narrowed";
     TableLength = 11 => "the table has no rows, over 1,024, or a row cut short";
     RowSymbol = 12 => "a row has an unknown symbol";
     RowChildren = 13 => "a child of a row is not lower, or an unused place is not 65535";

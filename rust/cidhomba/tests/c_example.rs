@@ -29,7 +29,11 @@ const PRINTED: &str = "\
      no space: refused 53, the space is shorter than the result\n\
      bytes of E in the wide form: 61\n\
      steps for pair(a=7,a=7) by it: 2\n\
-     bytes of it in the narrow form: 59\n\
+     bytes of that in the isolating form: 67\n\
+     steps for pair(a=7,a=7) by it: 2\n\
+     bytes of it in the wide form: 61\n\
+     the same with a tag to forget: refused 10, a rule of the set forgets a tag, and its rules cannot be narrowed\n\
+     bytes of the wide form in the narrow one: 59\n\
      set E, which is not in the wide form, narrowed: refused 18, the set is not in the form that the move starts from, \
      by its states or by its rules\n\
      levels of a lowest document: 2\n\

@@ -71,7 +71,7 @@ fn two_sets() {
 }
 
 #[test]
-fn two_forms() {
+fn states_of_both_widths() {
     let set = set_e();
     let (mut out, mut back) = ([9; 70], [9; 70]);
     let expected = [&set[..12], &[25, 0, 61, 0, 2, 0, 0, 0, 1, 0, 1, 0, 0], &set[23..]].concat();
@@ -88,6 +88,45 @@ fn two_forms() {
     assert_eq!(narrow_states(&many, &mut back), Err(refused(Reason::SetTags)));
     assert_eq!(widen_states(&set, &mut out[..60]), Err(refused(Reason::ResultSpace)));
     assert_eq!(out[61..], [9; 9]);
+}
+
+#[test]
+fn rules_of_both_widths() {
+    let wide = example("e-wide.set");
+    let (mut out, mut back) = ([9; 75], [9; 75]);
+    let rule = |number: usize| [&wide[25 + 12 * number..][..12], &[0, 0]].concat();
+    let expected = [&wide[..14], &[67, 0], &wide[16..25], &rule(0), &rule(1), &rule(2)].concat();
+    let long = widen_rules(&wide, &mut out).expect("the rules have 12 bytes");
+    assert_eq!(long, expected);
+    assert_eq!(narrow_rules(long, &mut back), Ok(&wide[..]));
+    assert_eq!(back[61..], [9; 14]);
+    assert_eq!(widen_rules(long, &mut back), Err(refused(Reason::SetForm)));
+    assert_eq!(narrow_rules(&wide, &mut back), Err(refused(Reason::SetForm)));
+    assert_eq!(narrow_rules(long, &mut back[..60]), Err(refused(Reason::ResultSpace)));
+    assert_eq!(narrow_rules(&long[..66], &mut back), Err(refused(Reason::SetLengths)));
+    let mut forgetting = long.to_vec();
+    forgetting[65] = 1; // the last rule forgets tag 0
+    assert_eq!(narrow_rules(&forgetting, &mut back[..0]), Err(refused(Reason::RuleForgets)));
+    forgetting[37] = 2; // and the first one a tag that the set does not have
+    assert_eq!(narrow_rules(&forgetting, &mut back), Err(refused(Reason::SetForgets)));
+    assert_eq!(widen_rules(&wide, &mut out[..66]), Err(refused(Reason::ResultSpace)));
+    assert_eq!(out[67..], [9; 8]);
+    assert_eq!(widen_rules(&set_e(), &mut out), Err(refused(Reason::SetForm)));
+    assert_eq!(narrow_rules(&set_e(), &mut out), Err(refused(Reason::SetForm)));
+}
+
+/// The wide form of E without its rules: 25 bytes, which every move but one takes.
+#[test]
+fn a_set_without_rules() {
+    let wide = example("e-wide.set");
+    let empty = [&wide[..6], &[0, 0], &wide[8..14], &[25, 0], &wide[16..25]].concat();
+    let mut out = [9; 26];
+    assert_eq!(widen_rules(&empty, &mut out), Ok(&empty[..]));
+    assert_eq!(narrow_rules(&empty, &mut out), Ok(&empty[..]));
+    assert_eq!(out[25], 9);
+    assert_eq!(narrow_rules(&empty, &mut out[..24]), Err(refused(Reason::ResultSpace)));
+    assert_eq!(narrow_states(&empty, &mut out).map(<[u8]>::len), Ok(23));
+    assert_eq!(widen_states(&empty, &mut out), Err(refused(Reason::SetForm)));
 }
 
 /// Lists of pairs, each of two equal parts: the rule for a pair forgets the tag that holds them together.
@@ -108,6 +147,8 @@ fn a_set_that_forgets() {
     }
     assert_eq!(narrow_states(&pairs, &mut out), Err(refused(Reason::SetForm)));
     assert_eq!(widen_states(&pairs, &mut out), Err(refused(Reason::SetForm)));
+    assert_eq!(narrow_rules(&pairs, &mut out), Err(refused(Reason::RuleForgets)));
+    assert_eq!(widen_rules(&pairs, &mut out), Err(refused(Reason::SetForm)));
     // 16 + 4 + 3 * 6 + 14 * 8 bytes.
     assert_eq!(union(&pairs, &pairs, &mut out).map(<[u8]>::len), Ok(150));
     let mut strange = pairs.clone();

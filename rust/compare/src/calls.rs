@@ -1,7 +1,7 @@
 //! Comparisons of one call each, for functions that more than one test program calls. Each answers what both sides
 //! answered, but for the steps of a yes, which are the library's.
 
-use cidhomba::interface;
+use cidhomba::{interface, MAX_SET_BYTES};
 use reference::limits::{ROW_CELLS, STEP_CELLS};
 use reference::{Judgement, Refusal};
 
@@ -87,17 +87,27 @@ fn passes_the_check(case: &Case, set: &[u8], rows: &[u16], run: &[u16]) {
     }
 }
 
-/// Compares the widening of a set into a space of so many bytes.
+/// Compares the widening of a set's states into a space of so many bytes.
 pub fn widen_states(set: &[u8], space: usize) -> Answer {
     moved("widen_states", interface::widen_states, reference::widen_states, set, space)
 }
 
-/// Compares the narrowing of a set into a space of so many bytes.
+/// Compares the narrowing of a set's states into a space of so many bytes.
 pub fn narrow_states(set: &[u8], space: usize) -> Answer {
     moved("narrow_states", interface::narrow_states, reference::narrow_states, set, space)
 }
 
-/// Compares a move of a set to the other form.
+/// Compares the widening of a set's rules into a space of so many bytes.
+pub fn widen_rules(set: &[u8], space: usize) -> Answer {
+    moved("widen_rules", interface::widen_rules, reference::widen_rules, set, space)
+}
+
+/// Compares the narrowing of a set's rules into a space of so many bytes.
+pub fn narrow_rules(set: &[u8], space: usize) -> Answer {
+    moved("narrow_rules", interface::narrow_rules, reference::narrow_rules, set, space)
+}
+
+/// Compares a move of a set to another form.
 fn moved(
     function: &'static str,
     by_library: fn(&[u8], &mut [u8]) -> u64,
@@ -116,6 +126,14 @@ fn moved(
     case.same_answer();
     case.same_space("out", &out, &out.with_front(&written));
     reference
+}
+
+/// The set that a call of the library writes, of which its answer is the length.
+pub fn written(call: impl Fn(&mut [u8]) -> u64) -> Vec<u8> {
+    let mut out = vec![0; MAX_SET_BYTES];
+    let Answer::Value(length) = Answer::of_library(call(&mut out)) else { panic!("a refusal") };
+    out.truncate(length as usize);
+    out
 }
 
 /// Compares the reading of a text into a row space of so many cells.

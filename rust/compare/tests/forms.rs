@@ -1,11 +1,11 @@
-//! A set in the narrow form, the same set widened (document 02, Wish 2), and that with rules of 14 bytes that forget
-//! nothing (Wish 9): every function of the library gives the same answer for all three and leaves the same in its spaces,
-//! and each move between the first two undoes the other.
+//! A set in the narrow form, the same with its states widened (document 02, Wish 2), and that with its rules widened
+//! (Wish 10): every function of the library gives the same answer for all three and leaves the same in its spaces, and
+//! the moves back give the first one again.
 
 use cidhomba::{interface, MAX_SET_BYTES};
 use compare::answer::Answer;
 use compare::calls::{
-    check_document, check_run, membership, narrow_states, read_term, widen_states, write_term,
+    check_document, check_run, membership, read_term, widen_rules, widen_states, write_term, written,
 };
 use compare::lent::Lent;
 use compare::tally::{Tally, RUN, TABLE, TEXT};
@@ -13,14 +13,14 @@ use generate::example_files::file;
 use generate::{documents, pairs, rows, runs, sets, texts, Random};
 use reference::examples::{set_b, set_d, set_e, set_g};
 use reference::limits::{ANNOTATION_CELLS, MAX_NARROW_TAGS, MAX_ROWS, ROW_CELLS, STEP_CELLS};
-use reference::{check_automaton, check_names, Automaton, Form};
+use reference::{check_names, Automaton, Form};
 
 /// Bytes that hold every set.
 const SET_SPACE: usize = MAX_SET_BYTES;
 /// Annotations for which there is room, and steps in the run space.
 const ROOM: usize = 300;
 
-/// A set that forgets nothing in all forms; the wide one is the library's own work.
+/// A set that forgets nothing in all forms; the second and the third are the library's own work.
 struct Forms {
     narrow: Vec<u8>,
     wide: Vec<u8>,
@@ -29,13 +29,13 @@ struct Forms {
 
 impl Forms {
     fn of(narrow: Vec<u8>) -> Forms {
-        let Answer::Value(length) = widen_states(&narrow, SET_SPACE) else { panic!("the set is narrow") };
+        widen_states(&narrow, SET_SPACE);
         let wide = written(|out| interface::widen_states(&narrow, out));
-        assert_eq!(wide.len() as u64, length);
-        assert_eq!(narrow_states(&wide, narrow.len()), Answer::Value(narrow.len() as u64));
-        assert_eq!(written(|out| interface::narrow_states(&wide, out)), narrow, "there and back");
-        let set = check_automaton(&narrow).expect("the library took it");
-        let isolating = set.encode_in(Form::Isolating);
+        widen_rules(&wide, SET_SPACE);
+        let isolating = written(|out| interface::widen_rules(&wide, out));
+        let back = written(|out| interface::narrow_rules(&isolating, out));
+        let back = written(|out| interface::narrow_states(&back, out));
+        assert_eq!(back, narrow, "there and back");
         for set in [&narrow, &wide, &isolating] {
             assert_eq!(interface::check_automaton(set), 0);
         }
@@ -76,14 +76,6 @@ impl Forms {
         rows.truncate(ROW_CELLS * count as usize);
         rows
     }
-}
-
-/// The bytes that a call writes, of which its answer is the number.
-fn written(call: impl Fn(&mut [u8]) -> u64) -> Vec<u8> {
-    let mut out = vec![0; SET_SPACE];
-    let Answer::Value(length) = Answer::of_library(call(&mut out)) else { panic!("a refusal") };
-    out.truncate(length as usize);
-    out
 }
 
 /// The answer to a judging, with what it leaves in both spaces.
@@ -201,9 +193,9 @@ fn joined(operation: Operation, first: &[u8], second: &[u8], space: usize) -> (A
     (Answer::of_library(operation(first, second, out.space())), out.contents().to_vec())
 }
 
-/// Where either of two sets has rules of 14 bytes, the result has them too; it is the same set.
+/// Where either of two sets has rules of 14 bytes, the result has them too; it is the same set with its rules widened.
 fn has_long_rules_with_either(operation: Operation, first: &Forms, second: &Forms, result: &[u8]) {
-    let expected = check_automaton(result).expect("a sound set").encode_in(Form::Isolating);
+    let expected = written(|out| interface::widen_rules(result, out));
     let same = |one: &[u8], other: &[u8]| assert_eq!(written(|out| operation(one, other, out)), expected);
     if first.has_rules() {
         second.all().for_each(|other| same(&first.isolating, other));

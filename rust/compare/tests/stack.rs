@@ -303,20 +303,23 @@ fn a_union_of_1024_rules_is_merged() {
 }
 
 #[test]
-fn the_longest_sets_are_moved_to_the_other_form() {
+fn the_longest_sets_are_moved_to_each_form() {
     let mut set = lenient(16);
     set.states.resize(MAX_STATES, state(true, 255));
     set.tag_count = 8;
     assert_eq!((set.arities.len(), set.rules.len()), (64, 1024));
-    let narrow = set.encode();
-    let (mut out, mut back) = (vec![0; MAX_SET_BYTES], vec![0; MAX_SET_BYTES]);
-    let wide = with_little_stack(|| widen_states(&narrow, &mut out)).expect("the result fits");
-    assert_eq!(wide.len(), MAX_SET_BYTES - 2 * set.rules.len());
-    assert_eq!(with_little_stack(|| check_automaton(wide)), Ok(()));
-    assert_eq!(with_little_stack(|| narrow_states(wide, &mut back)), Ok(&narrow[..]));
-    let longest = set.encode_in(Form::Isolating);
-    assert_eq!(longest.len(), MAX_SET_BYTES);
-    assert_eq!(with_little_stack(|| check_automaton(&longest)), Ok(()));
-    let refused = with_little_stack(|| narrow_states(&longest, &mut back));
-    assert_eq!(refused, Err(Refusal { reason: Reason::SetForm, place: None }));
+    let [narrow, wide, isolating] = Form::ALL.map(|form| set.encode_in(form));
+    assert_eq!(isolating.len(), MAX_SET_BYTES);
+    let mut out = vec![0; MAX_SET_BYTES];
+    assert_eq!(with_little_stack(|| widen_states(&narrow, &mut out)), Ok(&wide[..]));
+    assert_eq!(with_little_stack(|| widen_rules(&wide, &mut out)), Ok(&isolating[..]));
+    assert_eq!(with_little_stack(|| check_automaton(&isolating)), Ok(()));
+    assert_eq!(with_little_stack(|| narrow_rules(&isolating, &mut out)), Ok(&wide[..]));
+    assert_eq!(with_little_stack(|| check_automaton(&wide)), Ok(()));
+    assert_eq!(with_little_stack(|| narrow_states(&wide, &mut out)), Ok(&narrow[..]));
+    let refused = |reason| Err(Refusal { reason, place: None });
+    assert_eq!(with_little_stack(|| narrow_states(&isolating, &mut out)), refused(Reason::SetForm));
+    set.rules[1023].forgets = 128;
+    let forgetting = set.encode();
+    assert_eq!(with_little_stack(|| narrow_rules(&forgetting, &mut out)), refused(Reason::RuleForgets));
 }

@@ -27,6 +27,15 @@ static uint8_t wide[] = {
     1, 0, 0, 0, 255, 255, 255, 255, 255, 255, 255, 255,
     2, 0, 0, 0, 255, 255, 255, 255, 255, 255, 255, 255,
 };
+/* And with rules of 14 bytes, which forget nothing. */
+static uint8_t isolating[] = {
+    3, 0, 2, 0, 1, 0, 3, 0, 16, 0, 19, 0, 25, 0, 67, 0,
+    2, 0, 0,
+    0, 1, 0, 1, 0, 0,
+    0, 0, 1, 0, 0, 0, 0, 0, 255, 255, 255, 255, 0, 0,
+    1, 0, 0, 0, 255, 255, 255, 255, 255, 255, 255, 255, 0, 0,
+    2, 0, 0, 0, 255, 255, 255, 255, 255, 255, 255, 255, 0, 0,
+};
 static uint16_t rows[] = {
     1, U, U, U, U, 2, 7, 0, 0, 0,
     0, 0, 0, U, U, 0, 0, 0, 0, 0,
@@ -97,6 +106,16 @@ static uint64_t narrow_states(const struct slice *lent)
     return cidhomba_narrow_states(BYTES(lent[0]), BYTES(lent[1]));
 }
 
+static uint64_t widen_rules(const struct slice *lent)
+{
+    return cidhomba_widen_rules(BYTES(lent[0]), BYTES(lent[1]));
+}
+
+static uint64_t narrow_rules(const struct slice *lent)
+{
+    return cidhomba_narrow_rules(BYTES(lent[0]), BYTES(lent[1]));
+}
+
 static uint64_t witness(const struct slice *lent)
 {
     return cidhomba_witness(BYTES(lent[0]), CELLS(lent[1]));
@@ -140,6 +159,8 @@ static const struct call calls[] = {
     {"product", product, 3, {LENT(set), LENT(set), LENT(out)}},
     {"widen_states", widen_states, 2, {LENT(set), LENT(out)}},
     {"narrow_states", narrow_states, 2, {LENT(wide), LENT(out)}},
+    {"widen_rules", widen_rules, 2, {LENT(wide), LENT(out)}},
+    {"narrow_rules", narrow_rules, 2, {LENT(isolating), LENT(out)}},
     {"witness", witness, 2, {LENT(set), LENT(row_space)}},
     {"read_term", read_term, 5, {LENT(set), LENT(names), NO_NAMES, LENT(text), LENT(row_space)}},
     {"write_term", write_term, 5, {LENT(set), LENT(names), NO_NAMES, LENT(rows), LENT(text_space)}},
@@ -204,8 +225,8 @@ static void told_results(void)
     /* The number of the call above, elements of its result, and bytes of an element. */
     static const struct {
         size_t call, count, width;
-    } results[] = {{3, 12, 2}, {4, 103, 1}, {5, 67, 1}, {6, 61, 1}, {7, 59, 1},
-                   {8, 20, 2}, {9, 20, 2}, {10, 13, 1}, {11, 30, 2}};
+    } results[] = {{3, 12, 2}, {4, 103, 1}, {5, 67, 1}, {6, 61, 1}, {7, 59, 1}, {8, 67, 1},
+                   {9, 61, 1}, {10, 20, 2}, {11, 20, 2}, {12, 13, 1}, {13, 30, 2}};
     size_t i;
     for (i = 0; i < LENGTH(results); i++) {
         struct call call = calls[results[i].call];

@@ -78,7 +78,7 @@ fn the_sizes_are_those_of_the_wrapper() {
 
 /// For each function what its calls answer where one slice after the other has the count 0, and where all have: the
 /// number of a refusal, or 0 for a value.
-const WITHOUT: [(&str, &[u8]); 12] = [
+const WITHOUT: [(&str, &[u8]); 14] = [
     ("check_automaton", &[1, 1]),
     ("check_document", &[1, 11, 1]),
     ("check_run", &[1, 11, 21, 1]),
@@ -87,6 +87,8 @@ const WITHOUT: [(&str, &[u8]); 12] = [
     ("product", &[1, 1, 53, 1]),
     ("widen_states", &[1, 53, 1]),
     ("narrow_states", &[1, 53, 1]),
+    ("widen_rules", &[1, 53, 1]),
+    ("narrow_rules", &[1, 53, 1]),
     ("witness", &[1, 42, 1]),
     ("read_term", &[1, 65, 0, 63, 67, 1]),
     ("write_term", &[1, 0, 0, 11, 68, 1]),
@@ -128,6 +130,9 @@ fn results_fill_spaces_that_were_never_written() {
     hold("product: 67", product(&set, &set, &mut out).expect("a set"));
     hold("widen_states: 61", widen_states(&set, &mut out).expect("a set"));
     hold("narrow_states: 59", &set);
+    let wide = files::bytes("examples/e-wide.set");
+    hold("widen_rules: 67", widen_rules(&wide, &mut out).expect("a set"));
+    hold("narrow_rules: 61", &wide);
     let lowest = witness(&set, &mut space).expect("a document");
     let Witness::Live { rows, levels: 2 } = lowest else { panic!("{lowest:?}") };
     let rows: Vec<u8> = rows.iter().flat_map(|cell| cell.to_le_bytes()).collect();

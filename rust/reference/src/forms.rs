@@ -1,5 +1,5 @@
 //! The three forms of a stored set, which differ in how wide its states and its rules are (document 02, Wishes 2 and 9),
-//! and the moves between the first two, refusals 18, 8 and 53.
+//! and the four moves between neighbouring ones (Wishes 2 and 10), refusals 18, 8, 10 and 53.
 
 use crate::automaton::Automaton;
 use crate::limits::{
@@ -90,22 +90,47 @@ impl Form {
     pub fn total(self, symbols: usize, states: usize, rules: usize) -> usize {
         self.rules_offset(symbols, states) + self.rule_bytes() * rules
     }
+
+    /// Whether a set of so many rules that forgets nothing has the same bytes in this form and in another. Without rules
+    /// the two wide forms do not differ, and a set is in both.
+    fn has_the_bytes_of(self, other: Form, rules: usize) -> bool {
+        self.state_bytes() == other.state_bytes() && self.rule_bytes() * rules == other.rule_bytes() * rules
+    }
 }
 
 /// The bytes of a narrow set in the wide form, for a result space of so many bytes.
 pub fn widen_states(set: &[u8], space: usize) -> Result<Vec<u8>, Refusal> {
-    let (form, automaton) = check_with_form(set)?;
-    refuse_if(form != Form::Narrow, 18)?;
+    let automaton = take_from(Form::Narrow, set)?;
     write(&automaton, Form::Wide, space)
 }
 
 /// The bytes of a wide set in the narrow form, for a result space of so many bytes. What counts is how many tags the set
 /// has, not which of them a state carries; and that its rules have 12 bytes, not whether they would forget anything.
 pub fn narrow_states(set: &[u8], space: usize) -> Result<Vec<u8>, Refusal> {
-    let (form, automaton) = check_with_form(set)?;
-    refuse_if(form != Form::Wide, 18)?;
+    let automaton = take_from(Form::Wide, set)?;
     refuse_if(automaton.tag_count > Form::Narrow.most_tags(), 8)?;
     write(&automaton, Form::Narrow, space)
+}
+
+/// The bytes of a wide set in the isolating form, with nothing forgotten, for a result space of so many bytes.
+pub fn widen_rules(set: &[u8], space: usize) -> Result<Vec<u8>, Refusal> {
+    let automaton = take_from(Form::Wide, set)?;
+    write(&automaton, Form::Isolating, space)
+}
+
+/// The bytes of an isolating set in the wide form, for a result space of so many bytes. What counts is that a rule names a
+/// tag to forget, not whether that has an effect.
+pub fn narrow_rules(set: &[u8], space: usize) -> Result<Vec<u8>, Refusal> {
+    let automaton = take_from(Form::Isolating, set)?;
+    refuse_if(automaton.forgets(), 10)?;
+    write(&automaton, Form::Wide, space)
+}
+
+/// A sound set, or 18 where it is not in the form that a move starts from.
+fn take_from(start: Form, set: &[u8]) -> Result<Automaton, Refusal> {
+    let (told, automaton) = check_with_form(set)?;
+    refuse_if(!start.has_the_bytes_of(told, automaton.rules.len()), 18)?;
+    Ok(automaton)
 }
 
 /// The bytes of a set in a form, or 53 where the space is shorter.

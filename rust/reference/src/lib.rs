@@ -35,7 +35,7 @@ pub mod witness;
 pub use automaton::{Automaton, Rule, State};
 pub use boolean::{product, union};
 pub use document::{check_document, Document, Row, Scalar, MINUS_ZERO};
-pub use forms::{narrow_states, widen_states, Form};
+pub use forms::{narrow_rules, narrow_states, widen_rules, widen_states, Form};
 pub use json_reader::read_json;
 pub use json_tree::json_tree;
 pub use membership::{membership, Judgement};

@@ -93,9 +93,6 @@ fn written(
 ) -> Result<Vec<u8>, u8> {
     rules.sort_unstable();
     let rule_bytes = first.rule_bytes.max(second.rule_bytes);
-    let result = Set { arities: first.arities, states, tags: first.tags + second.tags, rules, rule_bytes };
-    if result.stored_length() > space {
-        return Err(53);
-    }
-    Ok(result.write())
+    let tags = first.tags + second.tags;
+    Set { arities: first.arities, states, tags, rules, state_bytes: 3, rule_bytes }.write(space)
 }

@@ -3,6 +3,7 @@
 pub mod boolean;
 pub mod json;
 pub mod membership;
+pub mod moves;
 pub mod set;
 pub mod table;
 pub mod term;

@@ -1,5 +1,4 @@
-//! A stored set: checked (1 to 7 and 9) and decoded in any form, and written in the wide one, with tags to forget or
-//! without.
+//! A stored set: checked (1 to 7 and 9) and decoded in any form, and written in the form that its widths tell.
 
 use super::UNUSED;
 
@@ -8,6 +7,8 @@ pub struct Set {
     pub states: Vec<State>,
     pub tags: usize,
     pub rules: Vec<Rule>,
+    /// Bytes of a stored state: 2, or 3 with two bytes of tags.
+    pub state_bytes: usize,
     /// Bytes of a stored rule: 12, or 14 with tags to forget. Without rules it is 12.
     pub rule_bytes: usize,
 }
@@ -121,7 +122,7 @@ pub fn read(bytes: &[u8]) -> Result<Set, u8> {
     if rule_bytes == 14 && rules.iter().any(|rule| is_strange(rule.forgets)) {
         return Err(9);
     }
-    Ok(Set { arities, states, tags, rules, rule_bytes })
+    Ok(Set { arities, states, tags, rules, state_bytes, rule_bytes })
 }
 
 /// Whether a rule names known symbols and states and leaves unused places at 65535.
@@ -134,16 +135,19 @@ fn fits(rule: &Rule, arities: &[u8], states: usize) -> bool {
 }
 
 impl Set {
-    /// The length of the wide form, with rules as long as they are to be.
-    pub fn stored_length(&self) -> usize {
-        16 + self.arities.len() + 3 * self.states.len() + self.rule_bytes * self.rules.len()
+    /// The length with states and rules as long as they are to be.
+    fn stored_length(&self) -> usize {
+        16 + self.arities.len() + self.state_bytes * self.states.len() + self.rule_bytes * self.rules.len()
     }
 
-    /// The wide form.
-    pub fn write(&self) -> Vec<u8> {
+    /// The stored form for a space of so many bytes, or 53.
+    pub fn write(&self, space: usize) -> Result<Vec<u8>, u8> {
         let states_at = 16 + self.arities.len();
-        let rules_at = states_at + 3 * self.states.len();
+        let rules_at = states_at + self.state_bytes * self.states.len();
         let length = self.stored_length();
+        if length > space {
+            return Err(53);
+        }
         let counts = [self.arities.len(), self.states.len(), self.tags, self.rules.len()];
         let mut bytes = Vec::with_capacity(length);
         for number in counts.into_iter().chain([16, states_at, rules_at, length]) {
@@ -152,7 +156,10 @@ impl Set {
         bytes.extend(&self.arities);
         for state in &self.states {
             let [low, high] = state.tags.to_le_bytes();
-            bytes.extend([u8::from(state.is_final), low, high]);
+            match self.state_bytes {
+                3 => bytes.extend([u8::from(state.is_final), low, high]),
+                _ => bytes.extend([u8::from(state.is_final), low]),
+            }
         }
         for Rule { symbol, children: [a, b, c, d], target, forgets } in &self.rules {
             for number in [symbol, target, a, b, c, d] {
@@ -162,6 +169,6 @@ impl Set {
                 bytes.extend(forgets.to_le_bytes());
             }
         }
-        bytes
+        Ok(bytes)
     }
 }

@@ -3,6 +3,7 @@
 pub mod boolean;
 pub mod check;
 pub mod membership;
+pub mod moves;
 pub mod read_json;
 pub mod read_term;
 mod texts;
