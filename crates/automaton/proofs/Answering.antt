@@ -12,34 +12,34 @@ use Rattle.automaton.specs.declared.Form.{Form}
 use Rattle.automaton.specs.declared.Written.{Written}
 use Rattle.automaton.specs.declared.Written.TheVariants.{Length, Refused}
 use Rattle.automaton.specs.Form.{HasRoom}
-use Rattle.automaton.specs.Encode.{encode, encodedLength, space_of}
-use Rattle.automaton.specs.Answer.{writtenAnswer, Stores}
-use Rattle.automaton.proofs.Encoded.{encode-length}
-use Rattle.automaton.proofs.RoundTrip.{decode-encode, encode-sound}
+use Rattle.automaton.specs.Encode.{encode, encoded_length, space_of}
+use Rattle.automaton.specs.Answer.{written_answer, Stores}
+use Rattle.automaton.proofs.Encoded.{encode_length}
+use Rattle.automaton.proofs.RoundTrip.{decode_encode, encode_sound}
 
 module _ (form : Form) (A : Automaton) (space : List ℕ) where
   -- the answer and the space afterwards are those of the number k
   abbrev pub Answered : ℕ → Written → List ℕ → Type 0
-  Answered k r after = (writtenAnswer r ≡ unless k (encodedLength form A)) × (after ≡ space_of k form A space)
+  Answered k r after = (written_answer r ≡ unless k (encoded_length form A)) × (after ≡ space_of k form A space)
 
-  pub refused-answer : (k m : ℕ) → m ≡ k → (m ≡ 0 → ⊥) → Answered k (Refused m) space
+  pub refused_answer : (k m : ℕ) → m ≡ k → (m ≡ 0 → ⊥) → Answered k (Refused m) space
   unfolding unless
-  refused-answer zero m e h = absurd (h e)
-  refused-answer (suc k) m e h = (ap refuses e, refl)
+  refused_answer zero m e h = absurd (h e)
+  refused_answer (suc k) m e h = (ap refuses e, refl)
 
-  pub written-answer : (k r : ℕ) (after : List ℕ) → k ≡ 0 → r ≡ encodedLength form A → after ≡ encode form A ++ drop r space → Answered k (Length r) after
+  pub written_answer_lem : (k r : ℕ) (after : List ℕ) → k ≡ 0 → r ≡ encoded_length form A → after ≡ encode form A ++ drop r space → Answered k (Length r) after
   unfolding unless
-  written-answer zero r after e el es = (ap gives el, es ∙ ap (λ (z : ℕ). encode form A ++ drop z space) el)
-  written-answer (suc k) r after e el es = absurd (omega arith)
+  written_answer_lem zero r after e el es = (ap gives el, es ∙ ap (λ (z : ℕ). encode form A ++ drop z space) el)
+  written_answer_lem (suc k) r after e el es = absurd (omega arith)
 
   -- Where a length is given, there is no number, and so many bytes at the front are the automaton, stored ..
-  pub given-length : (k n : ℕ) → unless k (encodedLength form A) ≡ gives n → (k ≡ 0) × (n ≡ encodedLength form A) × (take n (space_of k form A space) ≡ encode form A)
+  pub given_length : (k n : ℕ) → unless k (encoded_length form A) ≡ gives n → (k ≡ 0) × (n ≡ encoded_length form A) × (take n (space_of k form A space) ≡ encode form A)
   unfolding unless
-  given-length zero n e =
-      let l : encodedLength form A ≡ n = cc in
-      (refl, sym l, take_at (encode form A) (drop (encodedLength form A) space) n (encode-length form A ∙ l))
-  given-length (suc k) n e = let z : ◌≡◌ {A = ℕ} 0 1 = cc in absurd (omega arith)
+  given_length zero n e =
+      let l : encoded_length form A ≡ n = cc in
+      (refl, sym l, take_at (encode form A) (drop (encoded_length form A) space) n (encode_length form A ∙ l))
+  given_length (suc k) n e = let z : ◌≡◌ {A = ℕ} 0 1 = cc in absurd (omega arith)
 
   -- .. which is a sound set where the automaton is sound and the form has room for it.
-  pub given-stores : (k n : ℕ) → unless k (encodedLength form A) ≡ gives n → Sound A → HasRoom form A → Stores (take n (space_of k form A space)) A
-  given-stores k n e s b = subst (λ (z : List ℕ). Stores z A) (sym (given-length k n e).2) (record { sound = encode-sound form A s b; decoded = decode-encode form A s b })
+  pub given_stores : (k n : ℕ) → unless k (encoded_length form A) ≡ gives n → Sound A → HasRoom form A → Stores (take n (space_of k form A space)) A
+  given_stores k n e s b = subst (λ (z : List ℕ). Stores z A) (sym (given_length k n e).2) (record { sound = encode_sound form A s b; decoded = decode_encode form A s b })

@@ -8,130 +8,130 @@ use native.Mathlib.Omega.{arith}
 use lib.Dec.{eqb}
 use lib.ListN.{length, get_or, take, drop}
 use lib.Seq.{take-add, take_all, drop-cons}
-use Rattle.model.specs.Limits.{maxChildren}
-use Rattle.model.specs.Lists.{concatMap, tab}
+use Rattle.model.specs.Limits.{max_children}
+use Rattle.model.specs.Lists.{concat_map, tab}
 use Rattle.model.specs.Order.{place}
-use Rattle.automaton.specs.Form.{headerWidth, tagsWidth, stateWidth, ruleNumbers, ruleWidth, keptMask, statesOffset, rulesOffset, totalLength}
-use Rattle.automaton.specs.Stored.{word, symbolCount, stateCount, tagCount, ruleCount, symbolsAt, rulesAt, form_of, statePlace, symbolByte, finalByte, tagsAt, tagsOf, ruleWord, placeWord, forgetOf, state_of, ruleOf, decode}
-use Rattle.automaton.specs.Encode.{encodeWord, encodeHeader, encodeSymbol, encodeTags, encodeState, maskNumbers, encodePlaces, encodeRule, encode}
-use Rattle.automaton.specs.Check.{checkOf}
+use Rattle.automaton.specs.Form.{header_width, tags_width, state_width, rule_numbers, rule_width, kept_mask, states_offset, rules_offset, total_length}
+use Rattle.automaton.specs.Stored.{word, symbol_count, state_count, tag_count, rule_count, symbols_at, rules_at, form_of, state_place, symbol_byte, final_byte, tags_at, tags_of, rule_word, place_word, forget_of, state_of, rule_of, decode}
+use Rattle.automaton.specs.Encode.{encode_word, encode_header, encode_symbol, encode_tags, encode_state, mask_numbers, encode_places, encode_rule, encode}
+use Rattle.automaton.specs.Check.{check_of}
 use Rattle.automaton.specs.declared.Form.{Form}
 use Rattle.automaton.specs.declared.Form.TheVariants.{Narrow, Wide, Isolating}
-use Rattle.automaton.proofs.Parts.{inside, tab-same, part-tab, concat-tab}
-use Rattle.automaton.proofs.Widths.{width-numbers}
+use Rattle.automaton.proofs.Parts.{inside, tab_same, part_tab, concat_tab}
+use Rattle.automaton.proofs.Widths.{width_numbers}
 use Rattle.automaton.proofs.Words.{bytes_back}
-use Rattle.automaton.proofs.Decode.{symbols-are, states-are, rules-are}
+use Rattle.automaton.proofs.Decode.{symbols_are, states_are, rules_are}
 use Rattle.automaton.proofs.Passes.{Passes, passes}
 use Rattle.automaton.proofs.Sound.{place_is}
-use Rattle.automaton.proofs.Encoded.{encodeOf, symbol-width, state-width, rule-width}
+use Rattle.automaton.proofs.Encoded.{encode_of, symbol_width, state_width_lem, rule_width_lem}
 
 -- a flag byte is what its state's flag is stored as
-flag-back : (x : ℕ) → x ≤ 1 → cond (eqb x 1) 1 0 ≡ x
-flag-back zero l = refl
-flag-back (suc zero) l = refl
-flag-back (suc (suc x)) l = absurd (omega arith)
+flag_back : (x : ℕ) → x ≤ 1 → cond (eqb x 1) 1 0 ≡ x
+flag_back zero l = refl
+flag_back (suc zero) l = refl
+flag_back (suc (suc x)) l = absurd (omega arith)
 
 module _ (s : List ℕ) (bytes : (k : ℕ) → get_or s k 0 < 256) where
-  word-part : (q : ℕ) → q + 2 ≤ length s → encodeWord (word s q) ≡ take 2 (drop q s)
+  word_part : (q : ℕ) → q + 2 ≤ length s → encode_word (word s q) ≡ take 2 (drop q s)
   unfolding word
-  word-part q l =
+  word_part q l =
       bytes_back (get_or s q 0) (get_or s (q + 1) 0) (bytes q) (bytes (q + 1))
       ∙ ap (λ (n : ℕ). get_or s n 0 ∷ get_or s (q + 1) 0 ∷ []) (sym (add-zero q))
-      ∙ sym (part-tab 2 q s l)
+      ∙ sym (part_tab 2 q s l)
 
-  words-part : (n q : ℕ) → q + 2 * n ≤ length s → concatMap encodeWord (tab n (λ k. word s (q + 2 * k))) ≡ take (2 * n) (drop q s)
-  words-part n q l = concat-tab encodeWord 2 (λ x. refl) s n (λ k. word s (q + 2 * k)) q (λ i m. word-part (q + 2 * i) (omega arith))
+  words_part : (n q : ℕ) → q + 2 * n ≤ length s → concat_map encode_word (tab n (λ k. word s (q + 2 * k))) ≡ take (2 * n) (drop q s)
+  words_part n q l = concat_tab encode_word 2 (λ x. refl) s n (λ k. word s (q + 2 * k)) q (λ i m. word_part (q + 2 * i) (omega arith))
 
   -- tags as they stand, in either form
-  tags-part : (form : Form) (k : ℕ) → k + tagsWidth form ≤ length s → encodeTags form (tagsAt form s k) ≡ take (tagsWidth form) (drop k s)
-  unfolding tagsWidth tagsAt encodeTags
-  tags-part Narrow k l =
+  tags_part : (form : Form) (k : ℕ) → k + tags_width form ≤ length s → encode_tags form (tags_at form s k) ≡ take (tags_width form) (drop k s)
+  unfolding tags_width tags_at encode_tags
+  tags_part Narrow k l =
       ap (λ (x : ℕ). x ∷ []) (mod-eq_of_lt (bytes k) ∙ ap (λ (n : ℕ). get_or s n 0) (sym (add-zero k)))
-      ∙ sym (part-tab 1 k s l)
-  tags-part Wide k l = word-part k l
-  tags-part Isolating k l = word-part k l
+      ∙ sym (part_tab 1 k s l)
+  tags_part Wide k l = word_part k l
+  tags_part Isolating k l = word_part k l
 
   module _ (p : Passes s) where
     abbrev S : ℕ
-    S = symbolCount s
+    S = symbol_count s
 
     abbrev Q : ℕ
-    Q = stateCount s
+    Q = state_count s
 
     abbrev R : ℕ
-    R = ruleCount s
+    R = rule_count s
 
     abbrev F : Form
     F = form_of s
 
-    header-part : encodeHeader F S Q (tagCount s) R ≡ take headerWidth s
-    unfolding encodeHeader
-    header-part =
+    header_part : encode_header F S Q (tag_count s) R ≡ take header_width s
+    unfolding encode_header
+    header_part =
         let o = p.offsets in
-        let one = o.symbols-at in let two = o.states-at in let three = o.rules-at in let four = o.total in
-        let same : S ∷ Q ∷ tagCount s ∷ R ∷ headerWidth ∷ statesOffset S ∷ rulesOffset F S Q ∷ totalLength F S Q R ∷ [] ≡ tab 8 (λ k. word s (0 + 2 * k)) = cc in
-        ap (λ (ws : List ℕ). concatMap encodeWord ws) same ∙ words-part 8 0 p.header
+        let one = o.symbols_at_lem in let two = o.states_at_lem in let three = o.rules_at_lem in let four = o.total in
+        let same : S ∷ Q ∷ tag_count s ∷ R ∷ header_width ∷ states_offset S ∷ rules_offset F S Q ∷ total_length F S Q R ∷ [] ≡ tab 8 (λ k. word s (0 + 2 * k)) = cc in
+        ap (λ (ws : List ℕ). concat_map encode_word ws) same ∙ words_part 8 0 p.header
 
-    symbol-part : (i : ℕ) → i < S → encodeSymbol (symbolByte s i) ≡ take 1 (drop (headerWidth + 1 * i) s)
-    unfolding encodeSymbol symbolByte
-    symbol-part i l =
-        let e : symbolsAt s + i ≡ headerWidth + 1 * i + 0 = omega (arith, p.offsets.symbols-at) in
-        let small = bytes (symbolsAt s + i) in
+    symbol_part : (i : ℕ) → i < S → encode_symbol (symbol_byte s i) ≡ take 1 (drop (header_width + 1 * i) s)
+    unfolding encode_symbol symbol_byte
+    symbol_part i l =
+        let e : symbols_at s + i ≡ header_width + 1 * i + 0 = omega (arith, p.offsets.symbols_at_lem) in
+        let small = bytes (symbols_at s + i) in
         ap (λ (x : ℕ). x ∷ []) (mod-eq_of_lt small ∙ ap (λ (n : ℕ). get_or s n 0) e)
-        ∙ sym (part-tab 1 (headerWidth + 1 * i) s (omega (arith, p.offsets.whole)))
+        ∙ sym (part_tab 1 (header_width + 1 * i) s (omega (arith, p.offsets.whole)))
 
-    state-part : (q : ℕ) → q < Q → encodeOf F (state_of s q) ≡ take (stateWidth F) (drop (statesOffset S + stateWidth F * q) s)
-    unfolding encodeState finalByte tagsOf stateWidth
-    state-part q l =
-        let o = statesOffset S + stateWidth F * q in
-        let e : statePlace s q ≡ o = omega (arith, p.offsets.states-at) in
-        let e' : statePlace s q + 1 ≡ suc o = omega arith in
-        let room : o + stateWidth F ≤ length s = omega (arith, p.offsets.whole, inside (stateWidth F) q Q l) in
-        let flag : cond (eqb (finalByte s q) 1) 1 0 ≡ get_or s o 0 = flag-back (finalByte s q) (p.states q l).0 ∙ ap (λ (n : ℕ). get_or s n 0) e in
-        let tags : encodeTags F (tagsOf s q) ≡ take (tagsWidth F) (drop (suc o) s) = tags-part F (statePlace s q + 1) (omega arith) ∙ ap (λ (n : ℕ). take (tagsWidth F) (drop n s)) e' in
-        let both : cond (eqb (finalByte s q) 1) 1 0 ∷ encodeTags F (tagsOf s q) ≡ get_or s o 0 ∷ take (tagsWidth F) (drop (suc o) s) = cc in
-        let wide : suc (tagsWidth F) ≡ stateWidth F = omega arith in
-        both ∙ sym (ap (λ (r : List ℕ). take (suc (tagsWidth F)) r) (drop-cons s o 0 (omega arith))) ∙ ap (λ (n : ℕ). take n (drop o s)) wide
+    state_part : (q : ℕ) → q < Q → encode_of F (state_of s q) ≡ take (state_width F) (drop (states_offset S + state_width F * q) s)
+    unfolding encode_state final_byte tags_of state_width
+    state_part q l =
+        let o = states_offset S + state_width F * q in
+        let e : state_place s q ≡ o = omega (arith, p.offsets.states_at_lem) in
+        let e' : state_place s q + 1 ≡ suc o = omega arith in
+        let room : o + state_width F ≤ length s = omega (arith, p.offsets.whole, inside (state_width F) q Q l) in
+        let flag : cond (eqb (final_byte s q) 1) 1 0 ≡ get_or s o 0 = flag_back (final_byte s q) (p.states q l).0 ∙ ap (λ (n : ℕ). get_or s n 0) e in
+        let tags : encode_tags F (tags_of s q) ≡ take (tags_width F) (drop (suc o) s) = tags_part F (state_place s q + 1) (omega arith) ∙ ap (λ (n : ℕ). take (tags_width F) (drop n s)) e' in
+        let both : cond (eqb (final_byte s q) 1) 1 0 ∷ encode_tags F (tags_of s q) ≡ get_or s o 0 ∷ take (tags_width F) (drop (suc o) s) = cc in
+        let wide : suc (tags_width F) ≡ state_width F = omega arith in
+        both ∙ sym (ap (λ (r : List ℕ). take (suc (tags_width F)) r) (drop-cons s o 0 (omega arith))) ∙ ap (λ (n : ℕ). take n (drop o s)) wide
 
     -- the numbers of a rule are those that its form has
-    rule-numbers : (form : Form) (f : ℕ → ℕ) → tab (maxChildren + 2) f ++ maskNumbers form (keptMask form (f (maxChildren + 2))) ≡ tab (ruleNumbers form) f
-    unfolding maskNumbers keptMask ruleNumbers
-    rule-numbers Narrow f = refl
-    rule-numbers Wide f = refl
-    rule-numbers Isolating f = refl
+    rule_numbers_lem : (form : Form) (f : ℕ → ℕ) → tab (max_children + 2) f ++ mask_numbers form (kept_mask form (f (max_children + 2))) ≡ tab (rule_numbers form) f
+    unfolding mask_numbers kept_mask rule_numbers
+    rule_numbers_lem Narrow f = refl
+    rule_numbers_lem Wide f = refl
+    rule_numbers_lem Isolating f = refl
 
-    rule-part : (i : ℕ) → i < R → encodeRule F (ruleOf s i) ≡ take (ruleWidth F) (drop (rulesOffset F S Q + ruleWidth F * i) s)
-    unfolding encodePlaces ruleWord forgetOf
-    rule-part i l =
-        let w = width-numbers F in
-        ap (λ (ps : List ℕ). concatMap encodeWord (ruleWord s i 0 ∷ ruleWord s i 1 ∷ ps ++ maskNumbers F (forgetOf s i))) (tab-same maxChildren (place (ruleOf s i)) (placeWord s i) (place_is s p i l))
-        ∙ ap (concatMap encodeWord) (rule-numbers F (ruleWord s i))
-        ∙ words-part (ruleNumbers F) (rulesAt s + ruleWidth F * i) (omega (arith, p.offsets.whole, p.offsets.rules-at, inside (ruleWidth F) i R l))
-        ∙ ap (λ (n : ℕ). take n (drop (rulesAt s + ruleWidth F * i) s)) (sym w)
-        ∙ ap (λ (n : ℕ). take (ruleWidth F) (drop (n + ruleWidth F * i) s)) p.offsets.rules-at
+    rule_part : (i : ℕ) → i < R → encode_rule F (rule_of s i) ≡ take (rule_width F) (drop (rules_offset F S Q + rule_width F * i) s)
+    unfolding encode_places rule_word forget_of
+    rule_part i l =
+        let w = width_numbers F in
+        ap (λ (ps : List ℕ). concat_map encode_word (rule_word s i 0 ∷ rule_word s i 1 ∷ ps ++ mask_numbers F (forget_of s i))) (tab_same max_children (place (rule_of s i)) (place_word s i) (place_is s p i l))
+        ∙ ap (concat_map encode_word) (rule_numbers_lem F (rule_word s i))
+        ∙ words_part (rule_numbers F) (rules_at s + rule_width F * i) (omega (arith, p.offsets.whole, p.offsets.rules_at_lem, inside (rule_width F) i R l))
+        ∙ ap (λ (n : ℕ). take n (drop (rules_at s + rule_width F * i) s)) (sym w)
+        ∙ ap (λ (n : ℕ). take (rule_width F) (drop (n + rule_width F * i) s)) p.offsets.rules_at_lem
 
-    symbols-part : concatMap encodeSymbol (tab S (symbolByte s)) ≡ take (1 * S) (drop headerWidth s)
-    symbols-part = concat-tab encodeSymbol 1 symbol-width s S (symbolByte s) headerWidth symbol-part
+    symbols_part : concat_map encode_symbol (tab S (symbol_byte s)) ≡ take (1 * S) (drop header_width s)
+    symbols_part = concat_tab encode_symbol 1 symbol_width s S (symbol_byte s) header_width symbol_part
 
-    states-part : concatMap (encodeOf F) (tab Q (state_of s)) ≡ take (stateWidth F * Q) (drop (statesOffset S) s)
-    states-part = concat-tab (encodeOf F) (stateWidth F) (state-width F) s Q (state_of s) (statesOffset S) state-part
+    states_part : concat_map (encode_of F) (tab Q (state_of s)) ≡ take (state_width F * Q) (drop (states_offset S) s)
+    states_part = concat_tab (encode_of F) (state_width F) (state_width_lem F) s Q (state_of s) (states_offset S) state_part
 
-    rules-part : concatMap (encodeRule F) (tab R (ruleOf s)) ≡ take (ruleWidth F * R) (drop (rulesOffset F S Q) s)
-    rules-part = concat-tab (encodeRule F) (ruleWidth F) (rule-width F) s R (ruleOf s) (rulesOffset F S Q) rule-part
+    rules_part : concat_map (encode_rule F) (tab R (rule_of s)) ≡ take (rule_width F * R) (drop (rules_offset F S Q) s)
+    rules_part = concat_tab (encode_rule F) (rule_width F) (rule_width_lem F) s R (rule_of s) (rules_offset F S Q) rule_part
 
-    parts : take headerWidth s ++ take (1 * S) (drop headerWidth s) ++ take (stateWidth F * Q) (drop (statesOffset S) s) ++ take (ruleWidth F * R) (drop (rulesOffset F S Q) s) ≡ s
+    parts : take header_width s ++ take (1 * S) (drop header_width s) ++ take (state_width F * Q) (drop (states_offset S) s) ++ take (rule_width F * R) (drop (rules_offset F S Q) s) ≡ s
     parts =
-        let e : headerWidth + 1 * S ≡ statesOffset S = omega arith in
-        let one : take headerWidth s ++ take (1 * S) (drop headerWidth s) ≡ take (statesOffset S) s = sym (take-add headerWidth (1 * S) s) ∙ ap (λ (n : ℕ). take n s) e in
-        ap (λ (l : List ℕ). l ++ take (stateWidth F * Q) (drop (statesOffset S) s) ++ take (ruleWidth F * R) (drop (rulesOffset F S Q) s)) one
-        ∙ ap (λ (l : List ℕ). l ++ take (ruleWidth F * R) (drop (rulesOffset F S Q) s)) (sym (take-add (statesOffset S) (stateWidth F * Q) s))
-        ∙ sym (take-add (rulesOffset F S Q) (ruleWidth F * R) s)
-        ∙ take_all (totalLength F S Q R) s (le_of_eq p.offsets.whole)
+        let e : header_width + 1 * S ≡ states_offset S = omega arith in
+        let one : take header_width s ++ take (1 * S) (drop header_width s) ≡ take (states_offset S) s = sym (take-add header_width (1 * S) s) ∙ ap (λ (n : ℕ). take n s) e in
+        ap (λ (l : List ℕ). l ++ take (state_width F * Q) (drop (states_offset S) s) ++ take (rule_width F * R) (drop (rules_offset F S Q) s)) one
+        ∙ ap (λ (l : List ℕ). l ++ take (rule_width F * R) (drop (rules_offset F S Q) s)) (sym (take-add (states_offset S) (state_width F * Q) s))
+        ∙ sym (take-add (rules_offset F S Q) (rule_width F * R) s)
+        ∙ take_all (total_length F S Q R) s (le_of_eq p.offsets.whole)
 
-    back : encodeHeader F S Q (tagCount s) R ++ concatMap encodeSymbol (tab S (symbolByte s)) ++ concatMap (encodeOf F) (tab Q (state_of s)) ++ concatMap (encodeRule F) (tab R (ruleOf s)) ≡ s
-    back = rw (header-part, symbols-part, states-part, rules-part) parts
+    back : encode_header F S Q (tag_count s) R ++ concat_map encode_symbol (tab S (symbol_byte s)) ++ concat_map (encode_of F) (tab Q (state_of s)) ++ concat_map (encode_rule F) (tab R (rule_of s)) ≡ s
+    back = rw (header_part, symbols_part, states_part, rules_part) parts
 
 -- Encoding in the form that the bytes are in undoes decoding.
-pub encode-decode : (s : List ℕ) → checkOf s ≡ 0 → ((k : ℕ) → get_or s k 0 < 256) → encode (form_of s) (decode s) ≡ s
+pub encode_decode : (s : List ℕ) → check_of s ≡ 0 → ((k : ℕ) → get_or s k 0 < 256) → encode (form_of s) (decode s) ≡ s
 unfolding encode decode
-encode-decode s h bytes = rw (symbols-are s, states-are s, rules-are s) (back s bytes (passes s h))
+encode_decode s h bytes = rw (symbols_are s, states_are s, rules_are s) (back s bytes (passes s h))

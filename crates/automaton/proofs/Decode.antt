@@ -7,119 +7,119 @@ use lib.Dec.{eqb, ltb}
 use lib.ListN.{length, get_or}
 use borrow.Author.Rules.{rules}
 use borrow.Author.Tests.{ltb-true, ltb-false}
-use Rattle.model.specs.Limits.{maxChildren, unused}
+use Rattle.model.specs.Limits.{max_children, unused}
 use Rattle.model.specs.Lists.{tab}
-use Rattle.model.specs.Automaton.{Rule, State, noState, stateAt, arityOf, final?}
+use Rattle.model.specs.Automaton.{Rule, State, no_state, state_at, arity_of, final?}
 use Rattle.model.specs.Order.{place}
-use Rattle.model.specs.Written.{noRule, ruleAt}
-use Rattle.model.proofs.Tab.{tab-at, tab-past, length-tab}
-use Rattle.automaton.proofs.Parts.{tab-same}
-use Rattle.automaton.specs.Stored.{symbolCount, stateCount, tagCount, ruleCount, symbolByte, finalByte, tagsOf, ruleWord, placeWord, place_of, forgetOf, state_of, ruleOf, decode}
+use Rattle.model.specs.Written.{no_rule, rule_at}
+use Rattle.model.proofs.Tab.{tab_at, tab_past, length_tab}
+use Rattle.automaton.proofs.Parts.{tab_same}
+use Rattle.automaton.specs.Stored.{symbol_count, state_count, tag_count, rule_count, symbol_byte, final_byte, tags_of, rule_word, place_word, place_of, forget_of, state_of, rule_of, decode}
 
 module _ (s : List ℕ) where
-  pub symbols-are : length (decode s).arities ≡ symbolCount s
+  pub symbols_are : length (decode s).arities ≡ symbol_count s
   unfolding decode
-  symbols-are = length-tab (symbolCount s) (symbolByte s)
+  symbols_are = length_tab (symbol_count s) (symbol_byte s)
 
-  pub states-are : length (decode s).states ≡ stateCount s
+  pub states_are : length (decode s).states ≡ state_count s
   unfolding decode
-  states-are = length-tab (stateCount s) (state_of s)
+  states_are = length_tab (state_count s) (state_of s)
 
-  pub tags-are : (decode s).tags ≡ tagCount s
+  pub tags_are : (decode s).tags ≡ tag_count s
   unfolding decode
-  tags-are = refl
+  tags_are = refl
 
-  pub rules-are : length (decode s).rules ≡ ruleCount s
+  pub rules_are : length (decode s).rules ≡ rule_count s
   unfolding decode
-  rules-are = length-tab (ruleCount s) (ruleOf s)
+  rules_are = length_tab (rule_count s) (rule_of s)
 
-  pub arity-known : (f : ℕ) → f < symbolCount s → arityOf (decode s) f ≡ symbolByte s f
+  pub arity_known : (f : ℕ) → f < symbol_count s → arity_of (decode s) f ≡ symbol_byte s f
   unfolding decode
-  arity-known f l = tab-at 0 (symbolCount s) (symbolByte s) f l
+  arity_known f l = tab_at 0 (symbol_count s) (symbol_byte s) f l
 
-  pub arity-unknown : (f : ℕ) → symbolCount s ≤ f → arityOf (decode s) f ≡ 0
+  pub arity_unknown : (f : ℕ) → symbol_count s ≤ f → arity_of (decode s) f ≡ 0
   unfolding decode
-  arity-unknown f l = tab-past 0 (symbolCount s) (symbolByte s) f l
+  arity_unknown f l = tab_past 0 (symbol_count s) (symbol_byte s) f l
 
-  pub state-known : (q : ℕ) → q < stateCount s → stateAt (decode s) q ≡ state_of s q
+  pub state_known : (q : ℕ) → q < state_count s → state_at (decode s) q ≡ state_of s q
   unfolding decode
-  state-known q l = tab-at noState (stateCount s) (state_of s) q l
+  state_known q l = tab_at no_state (state_count s) (state_of s) q l
 
-  pub state-unknown : (q : ℕ) → stateCount s ≤ q → stateAt (decode s) q ≡ noState
+  pub state_unknown : (q : ℕ) → state_count s ≤ q → state_at (decode s) q ≡ no_state
   unfolding decode
-  state-unknown q l = tab-past noState (stateCount s) (state_of s) q l
+  state_unknown q l = tab_past no_state (state_count s) (state_of s) q l
 
-  pub rule-known : (i : ℕ) → i < ruleCount s → ruleAt (decode s) i ≡ ruleOf s i
+  pub rule_known : (i : ℕ) → i < rule_count s → rule_at (decode s) i ≡ rule_of s i
   unfolding decode
-  rule-known i l = tab-at noRule (ruleCount s) (ruleOf s) i l
+  rule_known i l = tab_at no_rule (rule_count s) (rule_of s) i l
 
-  pub rule-unknown : (i : ℕ) → ruleCount s ≤ i → ruleAt (decode s) i ≡ noRule
+  pub rule_unknown : (i : ℕ) → rule_count s ≤ i → rule_at (decode s) i ≡ no_rule
   unfolding decode
-  rule-unknown i l = tab-past noRule (ruleCount s) (ruleOf s) i l
+  rule_unknown i l = tab_past no_rule (rule_count s) (rule_of s) i l
 
-  place_in : (i n k : ℕ) (b : Bool) → ltb k n ≡ b → get_or (tab n (placeWord s i)) k unused ≡ cond b (placeWord s i k) unused
-  place_in i n k true e = tab-at unused n (placeWord s i) k (ltb-true k n e)
-  place_in i n k false e = tab-past unused n (placeWord s i) k (ltb-false k n e)
+  place_in : (i n k : ℕ) (b : Bool) → ltb k n ≡ b → get_or (tab n (place_word s i)) k unused ≡ cond b (place_word s i k) unused
+  place_in i n k true e = tab_at unused n (place_word s i) k (ltb-true k n e)
+  place_in i n k false e = tab_past unused n (place_word s i) k (ltb-false k n e)
 
-  pub place-known : (i k : ℕ) → i < ruleCount s → place (ruleAt (decode s) i) k ≡ place_of s i (arityOf (decode s) (ruleWord s i 0)) k
+  pub place_known : (i k : ℕ) → i < rule_count s → place (rule_at (decode s) i) k ≡ place_of s i (arity_of (decode s) (rule_word s i 0)) k
   unfolding decode place_of
-  place-known i k l = ap (λ (r : Rule). place r k) (rule-known i l) ∙ place_in i (arityOf (decode s) (ruleWord s i 0)) k (ltb k (arityOf (decode s) (ruleWord s i 0))) refl
+  place_known i k l = ap (λ (r : Rule). place r k) (rule_known i l) ∙ place_in i (arity_of (decode s) (rule_word s i 0)) k (ltb k (arity_of (decode s) (rule_word s i 0))) refl
 
-  pub place-unknown : (i k : ℕ) → ruleCount s ≤ i → place (ruleAt (decode s) i) k ≡ unused
-  place-unknown i k l = ap (λ (r : Rule). place r k) (rule-unknown i l)
+  pub place_unknown : (i k : ℕ) → rule_count s ≤ i → place (rule_at (decode s) i) k ≡ unused
+  place_unknown i k l = ap (λ (r : Rule). place r k) (rule_unknown i l)
 
 -- the same of values that were read: n is a count, x what stands at the index
 module _ (s : List ℕ) (n x : ℕ) where
-  pub read-arity : (f : ℕ) → n ≡ symbolCount s → f < n → x ≡ symbolByte s f → x ≡ arityOf (decode s) f
-  read-arity f e l h = h ∙ sym (arity-known s f (rw e at l))
+  pub read_arity : (f : ℕ) → n ≡ symbol_count s → f < n → x ≡ symbol_byte s f → x ≡ arity_of (decode s) f
+  read_arity f e l h = h ∙ sym (arity_known s f (rw e at l))
 
-  pub read-mask : (q : ℕ) → n ≡ stateCount s → q < n → x ≡ tagsOf s q → x ≡ (stateAt (decode s) q).mask
-  read-mask q e l h = h ∙ sym (ap (λ (z : State). z.mask) (state-known s q (rw e at l)))
+  pub read_mask : (q : ℕ) → n ≡ state_count s → q < n → x ≡ tags_of s q → x ≡ (state_at (decode s) q).mask
+  read_mask q e l h = h ∙ sym (ap (λ (z : State). z.mask) (state_known s q (rw e at l)))
 
-  pub read-final : (q : ℕ) → n ≡ stateCount s → q < n → x ≡ finalByte s q → eqb x 1 ≡ final? (decode s) q
-  read-final q e l h = rw h (sym (ap (λ (z : State). z.final) (state-known s q (rw e at l))))
+  pub read_final : (q : ℕ) → n ≡ state_count s → q < n → x ≡ final_byte s q → eqb x 1 ≡ final? (decode s) q
+  read_final q e l h = rw h (sym (ap (λ (z : State). z.final) (state_known s q (rw e at l))))
 
-  pub read-symbol : (i : ℕ) → n ≡ length (decode s).rules → i < n → x ≡ ruleWord s i 0 → x ≡ (ruleAt (decode s) i).symbol
-  read-symbol i e l h = h ∙ sym (ap (λ (r : Rule). r.symbol) (rule-known s i (rw (e ∙ rules-are s) at l)))
+  pub read_symbol : (i : ℕ) → n ≡ length (decode s).rules → i < n → x ≡ rule_word s i 0 → x ≡ (rule_at (decode s) i).symbol
+  read_symbol i e l h = h ∙ sym (ap (λ (r : Rule). r.symbol) (rule_known s i (rw (e ∙ rules_are s) at l)))
 
-  pub read-target : (i : ℕ) → n ≡ length (decode s).rules → i < n → x ≡ ruleWord s i 1 → x ≡ (ruleAt (decode s) i).target
-  read-target i e l h = h ∙ sym (ap (λ (r : Rule). r.target) (rule-known s i (rw (e ∙ rules-are s) at l)))
+  pub read_target : (i : ℕ) → n ≡ length (decode s).rules → i < n → x ≡ rule_word s i 1 → x ≡ (rule_at (decode s) i).target
+  read_target i e l h = h ∙ sym (ap (λ (r : Rule). r.target) (rule_known s i (rw (e ∙ rules_are s) at l)))
 
-  pub read-forget : (i : ℕ) → n ≡ length (decode s).rules → i < n → x ≡ forgetOf s i → x ≡ (ruleAt (decode s) i).forget
-  read-forget i e l h = h ∙ sym (ap (λ (r : Rule). r.forget) (rule-known s i (rw (e ∙ rules-are s) at l)))
+  pub read_forget : (i : ℕ) → n ≡ length (decode s).rules → i < n → x ≡ forget_of s i → x ≡ (rule_at (decode s) i).forget
+  read_forget i e l h = h ∙ sym (ap (λ (r : Rule). r.forget) (rule_known s i (rw (e ∙ rules_are s) at l)))
 
 -- the symbol f, its arity a, and what was read of the places
-module _ (s : List ℕ) (n i f a : ℕ) (e : n ≡ length (decode s).rules) (l : i < n) (ef : f ≡ ruleWord s i 0) (ea : a ≡ arityOf (decode s) f) where
-  pub read-place : (x k : ℕ) → x ≡ place_of s i a k → x ≡ place (ruleAt (decode s) i) k
-  read-place x k h = rw (place-known s i k (rw (e ∙ rules-are s) at l), ← ef, ← ea) h
+module _ (s : List ℕ) (n i f a : ℕ) (e : n ≡ length (decode s).rules) (l : i < n) (ef : f ≡ rule_word s i 0) (ea : a ≡ arity_of (decode s) f) where
+  pub read_place : (x k : ℕ) → x ≡ place_of s i a k → x ≡ place (rule_at (decode s) i) k
+  read_place x k h = rw (place_known s i k (rw (e ∙ rules_are s) at l), ← ef, ← ea) h
 
-  pub read-places : (xs : List ℕ) → xs ≡ tab maxChildren (place_of s i a) → xs ≡ tab maxChildren (place (ruleAt (decode s) i))
-  read-places xs h = h ∙ tab-same maxChildren (place_of s i a) (place (ruleAt (decode s) i)) (λ k lk. read-place (place_of s i a k) k refl)
+  pub read_places : (xs : List ℕ) → xs ≡ tab max_children (place_of s i a) → xs ≡ tab max_children (place (rule_at (decode s) i))
+  read_places xs h = h ∙ tab_same max_children (place_of s i a) (place (rule_at (decode s) i)) (λ k lk. read_place (place_of s i a k) k refl)
 
 -- past the count, what nothing has
 module _ (s : List ℕ) (n : ℕ) where
-  pub no-arity : (f : ℕ) → n ≡ symbolCount s → n ≤ f → 0 ≡ arityOf (decode s) f
-  no-arity f e l = sym (arity-unknown s f (rw e at l))
+  pub no_arity : (f : ℕ) → n ≡ symbol_count s → n ≤ f → 0 ≡ arity_of (decode s) f
+  no_arity f e l = sym (arity_unknown s f (rw e at l))
 
-  pub no-mask : (q : ℕ) → n ≡ stateCount s → n ≤ q → 0 ≡ (stateAt (decode s) q).mask
-  no-mask q e l = sym (ap (λ (z : State). z.mask) (state-unknown s q (rw e at l)))
+  pub no_mask : (q : ℕ) → n ≡ state_count s → n ≤ q → 0 ≡ (state_at (decode s) q).mask
+  no_mask q e l = sym (ap (λ (z : State). z.mask) (state_unknown s q (rw e at l)))
 
-  pub no-final : (q : ℕ) → n ≡ stateCount s → n ≤ q → false ≡ final? (decode s) q
-  no-final q e l = sym (ap (λ (z : State). z.final) (state-unknown s q (rw e at l)))
+  pub no_final : (q : ℕ) → n ≡ state_count s → n ≤ q → false ≡ final? (decode s) q
+  no_final q e l = sym (ap (λ (z : State). z.final) (state_unknown s q (rw e at l)))
 
-  pub no_symbol : (i : ℕ) → n ≡ length (decode s).rules → n ≤ i → 0 ≡ (ruleAt (decode s) i).symbol
-  no_symbol i e l = sym (ap (λ (r : Rule). r.symbol) (rule-unknown s i (rw (e ∙ rules-are s) at l)))
+  pub no_symbol : (i : ℕ) → n ≡ length (decode s).rules → n ≤ i → 0 ≡ (rule_at (decode s) i).symbol
+  no_symbol i e l = sym (ap (λ (r : Rule). r.symbol) (rule_unknown s i (rw (e ∙ rules_are s) at l)))
 
-  pub no_target : (i : ℕ) → n ≡ length (decode s).rules → n ≤ i → 0 ≡ (ruleAt (decode s) i).target
-  no_target i e l = sym (ap (λ (r : Rule). r.target) (rule-unknown s i (rw (e ∙ rules-are s) at l)))
+  pub no_target : (i : ℕ) → n ≡ length (decode s).rules → n ≤ i → 0 ≡ (rule_at (decode s) i).target
+  no_target i e l = sym (ap (λ (r : Rule). r.target) (rule_unknown s i (rw (e ∙ rules_are s) at l)))
 
-  pub no_forget : (i : ℕ) → n ≡ length (decode s).rules → n ≤ i → 0 ≡ (ruleAt (decode s) i).forget
-  no_forget i e l = sym (ap (λ (r : Rule). r.forget) (rule-unknown s i (rw (e ∙ rules-are s) at l)))
+  pub no_forget : (i : ℕ) → n ≡ length (decode s).rules → n ≤ i → 0 ≡ (rule_at (decode s) i).forget
+  no_forget i e l = sym (ap (λ (r : Rule). r.forget) (rule_unknown s i (rw (e ∙ rules_are s) at l)))
 
-  pub no_place : (i k : ℕ) → n ≡ length (decode s).rules → n ≤ i → unused ≡ place (ruleAt (decode s) i) k
-  no_place i k e l = sym (place-unknown s i k (rw (e ∙ rules-are s) at l))
+  pub no_place : (i k : ℕ) → n ≡ length (decode s).rules → n ≤ i → unused ≡ place (rule_at (decode s) i) k
+  no_place i k e l = sym (place_unknown s i k (rw (e ∙ rules_are s) at l))
 
-  pub no-places : (i : ℕ) → n ≡ length (decode s).rules → n ≤ i → tab maxChildren (λ (k : ℕ). unused) ≡ tab maxChildren (place (ruleAt (decode s) i))
-  no-places i e l = tab-same maxChildren (λ (k : ℕ). unused) (place (ruleAt (decode s) i)) (λ k lk. no_place i k e l)
+  pub no_places : (i : ℕ) → n ≡ length (decode s).rules → n ≤ i → tab max_children (λ (k : ℕ). unused) ≡ tab max_children (place (rule_at (decode s) i))
+  no_places i e l = tab_same max_children (λ (k : ℕ). unused) (place (rule_at (decode s) i)) (λ k lk. no_place i k e l)
 
-pub ruleset reads = (read-place, no_place, read-arity, read-mask, read-final, read-symbol, read-target, read-forget, no-arity, no-mask, no-final, no_symbol, no_target, no_forget, rules)
+pub ruleset reads = (read_place, no_place, read_arity, read_mask, read_final, read_symbol, read_target, read_forget, no_arity, no_mask, no_final, no_symbol, no_target, no_forget, rules)

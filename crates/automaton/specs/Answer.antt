@@ -1,12 +1,12 @@
 -- What the answers say, and what the accessors' values stand for. Assumes nothing.
 use Rattle.std.specs.Prelude.{◌≡◌, List, map, ℕ, length}
-use Rattle.model.specs.Limits.{maxChildren}
+use Rattle.model.specs.Limits.{max_children}
 use Rattle.model.specs.Lists.{tab}
 use Rattle.model.specs.Automaton.{Rule, Automaton}
 use Rattle.model.specs.Order.{place}
 use Rattle.model.specs.Refusal.{Answer, gives, refuses}
-use Rattle.automaton.specs.Stored.{decode, statedTotal}
-use Rattle.automaton.specs.Check.{checkOf}
+use Rattle.automaton.specs.Stored.{decode, stated_total}
+use Rattle.automaton.specs.Check.{check_of}
 use Rattle.automaton.specs.declared.Checked.{Checked}
 use Rattle.automaton.specs.declared.Checked.TheVariants.{Passed, Refused}
 use Rattle.automaton.specs.declared.Written.{Written}
@@ -16,18 +16,18 @@ use Rattle.automaton.specs.declared.StoredHeader.{StoredHeader}
 use Rattle.automaton.specs.declared.StoredRule.{StoredRule}
 
 -- what the check answers: passed, or refused with a number
-abbrev pub checkAnswer : Checked → Answer (Unit {0})
-checkAnswer Passed = gives tt
-checkAnswer (Refused n) = refuses n
+abbrev pub check_answer : Checked → Answer (Unit {0})
+check_answer Passed = gives tt
+check_answer (Refused n) = refuses n
 
 -- what is answered where a set is written: how many bytes, or a refusal's number
-abbrev pub writtenAnswer : Written → Answer ℕ
-writtenAnswer (Length n) = gives n
-writtenAnswer (Written.Refused n) = refuses n
+abbrev pub written_answer : Written → Answer ℕ
+written_answer (Length n) = gives n
+written_answer (Written.Refused n) = refuses n
 
 -- bytes that are a sound set, and the automaton that they stand for
 pub record Stores (bytes : List ℕ) (A : Automaton) : Type 0 where
-  pub sound : checkOf bytes ≡ 0
+  pub sound : check_of bytes ≡ 0
   pub decoded : decode bytes ≡ A
 
 -- what the header of the bytes s counts, and the total that it states
@@ -36,11 +36,11 @@ pub record Counts (h : StoredHeader) (s : List ℕ) : Type 0 where
   pub states : h.states ≡ length (decode s).states
   pub tags : h.tags ≡ (decode s).tags
   pub rules : h.rules ≡ length (decode s).rules
-  pub total : h.total ≡ statedTotal s
+  pub total : h.total ≡ stated_total s
 
 -- x is the rule r with its child places
 pub record IsRule (x : StoredRule) (r : Rule) : Type 0 where
   pub symbol : x.symbol ≡ r.symbol
   pub target : x.target.0 ≡ r.target
-  pub places : map (λ q. q.0) x.places ≡ tab maxChildren (place r)
+  pub places : map (λ q. q.0) x.places ≡ tab max_children (place r)
   pub forget : x.forget ≡ r.forget

@@ -1,15 +1,15 @@
 // The stored forms of an automaton: their check, what they say by index, and their writing (`write`).
 ghost use Rattle.std.specs.Prelude.{◌≡◌, map, eqb, length};
-ghost use Rattle.model.specs.Automaton.{stateAt, arityOf, final?, forgetsNothing?};
-ghost use Rattle.model.specs.Limits.{maxChildren};
+ghost use Rattle.model.specs.Automaton.{state_at, arity_of, final?, forgets_nothing?};
+ghost use Rattle.model.specs.Limits.{max_children};
 ghost use Rattle.model.specs.Lists.{tab};
 ghost use Rattle.model.specs.Order.{place};
 ghost use Rattle.model.specs.Refusal.{unless};
-ghost use Rattle.model.specs.Written.{ruleAt};
-ghost use Rattle.automaton.specs.Stored.{rulesAt, form_of, place_of, decode};
-ghost use Rattle.automaton.specs.Check.{checkOf};
-ghost use Rattle.automaton.specs.Window.{rulesFrom};
-ghost use Rattle.automaton.specs.Answer.{checkAnswer, Counts, IsRule};
+ghost use Rattle.model.specs.Written.{rule_at};
+ghost use Rattle.automaton.specs.Stored.{rules_at, form_of, place_of, decode};
+ghost use Rattle.automaton.specs.Check.{check_of};
+ghost use Rattle.automaton.specs.Window.{rules_from};
+ghost use Rattle.automaton.specs.Answer.{check_answer, Counts, IsRule};
 
 pub mod copy;
 pub mod layout;
@@ -72,7 +72,7 @@ pub enum Written {
 }
 
 pub fn check(set: &[u8]) -> Checked
-    ensures { checkAnswer result ≡ unless (checkOf set.now) tt }
+    ensures { check_answer result ≡ unless (check_of set.now) tt }
 {
     if set.len() < HEADER_WIDTH {
         return Checked::Refused(1);
@@ -128,7 +128,7 @@ fn rules(set: &[u8]) -> u16
 }
 
 pub fn arity(set: &[u8], symbol: u16) -> u16
-    ensures { result ≡ arityOf (decode set.now) symbol }
+    ensures { result ≡ arity_of (decode set.now) symbol }
 {
     if symbol < header_word(set, 0) {
         symbol_byte(set, symbols_at(set), symbol)
@@ -149,7 +149,7 @@ pub fn is_final(set: &[u8], q: State) -> bool
 
 // The tags of a state, bit k for tag k.
 pub fn tags_of(set: &[u8], q: State) -> u16
-    ensures { result ≡ (stateAt (decode set.now) q.0).mask }
+    ensures { result ≡ (state_at (decode set.now) q.0).mask }
 {
     if q.0 < header_word(set, 2) {
         tags_word(set, form_at(set), states_at(set), q)
@@ -159,7 +159,7 @@ pub fn tags_of(set: &[u8], q: State) -> u16
 }
 
 pub fn rule_symbol(set: &[u8], i: u16) -> u16
-    ensures { result ≡ (ruleAt (decode set.now) i).symbol }
+    ensures { result ≡ (rule_at (decode set.now) i).symbol }
 {
     if i < rules(set) {
         rule_word(set, form_at(set), rules_at(set), i, 0)
@@ -169,7 +169,7 @@ pub fn rule_symbol(set: &[u8], i: u16) -> u16
 }
 
 pub fn rule_target(set: &[u8], i: u16) -> State
-    ensures { result.0 ≡ (ruleAt (decode set.now) i).target }
+    ensures { result.0 ≡ (rule_at (decode set.now) i).target }
 {
     if i < rules(set) {
         State(rule_word(set, form_at(set), rules_at(set), i, 1))
@@ -180,7 +180,7 @@ pub fn rule_target(set: &[u8], i: u16) -> State
 
 // The tags that a rule forgets, bit k for tag k.
 pub fn rule_forget(set: &[u8], i: u16) -> u16
-    ensures { result ≡ (ruleAt (decode set.now) i).forget }
+    ensures { result ≡ (rule_at (decode set.now) i).forget }
 {
     if i < rules(set) {
         forget_word(set, form_at(set), rules_at(set), i)
@@ -191,7 +191,7 @@ pub fn rule_forget(set: &[u8], i: u16) -> u16
 
 // The state in child place k of rule i, whose symbol has n children, where the rules start at byte `first`; UNUSED where there is no such child.
 fn place_of(set: &[u8], form: Form, first: u16, i: u16, n: u16, k: u16) -> State
-    requires { (form ≡ form_of set.now) × (first ≡ rulesAt set.now) }
+    requires { (form ≡ form_of set.now) × (first ≡ rules_at set.now) }
     ensures { result.0 ≡ place_of set.now i n k }
 {
     if k < n {
@@ -203,7 +203,7 @@ fn place_of(set: &[u8], form: Form, first: u16, i: u16, n: u16, k: u16) -> State
 
 // The state in child place k of rule i; UNUSED where the rule's symbol has no such child, whatever stands in the bytes, and where there is no such rule.
 pub fn rule_child(set: &[u8], i: u16, k: u16) -> State
-    ensures { result.0 ≡ place (ruleAt (decode set.now) i) k }
+    ensures { result.0 ≡ place (rule_at (decode set.now) i) k }
 {
     if i < rules(set) {
         let form = form_at(set);
@@ -217,8 +217,8 @@ pub fn rule_child(set: &[u8], i: u16, k: u16) -> State
 
 // The child places of rule i, whose symbol has n children, where the rules start at byte `first`.
 fn places_of(set: &[u8], form: Form, first: u16, i: u16, n: u16) -> [State; 4]
-    requires { (form ≡ form_of set.now) × (first ≡ rulesAt set.now) }
-    ensures { map (λ q. q.0) result ≡ tab maxChildren (place_of set.now i n) }
+    requires { (form ≡ form_of set.now) × (first ≡ rules_at set.now) }
+    ensures { map (λ q. q.0) result ≡ tab max_children (place_of set.now i n) }
 {
     let mut places = [State(UNUSED); 4];
     let mut k = 0;
@@ -231,7 +231,7 @@ fn places_of(set: &[u8], form: Form, first: u16, i: u16, n: u16) -> [State; 4]
 }
 
 pub fn rule(set: &[u8], i: u16) -> StoredRule
-    ensures { IsRule result (ruleAt (decode set.now) i) }
+    ensures { IsRule result (rule_at (decode set.now) i) }
 {
     if i < rules(set) {
         let form = form_at(set);
@@ -256,14 +256,14 @@ pub fn rule(set: &[u8], i: u16) -> StoredRule
 
 // Rule i names no tag to forget.
 fn keeps_all(set: &[u8], i: u16) -> bool
-    ensures { result ≡ eqb (ruleAt (decode set.now) i).forget 0 }
+    ensures { result ≡ eqb (rule_at (decode set.now) i).forget 0 }
 {
     rule_forget(set, i) == 0
 }
 
 // No rule names a tag to forget.
 pub fn forgets_nothing(set: &[u8]) -> bool
-    ensures { result ≡ forgetsNothing? (decode set.now) }
+    ensures { result ≡ forgets_nothing? (decode set.now) }
 {
     let n = rules(set);
     let mut i = 0;
@@ -279,7 +279,7 @@ pub fn forgets_nothing(set: &[u8]) -> bool
 
 // Where bisection for the first rule whose symbol is the given one or higher ends; in a sound set that is the rule's number, or the number of rules.
 pub fn rules_from(set: &[u8], symbol: u16) -> u16
-    ensures { result ≡ rulesFrom (decode set.now) symbol }
+    ensures { result ≡ rules_from (decode set.now) symbol }
 {
     let form = form_at(set);
     let first = rules_at(set);

@@ -1,7 +1,7 @@
 // What stands in the stored forms, by index, read through a reader of the set. Whoever reads several symbols, states or rules reads the form and the
 // header's offset of them once, and hands them over.
 ghost use Rattle.std.specs.Prelude.{◌≡◌, ◌<◌, get_or};
-ghost use Rattle.automaton.specs.Stored.{word, symbolsAt, statesAt, rulesAt, form_of, symbolByte, finalByte, tagsAt, tagsOf, ruleWord, placeWord, forgetOf};
+ghost use Rattle.automaton.specs.Stored.{word, symbols_at, states_at, rules_at, form_of, symbol_byte, final_byte, tags_at, tags_of, rule_word, place_word, forget_of};
 
 use super::layout::{rule_place, rules_length, state_place, states_length};
 use super::reader::number_at;
@@ -23,19 +23,19 @@ pub(crate) fn header_word(s: &[u8], at: usize) -> u16
 
 // Where the symbols, the states and the rules start.
 pub(crate) fn symbols_at(s: &[u8]) -> u16
-    ensures { result ≡ symbolsAt s.now }
+    ensures { result ≡ symbols_at s.now }
 {
     header_word(s, 8)
 }
 
 pub(crate) fn states_at(s: &[u8]) -> u16
-    ensures { result ≡ statesAt s.now }
+    ensures { result ≡ states_at s.now }
 {
     header_word(s, 10)
 }
 
 pub(crate) fn rules_at(s: &[u8]) -> u16
-    ensures { result ≡ rulesAt s.now }
+    ensures { result ≡ rules_at s.now }
 {
     header_word(s, 12)
 }
@@ -66,23 +66,23 @@ fn byte_at(s: &[u8], at: usize) -> u16
 
 // The byte of symbol i, where the symbols start at byte `first`.
 pub(crate) fn symbol_byte(s: &[u8], first: u16, i: u16) -> u16
-    requires { first ≡ symbolsAt s.now }
-    ensures { (result ≡ symbolByte s.now i) × (result < 256) }
+    requires { first ≡ symbols_at s.now }
+    ensures { (result ≡ symbol_byte s.now i) × (result < 256) }
 {
     byte_at(s, size(first) + size(i))
 }
 
 // The first byte of state q, where the states start at byte `first`.
 pub(crate) fn final_byte(s: &[u8], form: Form, first: u16, q: State) -> u16
-    requires { (form ≡ form_of s.now) × (first ≡ statesAt s.now) }
-    ensures { result ≡ finalByte s.now q.0 }
+    requires { (form ≡ form_of s.now) × (first ≡ states_at s.now) }
+    ensures { result ≡ final_byte s.now q.0 }
 {
     byte_at(s, state_place(form, first, q))
 }
 
 // The tags at byte `at`: a byte in the narrow form, a number in the others.
 fn tags_at(s: &[u8], form: Form, at: usize) -> u16
-    ensures { result ≡ tagsAt form s.now at }
+    ensures { result ≡ tags_at form s.now at }
 {
     match form {
         Form::Narrow => byte_at(s, at),
@@ -93,32 +93,32 @@ fn tags_at(s: &[u8], form: Form, at: usize) -> u16
 
 // The tags of state q, where the states start at byte `first`.
 pub(crate) fn tags_word(s: &[u8], form: Form, first: u16, q: State) -> u16
-    requires { (form ≡ form_of s.now) × (first ≡ statesAt s.now) }
-    ensures { result ≡ tagsOf s.now q.0 }
+    requires { (form ≡ form_of s.now) × (first ≡ states_at s.now) }
+    ensures { result ≡ tags_of s.now q.0 }
 {
     tags_at(s, form, state_place(form, first, q) + 1)
 }
 
 // Number k of rule i, where the rules start at byte `first`.
 pub(crate) fn rule_word(s: &[u8], form: Form, first: u16, i: u16, k: u16) -> u16
-    requires { (form ≡ form_of s.now) × (first ≡ rulesAt s.now) }
-    ensures { result ≡ ruleWord s.now i k }
+    requires { (form ≡ form_of s.now) × (first ≡ rules_at s.now) }
+    ensures { result ≡ rule_word s.now i k }
 {
     number_at(s, rule_place(form, first, i), k)
 }
 
 // What stands in child place k of rule i, where the rules start at byte `first`.
 pub(crate) fn place_word(s: &[u8], form: Form, first: u16, i: u16, k: u16) -> u16
-    requires { (form ≡ form_of s.now) × (first ≡ rulesAt s.now) }
-    ensures { result ≡ placeWord s.now i k }
+    requires { (form ≡ form_of s.now) × (first ≡ rules_at s.now) }
+    ensures { result ≡ place_word s.now i k }
 {
     number_at(s, rule_place(form, first, i) + PLACES_AT, k)
 }
 
 // The tags that rule i forgets, where the rules start at byte `first`: none in a form that has no place for them.
 pub(crate) fn forget_word(s: &[u8], form: Form, first: u16, i: u16) -> u16
-    requires { (form ≡ form_of s.now) × (first ≡ rulesAt s.now) }
-    ensures { result ≡ forgetOf s.now i }
+    requires { (form ≡ form_of s.now) × (first ≡ rules_at s.now) }
+    ensures { result ≡ forget_of s.now i }
 {
     match form {
         Form::Narrow => 0,

@@ -1,9 +1,9 @@
 // The check's tests 2 to 7 and 9, each over the whole input.
 ghost use Rattle.std.specs.Prelude.{◌≡◌, ◌+◌, ◌-◌, ◌^◌, ◌≤◌, ◌<◌, eqb};
-ghost use Rattle.model.specs.Limits.{maxChildren, maxTags};
+ghost use Rattle.model.specs.Limits.{max_children, max_tags};
 ghost use Rattle.model.specs.Lists.{all_below};
-ghost use Rattle.automaton.specs.Stored.{word, symbolCount, stateCount, tagCount, ruleCount, symbolsAt, statesAt, rulesAt, form_of, symbolByte, ruleWord};
-ghost use Rattle.automaton.specs.Check.{countsOk, offsetsOk, symbolOk, stateOk, placeOk, ruleOk, keyWord, ascendsAt, forgetOk};
+ghost use Rattle.automaton.specs.Stored.{word, symbol_count, state_count, tag_count, rule_count, symbols_at, states_at, rules_at, form_of, symbol_byte, rule_word};
+ghost use Rattle.automaton.specs.Check.{counts_ok, offsets_ok, symbol_ok, state_ok, place_ok, rule_ok, key_word, ascends_at, forget_ok};
 ghost use Rattle.automaton.specs.Frame.{Framed};
 
 use super::layout::{HEADER_WIDTH, rules_offset, states_offset, tag_bits, total_length};
@@ -16,7 +16,7 @@ use base::limits::{MAX_CHILDREN, MAX_RULES, MAX_STATES, MAX_SYMBOLS, MAX_TAGS, U
 use base::numbers::size;
 
 pub(crate) fn counts(set: &[u8]) -> bool
-    ensures { result ≡ countsOk set.now }
+    ensures { result ≡ counts_ok set.now }
 {
     let s = header_word(set, 0);
     let q = header_word(set, 2);
@@ -36,7 +36,7 @@ fn holds(set: &[u8], at: usize, x: usize) -> bool
 }
 
 pub(crate) fn offsets(set: &[u8]) -> bool
-    ensures { result ≡ offsetsOk set.now }
+    ensures { result ≡ offsets_ok set.now }
 {
     let s = header_word(set, 0);
     let q = header_word(set, 2);
@@ -52,14 +52,14 @@ pub(crate) fn offsets(set: &[u8]) -> bool
 
 // Symbol i, where the symbols start at byte `first`.
 fn symbol(set: &[u8], first: u16, i: u16) -> bool
-    requires { first ≡ symbolsAt set.now }
-    ensures { result ≡ symbolOk set.now i }
+    requires { first ≡ symbols_at set.now }
+    ensures { result ≡ symbol_ok set.now i }
 {
     symbol_byte(set, first, i) <= MAX_CHILDREN
 }
 
 pub(crate) fn symbols(set: &[u8]) -> bool
-    ensures { result ≡ all_below (symbolCount set.now) (symbolOk set.now) }
+    ensures { result ≡ all_below (symbol_count set.now) (symbol_ok set.now) }
 {
     let n = header_word(set, 0);
     let first = symbols_at(set);
@@ -76,7 +76,7 @@ pub(crate) fn symbols(set: &[u8]) -> bool
 
 // The masks of t tags are below this.
 fn power(t: u16) -> usize
-    requires { t ≤ maxTags }
+    requires { t ≤ max_tags }
     ensures { result ≡ 2 ^ t }
 {
     1 << t
@@ -84,15 +84,15 @@ fn power(t: u16) -> usize
 
 // State q, where the states start at byte `first` and a mask is below `bound`.
 fn state(set: &[u8], form: Form, first: u16, q: State, bound: usize) -> bool
-    requires { (form ≡ form_of set.now) × (first ≡ statesAt set.now) × (bound ≡ 2 ^ tagCount set.now) }
-    ensures { result ≡ stateOk set.now q.0 }
+    requires { (form ≡ form_of set.now) × (first ≡ states_at set.now) × (bound ≡ 2 ^ tag_count set.now) }
+    ensures { result ≡ state_ok set.now q.0 }
 {
     (final_byte(set, form, first, q) <= 1) & (size(tags_word(set, form, first, q)) < bound)
 }
 
 pub(crate) fn states(set: &[u8]) -> bool
-    requires { tagCount set.now ≤ maxTags }
-    ensures { result ≡ all_below (stateCount set.now) (stateOk set.now) }
+    requires { tag_count set.now ≤ max_tags }
+    ensures { result ≡ all_below (state_count set.now) (state_ok set.now) }
 {
     let n = header_word(set, 2);
     let form = form_at(set);
@@ -134,8 +134,8 @@ fn read_frame(set: &[u8]) -> Frame
 
 // Child place k of rule i, whose symbol has n children.
 fn place(set: &[u8], f: Frame, i: u16, n: u16, k: u16) -> bool
-    requires { Framed f set.now × (n ≡ symbolByte set.now (ruleWord set.now i 0)) }
-    ensures { result ≡ placeOk set.now i k }
+    requires { Framed f set.now × (n ≡ symbol_byte set.now (rule_word set.now i 0)) }
+    ensures { result ≡ place_ok set.now i k }
 {
     let form = f.form;
     let x = place_word(set, form, f.rules, i, k);
@@ -143,8 +143,8 @@ fn place(set: &[u8], f: Frame, i: u16, n: u16, k: u16) -> bool
 }
 
 fn places(set: &[u8], f: Frame, i: u16, n: u16) -> bool
-    requires { Framed f set.now × (n ≡ symbolByte set.now (ruleWord set.now i 0)) }
-    ensures { result ≡ all_below maxChildren (placeOk set.now i) }
+    requires { Framed f set.now × (n ≡ symbol_byte set.now (rule_word set.now i 0)) }
+    ensures { result ≡ all_below max_children (place_ok set.now i) }
 {
     let most = MAX_CHILDREN;
     let mut k = 0;
@@ -160,7 +160,7 @@ fn places(set: &[u8], f: Frame, i: u16, n: u16) -> bool
 
 fn rule(set: &[u8], f: Frame, i: u16) -> bool
     requires { Framed f set.now }
-    ensures { result ≡ ruleOk set.now i }
+    ensures { result ≡ rule_ok set.now i }
 {
     let form = f.form;
     let symbol = rule_word(set, form, f.rules, i, 0);
@@ -170,7 +170,7 @@ fn rule(set: &[u8], f: Frame, i: u16) -> bool
 }
 
 pub(crate) fn rules(set: &[u8]) -> bool
-    ensures { result ≡ all_below (ruleCount set.now) (ruleOk set.now) }
+    ensures { result ≡ all_below (rule_count set.now) (rule_ok set.now) }
 {
     let n = header_word(set, 6);
     let f = read_frame(set);
@@ -187,8 +187,8 @@ pub(crate) fn rules(set: &[u8]) -> bool
 
 // Number k of what rules are sorted by, where the rules start at byte `first`.
 fn key(set: &[u8], form: Form, first: u16, i: u16, k: u16) -> u16
-    requires { (form ≡ form_of set.now) × (first ≡ rulesAt set.now) }
-    ensures { result ≡ keyWord set.now i k }
+    requires { (form ≡ form_of set.now) × (first ≡ rules_at set.now) }
+    ensures { result ≡ key_word set.now i k }
 {
     if k == 0 {
         return rule_word(set, form, first, i, 0);
@@ -201,8 +201,8 @@ fn key(set: &[u8], form: Form, first: u16, i: u16, k: u16) -> u16
 
 // Whether rule i stands before the next, where the rules start at byte `first`.
 fn ascends(set: &[u8], form: Form, first: u16, i: u16) -> bool
-    requires { (form ≡ form_of set.now) × (first ≡ rulesAt set.now) × (i < 65535) }
-    ensures { result ≡ ascendsAt set.now i }
+    requires { (form ≡ form_of set.now) × (first ≡ rules_at set.now) × (i < 65535) }
+    ensures { result ≡ ascends_at set.now i }
 {
     let n = MAX_CHILDREN + 2;
     let mut k = 0;
@@ -222,14 +222,14 @@ fn ascends(set: &[u8], form: Form, first: u16, i: u16) -> bool
 
 // How many rules have a next one.
 fn steps(set: &[u8]) -> u16
-    ensures { result ≡ ruleCount set.now - 1 }
+    ensures { result ≡ rule_count set.now - 1 }
 {
     let n = header_word(set, 6);
     if n == 0 { 0 } else { n - 1 }
 }
 
 pub(crate) fn ascending(set: &[u8]) -> bool
-    ensures { result ≡ all_below (ruleCount set.now - 1) (ascendsAt set.now) }
+    ensures { result ≡ all_below (rule_count set.now - 1) (ascends_at set.now) }
 {
     let n = steps(set);
     let form = form_at(set);
@@ -247,15 +247,15 @@ pub(crate) fn ascending(set: &[u8]) -> bool
 
 // The tags that rule i forgets, where the rules start at byte `first` and a mask is below `bound`.
 fn forgets(set: &[u8], form: Form, first: u16, i: u16, bound: usize) -> bool
-    requires { (form ≡ form_of set.now) × (first ≡ rulesAt set.now) × (bound ≡ 2 ^ tagCount set.now) }
-    ensures { result ≡ forgetOk set.now i }
+    requires { (form ≡ form_of set.now) × (first ≡ rules_at set.now) × (bound ≡ 2 ^ tag_count set.now) }
+    ensures { result ≡ forget_ok set.now i }
 {
     size(forget_word(set, form, first, i)) < bound
 }
 
 pub(crate) fn forgetting(set: &[u8]) -> bool
-    requires { tagCount set.now ≤ maxTags }
-    ensures { result ≡ all_below (ruleCount set.now) (forgetOk set.now) }
+    requires { tag_count set.now ≤ max_tags }
+    ensures { result ≡ all_below (rule_count set.now) (forget_ok set.now) }
 {
     let n = header_word(set, 6);
     let form = form_at(set);

@@ -1,8 +1,8 @@
 // Writing a stored form from front to back: each function puts a part at a place and answers the place after it; where the part does not fit whole, nothing
 // is written and the place itself is the answer.
 ghost use Rattle.std.specs.Prelude.{◌≡◌, cond, ◌++◌, map, ◌+◌, ◌*◌, ◌/◌, ◌%◌, ◌≤◌, ◌<◌, leb, length, take, drop};
-ghost use Rattle.model.specs.Lists.{concatMap};
-ghost use Rattle.automaton.specs.Encode.{encodeWord, encodeHeader, encodeSymbol, encodeState, encodePlaces, Put};
+ghost use Rattle.model.specs.Lists.{concat_map};
+ghost use Rattle.automaton.specs.Encode.{encode_word, encode_header, encode_symbol, encode_state, encode_places, Put};
 
 use super::layout::{HEADER_WIDTH, rules_offset, state_width, states_offset, total_length};
 use super::{Form, StoredRule};
@@ -43,7 +43,7 @@ fn cut(x: usize) -> u16
 // The numbers, low byte first, put at a place where they fit.
 fn paste_words(out: &mut [u8], at: usize, words: &[u16])
     requires { at + 2 * length words.now ≤ length out.old }
-    ensures { out.new ≡ take at out.old ++ concatMap encodeWord words.now ++ drop (at + 2 * length words.now) out.old }
+    ensures { out.new ≡ take at out.old ++ concat_map encode_word words.now ++ drop (at + 2 * length words.now) out.old }
 {
     let mut i = 0;
     while i < words.len() {
@@ -56,7 +56,7 @@ fn paste_words(out: &mut [u8], at: usize, words: &[u16])
 
 fn put_words(out: &mut [u8], at: usize, words: &[u16]) -> usize
     requires { length words.now < 65536 }
-    ensures { Put out.old at (concatMap encodeWord words.now) out.new result }
+    ensures { Put out.old at (concat_map encode_word words.now) out.new result }
 {
     let n = 2 * words.len();
     if fits(out.len(), at, n) {
@@ -74,7 +74,7 @@ pub fn put_header(
     tags: u16,
     rules: u16,
 ) -> usize
-    ensures { Put out.old 0 (encodeHeader form symbols states tags rules) out.new result }
+    ensures { Put out.old 0 (encode_header form symbols states tags rules) out.new result }
 {
     let states_at = cut(states_offset(symbols));
     let rules_at = cut(rules_offset(form, symbols, states));
@@ -93,7 +93,7 @@ pub fn put_header(
 }
 
 pub fn put_symbol(out: &mut [u8], at: usize, arity: u16) -> usize
-    ensures { Put out.old at (encodeSymbol arity) out.new result }
+    ensures { Put out.old at (encode_symbol arity) out.new result }
 {
     if at < out.len() {
         out[at] = low(arity);
@@ -103,7 +103,7 @@ pub fn put_symbol(out: &mut [u8], at: usize, arity: u16) -> usize
 }
 
 pub fn put_state(out: &mut [u8], at: usize, form: Form, accepting: bool, mask: u16) -> usize
-    ensures { Put out.old at (encodeState form accepting mask) out.new result }
+    ensures { Put out.old at (encode_state form accepting mask) out.new result }
 {
     let n = state_width(form);
     if fits(out.len(), at, n) {
@@ -115,7 +115,7 @@ pub fn put_state(out: &mut [u8], at: usize, form: Form, accepting: bool, mask: u
 }
 
 pub fn put_rule(out: &mut [u8], at: usize, form: Form, r: StoredRule) -> usize
-    ensures { Put out.old at (encodePlaces form r.symbol r.target.0 (map (λ q. q.0) r.places) r.forget) out.new result }
+    ensures { Put out.old at (encode_places form r.symbol r.target.0 (map (λ q. q.0) r.places) r.forget) out.new result }
 {
     let places = r.places;
     let words = [

@@ -5,19 +5,19 @@ use mathlib.Core.List.{List, [], ◌∷◌}
 use Prim.Native.Nat.{ℕ, zero, suc, ◌<◌, ◌≤◌}
 use native.Mathlib.Omega.{arith}
 use lib.ListN.{length, get_or-eq_default}
-use Rattle.base.specs.Text.{byteAt}
+use Rattle.base.specs.Text.{byte_at}
 
 -- past the end stands 0
-pub past : (t : List ℕ) (i : ℕ) → length t ≤ i → 0 ≡ byteAt t i
+pub past : (t : List ℕ) (i : ℕ) → length t ≤ i → 0 ≡ byte_at t i
 past t i h = sym (get_or-eq_default t 0 h)
 
 -- another byte stands inside
-pub inside : (t : List ℕ) (i : ℕ) → 0 < byteAt t i → i < length t
+pub inside : (t : List ℕ) (i : ℕ) → 0 < byte_at t i → i < length t
 inside [] i h = absurd (omega arith)
 inside (x ∷ xs) zero h = omega arith
 inside (x ∷ xs) (suc i) h = let k : i < length xs = inside xs i h in omega arith
 
-pub byte_inside : (t : List ℕ) (i b : ℕ) → b ≡ byteAt t i → 0 < b → i < length t
+pub byte_inside : (t : List ℕ) (i b : ℕ) → b ≡ byte_at t i → 0 < b → i < length t
 byte_inside t i b e h = inside t i (omega arith)
 
 -- so does a byte of a class that 0 is not in
@@ -25,5 +25,5 @@ above : (p : ℕ → Bool) → p 0 ≡ false → (b : ℕ) → p b ≡ true → 
 above p z zero e = absurd (true≢false (sym e ∙ z))
 above p z (suc b) e = omega arith
 
-pub class-inside : (p : ℕ → Bool) → p 0 ≡ false → (t : List ℕ) (i : ℕ) → p (byteAt t i) ≡ true → i < length t
-class-inside p z t i e = inside t i (above p z (byteAt t i) e)
+pub class_inside : (p : ℕ → Bool) → p 0 ≡ false → (t : List ℕ) (i : ℕ) → p (byte_at t i) ≡ true → i < length t
+class_inside p z t i e = inside t i (above p z (byte_at t i) e)

@@ -9,7 +9,7 @@ use borrow.Author.Rules.{rules}
 use lib.ListN.{length, get_or, take, drop, set, length-set}
 use lib.Seq.{paste, paste-zero, paste-suc, take-length}
 use Rattle.model.specs.Space.{put_at}
-use Rattle.model.proofs.Space.{put-fits, put-not}
+use Rattle.model.proofs.Space.{put_fits, put_not}
 
 -- i of them are copied
 pub record Copied (d : List ℕ) (at : ℕ) (s : List ℕ) (i : ℕ) (now : List ℕ) : Type 0 where
@@ -34,9 +34,9 @@ module _ (d : List ℕ) (at : ℕ) (s : List ℕ) where
 
   pub copied_all : (i : ℕ) (now : List ℕ) → Copied d at s i now → length s ≤ i → now ≡ put_at d at s
   copied_all i now v h =
-      v.is ∙ ap (paste d at s) (le_antisymm v.inside h) ∙ ap (λ l. take at d ++ l ++ drop (at + length s) d) (take-length s) ∙ sym (put-fits d at s v.fits)
+      v.is ∙ ap (paste d at s) (le_antisymm v.inside h) ∙ ap (λ l. take at d ++ l ++ drop (at + length s) d) (take-length s) ∙ sym (put_fits d at s v.fits)
 
-  pub not-copied : length d < at + length s → d ≡ put_at d at s
-  not-copied h = sym (put-not d at s h)
+  pub not_copied : length d < at + length s → d ≡ put_at d at s
+  not_copied h = sym (put_not d at s h)
 
-pub ruleset copying = (copied_none, copied_more, copied_all, not-copied, rules)
+pub ruleset copying = (copied_none, copied_more, copied_all, not_copied, rules)

@@ -20,23 +20,23 @@ ends p (suc m) (suc n) h f s =
     rw (leading, e) (ap suc (ends (λ k. p (suc k)) m n (omega arith) (λ k l. f (suc k) (omega arith)) (λ l. s (omega arith))))
 
 module _ (p : ℕ → Bool) (m : ℕ) where
-  pub led-none : Led p m 0
-  led-none = record { inside = omega arith; passed = λ k l. let z : ⊥ = omega arith in absurd z }
+  pub led_none : Led p m 0
+  led_none = record { inside = omega arith; passed = λ k l. let z : ⊥ = omega arith in absurd z }
 
   module _ (n : ℕ) (v : Led p m n) where
-    pub led-more : n < m → p n ≡ true → Led p m (n + 1)
-    led-more h e = record { inside = omega arith; passed = below_more _ _ v.passed e }
+    pub led_more : n < m → p n ≡ true → Led p m (n + 1)
+    led_more h e = record { inside = omega arith; passed = below_more _ _ v.passed e }
 
-    pub led-stop : n < m → p n ≡ false → n ≡ leading m p
-    led-stop h e = ends p m n v.inside v.passed (λ l. e)
+    pub led_stop : n < m → p n ≡ false → n ≡ leading m p
+    led_stop h e = ends p m n v.inside v.passed (λ l. e)
 
-    pub led-all : m ≤ n → n ≡ leading m p
-    led-all h = ends p m n v.inside v.passed (λ l. let z : ⊥ = omega arith in absurd z)
+    pub led_all : m ≤ n → n ≡ leading m p
+    led_all h = ends p m n v.inside v.passed (λ l. let z : ⊥ = omega arith in absurd z)
 
 -- what the count says
 pub counted : (p : ℕ → Bool) (m : ℕ) → Led p m (leading m p)
 unfolding leading
-counted p zero = led-none p zero
+counted p zero = led_none p zero
 counted p (suc m) = go (p 0) refl (counted (λ k. p (suc k)) m)
   where
     all : Led (λ k. p (suc k)) m (leading m (λ k. p (suc k))) → p 0 ≡ true → (k : ℕ) → k < suc (leading m (λ k. p (suc k))) → p k ≡ true
@@ -45,4 +45,4 @@ counted p (suc m) = go (p 0) refl (counted (λ k. p (suc k)) m)
 
     go : (b : Bool) → p 0 ≡ b → Led (λ k. p (suc k)) m (leading m (λ k. p (suc k))) → Led p (suc m) (elim b [ true ↦ suc (leading m (λ k. p (suc k))) | false ↦ 0 ])
     go true e rest = record { inside = omega (arith, rest.inside); passed = all rest e }
-    go false e rest = led-none p (suc m)
+    go false e rest = led_none p (suc m)

@@ -7,18 +7,18 @@ use native.Mathlib.Omega.{arith}
 use borrow.Author.Tests.{eq-eqb, ne_eqb}
 use lib.Dec.{eqb}
 use lib.ListN.{length, get_or}
-use Rattle.base.specs.Text.{byteAt, got, fault, word_bytes, word_at}
+use Rattle.base.specs.Text.{byte_at, got, fault, word_bytes, word_at}
 use Rattle.base.proofs.Leading.{counted}
 
-pub word-short : (w t : List ℕ) (i n : ℕ) → n ≡ word_bytes w t i → n ≤ length w
+pub word_short : (w t : List ℕ) (i n : ℕ) → n ≡ word_bytes w t i → n ≤ length w
 unfolding word_bytes
-word-short w t i n e = let k = (counted (λ k. eqb (byteAt t (i + k)) (get_or w k 0)) (length w)).inside in omega arith
+word_short w t i n e = let k = (counted (λ k. eqb (byte_at t (i + k)) (get_or w k 0)) (length w)).inside in omega arith
 
 module _ {A : Type 0} (v : A) (w t : List ℕ) (i n : ℕ) (count : n ≡ word_bytes w t i) where
-  pub word-whole : n ≡ length w → got v (i + n) ≡ word_at v w t i
+  pub word_whole : n ≡ length w → got v (i + n) ≡ word_at v w t i
   unfolding word_at
-  word-whole e = let f : eqb (word_bytes w t i) (length w) ≡ true = eq-eqb _ _ (sym count ∙ e) in rw (f, ← count)
+  word_whole e = let f : eqb (word_bytes w t i) (length w) ≡ true = eq-eqb _ _ (sym count ∙ e) in rw (f, ← count)
 
-  pub word-broken : (n ≡ length w → ⊥) → fault (i + n) ≡ word_at v w t i
+  pub word_broken : (n ≡ length w → ⊥) → fault (i + n) ≡ word_at v w t i
   unfolding word_at
-  word-broken h = let f : eqb (word_bytes w t i) (length w) ≡ false = ne_eqb _ _ (λ e. h (count ∙ e)) in rw (f, ← count)
+  word_broken h = let f : eqb (word_bytes w t i) (length w) ≡ false = ne_eqb _ _ (λ e. h (count ∙ e)) in rw (f, ← count)

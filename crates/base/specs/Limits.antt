@@ -1,16 +1,16 @@
 -- The constants of the code are the limits of the model. Assumes nothing.
 use Rattle.std.specs.Prelude.{◌≡◌}
-use Rattle.model.specs.Limits.{maxSymbols, maxChildren, maxStates, maxTags, maxRules, maxRows, maxLevels, maxSteps, unused}
+use Rattle.model.specs.Limits.{max_symbols, max_children, max_states, max_tags, max_rules, max_rows, max_levels, max_steps, unused}
 use Rattle.base.specs.declared.limits.Limits.{Limits}
 
 pub record AsInModel (l : Limits) : Type 0 where
-  pub symbols : l.symbols ≡ maxSymbols
-  pub children : l.children ≡ maxChildren
-  pub states : l.states ≡ maxStates
-  pub tags : l.tags ≡ maxTags
-  pub rules : l.rules ≡ maxRules
-  pub rows : l.rows ≡ maxRows
-  pub levels : l.levels ≡ maxLevels
-  pub steps : l.steps ≡ maxSteps
+  pub symbols : l.symbols ≡ max_symbols
+  pub children : l.children ≡ max_children
+  pub states : l.states ≡ max_states
+  pub tags : l.tags ≡ max_tags
+  pub rules : l.rules ≡ max_rules
+  pub rows : l.rows ≡ max_rows
+  pub levels : l.levels ≡ max_levels
+  pub steps : l.steps ≡ max_steps
   pub none : l.unused ≡ unused
-  pub places : l.places ≡ maxChildren
+  pub places : l.places ≡ max_children

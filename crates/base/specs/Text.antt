@@ -2,8 +2,8 @@
 use Rattle.std.specs.Prelude.{List, Bool, true, false, cond, ℕ, zero, suc, ◌+◌, eqb, length, get_or}
 
 -- the byte at i; past the end 0, which no rule allows
-abbrev pub byteAt : List ℕ → ℕ → ℕ
-byteAt t i = get_or t i 0
+abbrev pub byte_at : List ℕ → ℕ → ℕ
+byte_at t i = get_or t i 0
 
 -- what stands at a place: a value and the place after it, or the place of the byte that no rule allows
 pub data Got (A : Type 0) : Type 0 where
@@ -17,7 +17,7 @@ leading (suc n) p = elim (p 0) [ true ↦ suc (leading n (λ k. p (suc k))) | fa
 
 -- how many bytes of the word w stand at i
 unfoldable pub word_bytes : List ℕ → List ℕ → ℕ → ℕ
-word_bytes w t i = leading (length w) (λ k. eqb (byteAt t (i + k)) (get_or w k 0))
+word_bytes w t i = leading (length w) (λ k. eqb (byte_at t (i + k)) (get_or w k 0))
 
 -- the word w at i, which says v; a fault at the first byte that differs
 unfoldable pub word_at : {A : Type 0} → A → List ℕ → List ℕ → ℕ → Got A

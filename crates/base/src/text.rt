@@ -1,17 +1,17 @@
 // Bytes of a text by place; a byte past the end counts as 0.
 ghost use Rattle.std.specs.Prelude.{◌≡◌, ◌+◌};
-ghost use Rattle.base.specs.Text.{byteAt, word_bytes};
+ghost use Rattle.base.specs.Text.{byte_at, word_bytes};
 
 // The byte at a place; past the end 0.
 pub fn byte_at(text: &[u8], i: usize) -> u8
-    ensures { result ≡ byteAt text.now i }
+    ensures { result ≡ byte_at text.now i }
 {
     if i < text.len() { text[i] } else { 0 }
 }
 
 // The byte that stands n places behind a place; past the end 0, also where the two together are no 64-bit number.
 fn byte_behind(text: &[u8], at: usize, n: usize) -> u8
-    ensures { result ≡ byteAt text.now (at + n) }
+    ensures { result ≡ byte_at text.now (at + n) }
 {
     if at >= text.len() {
         return 0;

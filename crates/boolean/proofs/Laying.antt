@@ -8,18 +8,18 @@ use native.Mathlib.Omega.{arith}
 use lib.ListN.{length, get_or, take, drop, set}
 use lib.Seq.{take_all, take-suc, set_split, drop-length, append_snoc}
 use Rattle.automaton.specs.Laid.{Laid}
-use Rattle.automaton.proofs.Laying.{laid-length, laid_then, laid-nothing}
+use Rattle.automaton.proofs.Laying.{laid_length, laid_then, laid_nothing}
 
-pub laid-number : (space : List ℕ) (at x : ℕ) → at < length space → Laid space (set space at x) at (at + 1) (x ∷ [])
-laid-number space at x l = record {
+pub laid_number : (space : List ℕ) (at x : ℕ) → at < length space → Laid space (set space at x) at (at + 1) (x ∷ [])
+laid_number space at x l = record {
   ends = refl;
   inside = omega arith;
   holds = set_split space at x l ∙ ap (λ (k : ℕ). take at space ++ x ∷ drop k space) (sym (add-one at)) ∙ sym (append_snoc (take at space) x (drop (at + 1) space));
 }
 
 -- a part that fills the space
-pub laid-all : {before after part : List ℕ} {end : ℕ} → Laid before after 0 end part → end ≡ length before → after ≡ part
-laid-all {before} {after} {part} p e = p.holds ∙ ap (λ (n : ℕ). part ++ drop n before) e ∙ ap (part ++◌) (drop-length before) ∙ append-nil part
+pub laid_all : {before after part : List ℕ} {end : ℕ} → Laid before after 0 end part → end ≡ length before → after ≡ part
+laid_all {before} {after} {part} p e = p.holds ∙ ap (λ (n : ℕ). part ++ drop n before) e ∙ ap (part ++◌) (drop-length before) ∙ append-nil part
 
 -- A loop that puts the numbers of a list: at its head k are put.
 pub record Filling (all before after : List ℕ) (at k : ℕ) : Type 0 where
@@ -28,20 +28,20 @@ pub record Filling (all before after : List ℕ) (at k : ℕ) : Type 0 where
   pub room : at + length all ≤ length before
 
 module _ (all before : List ℕ) (at : ℕ) where
-  pub filling-none : at + length all ≤ length before → Filling all before before at 0
-  filling-none l = record {
-    laid = subst (λ (e : ℕ). Laid before before at e []) (sym (add-zero at)) (laid-nothing before at (omega arith));
+  pub filling_none : at + length all ≤ length before → Filling all before before at 0
+  filling_none l = record {
+    laid = subst (λ (e : ℕ). Laid before before at e []) (sym (add-zero at)) (laid_nothing before at (omega arith));
     few = omega arith;
     room = l;
   }
 
   module _ (after : List ℕ) (k : ℕ) (h : Filling all before after at k) where
-    pub filling-more : (x : ℕ) → k < length all → x ≡ get_or all k 0 → Filling all before (set after (at + k) x) at (k + 1)
-    filling-more x l e = record {
+    pub filling_more : (x : ℕ) → k < length all → x ≡ get_or all k 0 → Filling all before (set after (at + k) x) at (k + 1)
+    filling_more x l e = record {
       laid =
           subst (λ (j : ℕ). Laid before (set after (at + k) x) at j (take (k + 1) all)) (let z : at + k + 1 ≡ at + (k + 1) = omega arith in z)
           (subst (Laid before (set after (at + k) x) at (at + k + 1)) next
-          (laid_then h.laid (laid-number after (at + k) x (let d = laid-length h.laid in let r = h.room in omega arith))));
+          (laid_then h.laid (laid_number after (at + k) x (let d = laid_length h.laid in let r = h.room in omega arith))));
       few = omega arith;
       room = h.room;
     }
@@ -49,8 +49,8 @@ module _ (all before : List ℕ) (at : ℕ) where
         next : take k all ++ x ∷ [] ≡ take (k + 1) all
         next = ap (λ (y : ℕ). take k all ++ y ∷ []) e ∙ sym (take-suc all k 0 l) ∙ ap (λ (n : ℕ). take n all) (sym (add-one k))
 
-    pub filling-front : at ≡ 0 → (x : ℕ) → k < length all → x ≡ get_or all k 0 → Filling all before (set after k x) at (k + 1)
-    filling-front z x l e = subst (λ (j : ℕ). Filling all before (set after j x) at (k + 1)) (let d : at + k ≡ k = omega arith in d) (filling-more x l e)
+    pub filling_front : at ≡ 0 → (x : ℕ) → k < length all → x ≡ get_or all k 0 → Filling all before (set after k x) at (k + 1)
+    filling_front z x l e = subst (λ (j : ℕ). Filling all before (set after j x) at (k + 1)) (let d : at + k ≡ k = omega arith in d) (filling_more x l e)
 
-    pub filling-all : length all ≤ k → Laid before after at (at + k) all
-    filling-all l = subst (Laid before after at (at + k)) (take_all k all l) h.laid
+    pub filling_all : length all ≤ k → Laid before after at (at + k) all
+    filling_all l = subst (Laid before after at (at + k)) (take_all k all l) h.laid

@@ -8,159 +8,159 @@ use borrow.Author.Tests.{leb-true, eqb-true, eq-eqb, ne_eqb}
 use lib.Dec.{leb, eqb}
 use lib.ListN.{length}
 use lib.Seq.{ext_get_or}
-use Rattle.model.specs.Limits.{maxStates, maxTags, maxRules}
+use Rattle.model.specs.Limits.{max_states, max_tags, max_rules}
 use Rattle.model.specs.Lists.{all_below}
-use Rattle.model.specs.Refusal.{demand, andAfter}
-use Rattle.model.specs.Automaton.{Automaton, arityOf}
+use Rattle.model.specs.Refusal.{demand, and_after}
+use Rattle.model.specs.Automaton.{Automaton, arity_of}
 use Rattle.model.specs.Sound.{Sound}
 use Rattle.model.specs.Boolean.{union, product}
 use Rattle.model.proofs.Below.{at}
-use Rattle.model.proofs.SoundUnion.{union-states, union-rules, union-sound}
-use Rattle.model.proofs.SoundProduct.{product-states, product-rules, product-sound}
-use Rattle.automaton.specs.Form.{totalLength, isolating?}
+use Rattle.model.proofs.SoundUnion.{union_states, union_rules_lem, union_sound}
+use Rattle.model.proofs.SoundProduct.{product_states, product_rules, product_sound}
+use Rattle.automaton.specs.Form.{total_length, isolating?}
 use Rattle.automaton.specs.declared.Form.{Form}
 use Rattle.automaton.specs.declared.Form.TheVariants.{Wide, Isolating}
 use Rattle.automaton.specs.Stored.{form_of, decode}
-use Rattle.automaton.specs.Check.{checkOf}
-use Rattle.automaton.specs.Encode.{encode, encodedLength}
+use Rattle.automaton.specs.Check.{check_of}
+use Rattle.automaton.specs.Encode.{encode, encoded_length}
 use Rattle.automaton.proofs.Passes.{split}
-use Rattle.automaton.proofs.Sound.{sound-decode}
-use Rattle.automaton.proofs.Encoded.{encode-length}
-use Rattle.boolean.specs.Combine.{resultForm, sameSymbols, withinLimits, resultCheckOf, combineCheckOf}
+use Rattle.automaton.proofs.Sound.{sound_decode}
+use Rattle.automaton.proofs.Encoded.{encode_length}
+use Rattle.boolean.specs.Combine.{result_form, same_symbols, within_limits, result_check_of, combine_check_of}
 use Rattle.automaton.specs.Laid.{Laid}
 use Rattle.boolean.specs.Ready.{Ready, Sized}
 use Rattle.boolean.specs.declared.Size.{Size}
 use Rattle.automaton.specs.declared.Written.TheVariants.{Length, Refused}
-use Rattle.automaton.proofs.Answering.{Answered, refused-answer, written-answer}
+use Rattle.automaton.proofs.Answering.{Answered, refused_answer, written_answer_lem}
 
 -- the form of a result, from what was read of the inputs' forms
-pub form-told : (first second : List ℕ) (f g : Form) (a b t : Bool) → f ≡ form_of first → a ≡ isolating? f → g ≡ form_of second → b ≡ isolating? g → (a || b) ≡ t → cond t Isolating Wide ≡ resultForm first second
-unfolding resultForm
-form-told first second f g a b t ef ea eg eb et =
+pub form_told : (first second : List ℕ) (f g : Form) (a b t : Bool) → f ≡ form_of first → a ≡ isolating? f → g ≡ form_of second → b ≡ isolating? g → (a || b) ≡ t → cond t Isolating Wide ≡ result_form first second
+unfolding result_form
+form_told first second f g a b t ef ea eg eb et =
     ap (λ (z : Bool). cond z Isolating Wide) (sym et ∙ ap (◌|| b) (ea ∙ ap isolating? ef) ∙ ap (isolating? (form_of first) ||◌) (eb ∙ ap isolating? eg))
 
 -- 51: symbols that differ in number, and the test of their children where they do not
 module _ (A B : Automaton) where
-  pub symbols-apart : (length A.arities ≡ length B.arities → ⊥) → false ≡ sameSymbols A B
-  unfolding sameSymbols
-  symbols-apart h = rw (ne_eqb (length A.arities) (length B.arities) h)
+  pub symbols_apart : (length A.arities ≡ length B.arities → ⊥) → false ≡ same_symbols A B
+  unfolding same_symbols
+  symbols_apart h = rw (ne_eqb (length A.arities) (length B.arities) h)
 
-  pub symbols-alike : (b : Bool) → length A.arities ≡ length B.arities → b ≡ all_below (length A.arities) (λ f. eqb (arityOf A f) (arityOf B f)) → b ≡ sameSymbols A B
-  unfolding sameSymbols
-  symbols-alike b e h = rw (eq-eqb (length A.arities) (length B.arities) e) h
+  pub symbols_alike : (b : Bool) → length A.arities ≡ length B.arities → b ≡ all_below (length A.arities) (λ f. eqb (arity_of A f) (arity_of B f)) → b ≡ same_symbols A B
+  unfolding same_symbols
+  symbols_alike b e h = rw (eq-eqb (length A.arities) (length B.arities) e) h
 
-  pub same-arities : sameSymbols A B ≡ true → A.arities ≡ B.arities
-  unfolding sameSymbols
-  same-arities h =
-      let (n, each) = split (eqb (length A.arities) (length B.arities)) (all_below (length A.arities) (λ f. eqb (arityOf A f) (arityOf B f))) h in
+  pub same_arities : same_symbols A B ≡ true → A.arities ≡ B.arities
+  unfolding same_symbols
+  same_arities h =
+      let (n, each) = split (eqb (length A.arities) (length B.arities)) (all_below (length A.arities) (λ f. eqb (arity_of A f) (arity_of B f))) h in
       ext_get_or 0 A.arities B.arities (eqb-true (length A.arities) (length B.arities) n)
-      (λ i l. eqb-true (arityOf A i) (arityOf B i) (at (λ f. eqb (arityOf A f) (arityOf B f)) (length A.arities) i each l))
+      (λ i l. eqb-true (arity_of A i) (arity_of B i) (at (λ f. eqb (arity_of A f) (arity_of B f)) (length A.arities) i each l))
 
 -- 52: what a result within the limits tells
 pub record Within (states tags rules : ℕ) : Type 0 where
-  pub few-states : states ≤ maxStates
-  pub few-tags : tags ≤ maxTags
-  pub few-rules : rules ≤ maxRules
+  pub few_states : states ≤ max_states
+  pub few_tags : tags ≤ max_tags
+  pub few_rules : rules ≤ max_rules
 
-pub within-known : (states tags rules : ℕ) → withinLimits states tags rules ≡ true → Within states tags rules
-unfolding withinLimits
-within-known states tags rules h =
-    let (ab, c) = split (leb states maxStates && leb tags maxTags) (leb rules maxRules) h in
-    let (a, b) = split (leb states maxStates) (leb tags maxTags) ab in
-    record { few-states = leb-true states maxStates a; few-tags = leb-true tags maxTags b; few-rules = leb-true rules maxRules c }
+pub within_known : (states tags rules : ℕ) → within_limits states tags rules ≡ true → Within states tags rules
+unfolding within_limits
+within_known states tags rules h =
+    let (ab, c) = split (leb states max_states && leb tags max_tags) (leb rules max_rules) h in
+    let (a, b) = split (leb states max_states) (leb tags max_tags) ab in
+    record { few_states = leb-true states max_states a; few_tags = leb-true tags max_tags b; few_rules = leb-true rules max_rules c }
 
 -- the number of the two inputs, then that of the result
 module _ (m n : ℕ) (t : Bool) (rest : ℕ) where
   abbrev inputs : ℕ
-  inputs = andAfter m (andAfter n (demand t 51 0))
+  inputs = and_after m (and_after n (demand t 51 0))
 
   abbrev whole : ℕ
-  whole = andAfter m (andAfter n (demand t 51 rest))
+  whole = and_after m (and_after n (demand t 51 rest))
 
-  inputs-refuse : (inputs ≡ 0 → ⊥) → inputs ≡ whole
-  unfolding andAfter demand
-  inputs-refuse = go m n t
+  inputs_refuse : (inputs ≡ 0 → ⊥) → inputs ≡ whole
+  unfolding and_after demand
+  inputs_refuse = go m n t
     where
-      go : (m n : ℕ) (t : Bool) → (andAfter m (andAfter n (demand t 51 0)) ≡ 0 → ⊥) → andAfter m (andAfter n (demand t 51 0)) ≡ andAfter m (andAfter n (demand t 51 rest))
+      go : (m n : ℕ) (t : Bool) → (and_after m (and_after n (demand t 51 0)) ≡ 0 → ⊥) → and_after m (and_after n (demand t 51 0)) ≡ and_after m (and_after n (demand t 51 rest))
       go (suc m) n t h = refl
       go zero (suc n) t h = refl
       go zero zero false h = refl
       go zero zero true h = absurd (h refl)
 
-  inputs-pass : inputs ≡ 0 → (m ≡ 0) × (n ≡ 0) × (t ≡ true) × (rest ≡ whole)
-  unfolding andAfter demand
-  inputs-pass = go m n t
+  inputs_pass : inputs ≡ 0 → (m ≡ 0) × (n ≡ 0) × (t ≡ true) × (rest ≡ whole)
+  unfolding and_after demand
+  inputs_pass = go m n t
     where
-      go : (m n : ℕ) (t : Bool) → andAfter m (andAfter n (demand t 51 0)) ≡ 0 → (m ≡ 0) × (n ≡ 0) × (t ≡ true) × (rest ≡ andAfter m (andAfter n (demand t 51 rest)))
+      go : (m n : ℕ) (t : Bool) → and_after m (and_after n (demand t 51 0)) ≡ 0 → (m ≡ 0) × (n ≡ 0) × (t ≡ true) × (rest ≡ and_after m (and_after n (demand t 51 rest)))
       go (suc m) n t h = absurd (omega arith)
       go zero (suc n) t h = absurd (omega arith)
       go zero zero false h = absurd (omega arith)
       go zero zero true h = (refl, refl, refl, refl)
 
-result-pass : (form : Form) (R : Automaton) (space : ℕ) → resultCheckOf form R space ≡ 0 → Within (length R.states) R.tags (length R.rules) × (encodedLength form R ≤ space)
-unfolding resultCheckOf demand
-result-pass form R space h = go (withinLimits (length R.states) R.tags (length R.rules)) (leb (encodedLength form R) space) refl refl h
+result_pass : (form : Form) (R : Automaton) (space : ℕ) → result_check_of form R space ≡ 0 → Within (length R.states) R.tags (length R.rules) × (encoded_length form R ≤ space)
+unfolding result_check_of demand
+result_pass form R space h = go (within_limits (length R.states) R.tags (length R.rules)) (leb (encoded_length form R) space) refl refl h
   where
-    go : (a b : Bool) → withinLimits (length R.states) R.tags (length R.rules) ≡ a → leb (encodedLength form R) space ≡ b → demand a 52 (demand b 53 0) ≡ 0 → Within (length R.states) R.tags (length R.rules) × (encodedLength form R ≤ space)
-    go true true ea eb e = (within-known (length R.states) R.tags (length R.rules) ea, leb-true (encodedLength form R) space eb)
+    go : (a b : Bool) → within_limits (length R.states) R.tags (length R.rules) ≡ a → leb (encoded_length form R) space ≡ b → demand a 52 (demand b 53 0) ≡ 0 → Within (length R.states) R.tags (length R.rules) × (encoded_length form R ≤ space)
+    go true true ea eb e = (within_known (length R.states) R.tags (length R.rules) ea, leb-true (encoded_length form R) space eb)
     go true false ea eb e = absurd (omega arith)
     go false b ea eb e = absurd (omega arith)
 
 -- the number of a result from its counts
-pub sized-check : (form : Form) (R : Automaton) (symbols : ℕ) (size : Size) (space : ℕ) → symbols ≡ length R.arities → Sized size R → demand (withinLimits size.states size.tags size.rules) 52 (demand (leb (totalLength form symbols size.states size.rules) space) 53 0) ≡ resultCheckOf form R space
-unfolding resultCheckOf
-sized-check form R symbols size space e s =
-    ap (λ (z : ℕ). demand (withinLimits size.states size.tags size.rules) 52 (demand (leb (totalLength form z size.states size.rules) space) 53 0)) e
-    ∙ ap (λ (z : ℕ). demand (withinLimits z size.tags size.rules) 52 (demand (leb (totalLength form (length R.arities) z size.rules) space) 53 0)) s.states
-    ∙ ap (λ (z : ℕ). demand (withinLimits (length R.states) z size.rules) 52 (demand (leb (totalLength form (length R.arities) (length R.states) size.rules) space) 53 0)) s.tags
-    ∙ ap (λ (z : ℕ). demand (withinLimits (length R.states) R.tags z) 52 (demand (leb (totalLength form (length R.arities) (length R.states) z) space) 53 0)) s.rules
+pub sized_check : (form : Form) (R : Automaton) (symbols : ℕ) (size : Size) (space : ℕ) → symbols ≡ length R.arities → Sized size R → demand (within_limits size.states size.tags size.rules) 52 (demand (leb (total_length form symbols size.states size.rules) space) 53 0) ≡ result_check_of form R space
+unfolding result_check_of
+sized_check form R symbols size space e s =
+    ap (λ (z : ℕ). demand (within_limits size.states size.tags size.rules) 52 (demand (leb (total_length form z size.states size.rules) space) 53 0)) e
+    ∙ ap (λ (z : ℕ). demand (within_limits z size.tags size.rules) 52 (demand (leb (total_length form (length R.arities) z size.rules) space) 53 0)) s.states
+    ∙ ap (λ (z : ℕ). demand (within_limits (length R.states) z size.rules) 52 (demand (leb (total_length form (length R.arities) (length R.states) size.rules) space) 53 0)) s.tags
+    ∙ ap (λ (z : ℕ). demand (within_limits (length R.states) R.tags z) 52 (demand (leb (total_length form (length R.arities) (length R.states) z) space) 53 0)) s.rules
 
 module _ (result : Automaton → Automaton → Automaton) (first second : List ℕ) (space : ℕ) where
   abbrev R : Automaton
   R = result (decode first) (decode second)
 
   abbrev form : Form
-  form = resultForm first second
+  form = result_form first second
 
   abbrev number : ℕ
-  number = combineCheckOf result first second space
+  number = combine_check_of result first second space
 
-  module _ (n : ℕ) (e : n ≡ andAfter (checkOf first) (andAfter (checkOf second) (demand (sameSymbols (decode first) (decode second)) 51 0))) where
+  module _ (n : ℕ) (e : n ≡ and_after (check_of first) (and_after (check_of second) (demand (same_symbols (decode first) (decode second)) 51 0))) where
     -- The inputs' number is the whole number unless it is 0; then the result's is.
-    pub inputs-decide : (n ≡ 0 → ⊥) → n ≡ number
-    unfolding combineCheckOf
-    inputs-decide h = e ∙ inputs-refuse (checkOf first) (checkOf second) (sameSymbols (decode first) (decode second)) (resultCheckOf form R space) (λ z. h (e ∙ z))
+    pub inputs_decide : (n ≡ 0 → ⊥) → n ≡ number
+    unfolding combine_check_of
+    inputs_decide h = e ∙ inputs_refuse (check_of first) (check_of second) (same_symbols (decode first) (decode second)) (result_check_of form R space) (λ z. h (e ∙ z))
 
-    pub inputs-none : n ≡ 0 → resultCheckOf form R space ≡ number
-    unfolding combineCheckOf
-    inputs-none h = (inputs-pass (checkOf first) (checkOf second) (sameSymbols (decode first) (decode second)) (resultCheckOf form R space) (sym e ∙ h)).3
+    pub inputs_none : n ≡ 0 → result_check_of form R space ≡ number
+    unfolding combine_check_of
+    inputs_none h = (inputs_pass (check_of first) (check_of second) (same_symbols (decode first) (decode second)) (result_check_of form R space) (sym e ∙ h)).3
 
-    pub inputs-sound : n ≡ 0 → (checkOf first ≡ 0) × (checkOf second ≡ 0)
-    inputs-sound h = let p = inputs-pass (checkOf first) (checkOf second) (sameSymbols (decode first) (decode second)) 0 (sym e ∙ h) in (p.0, p.1)
+    pub inputs_sound : n ≡ 0 → (check_of first ≡ 0) × (check_of second ≡ 0)
+    inputs_sound h = let p = inputs_pass (check_of first) (check_of second) (same_symbols (decode first) (decode second)) 0 (sym e ∙ h) in (p.0, p.1)
 
-  number-inputs : number ≡ 0 → andAfter (checkOf first) (andAfter (checkOf second) (demand (sameSymbols (decode first) (decode second)) 51 0)) ≡ 0
-  unfolding combineCheckOf andAfter demand
-  number-inputs = go (checkOf first) (checkOf second) (sameSymbols (decode first) (decode second))
+  number_inputs : number ≡ 0 → and_after (check_of first) (and_after (check_of second) (demand (same_symbols (decode first) (decode second)) 51 0)) ≡ 0
+  unfolding combine_check_of and_after demand
+  number_inputs = go (check_of first) (check_of second) (same_symbols (decode first) (decode second))
     where
-      go : (m n : ℕ) (t : Bool) → andAfter m (andAfter n (demand t 51 (resultCheckOf form R space))) ≡ 0 → andAfter m (andAfter n (demand t 51 0)) ≡ 0
+      go : (m n : ℕ) (t : Bool) → and_after m (and_after n (demand t 51 (result_check_of form R space))) ≡ 0 → and_after m (and_after n (demand t 51 0)) ≡ 0
       go (suc m) n t h = h
       go zero (suc n) t h = h
       go zero zero false h = h
       go zero zero true h = refl
 
   -- What is known where the two are not refused.
-  pub ready : number ≡ 0 → Ready first second R × (encodedLength form R ≤ space)
+  pub ready : number ≡ 0 → Ready first second R × (encoded_length form R ≤ space)
   ready h =
-      let i = number-inputs h in
-      let p = inputs-pass (checkOf first) (checkOf second) (sameSymbols (decode first) (decode second)) (resultCheckOf form R space) i in
-      let (w, l) = result-pass form R space (inputs-none _ refl i ∙ h) in (
+      let i = number_inputs h in
+      let p = inputs_pass (check_of first) (check_of second) (same_symbols (decode first) (decode second)) (result_check_of form R space) i in
+      let (w, l) = result_pass form R space (inputs_none _ refl i ∙ h) in (
         record {
-          first-sound = p.0;
-          second-sound = p.1;
-          same = same-arities (decode first) (decode second) p.2;
-          states = w.few-states;
-          tags = w.few-tags;
-          rules = w.few-rules;
+          first_sound = p.0;
+          second_sound = p.1;
+          same = same_arities (decode first) (decode second) p.2;
+          states = w.few_states;
+          tags = w.few_tags;
+          rules = w.few_rules;
         },
         l,
       )
@@ -171,33 +171,33 @@ module _ (result : Automaton → Automaton → Automaton) (first second out : Li
   made = result (decode first) (decode second)
 
   abbrev asked : Form
-  asked = resultForm first second
+  asked = result_form first second
 
   abbrev refusal : ℕ
-  refusal = combineCheckOf result first second (length out)
+  refusal = combine_check_of result first second (length out)
 
-  module _ (n : ℕ) (e : n ≡ andAfter (checkOf first) (andAfter (checkOf second) (demand (sameSymbols (decode first) (decode second)) 51 0))) where
-    pub inputs-refused : (n ≡ 0 → ⊥) → Answered asked made out refusal (Refused n) out
-    inputs-refused h = refused-answer asked made out refusal n (inputs-decide result first second (length out) n e h) h
+  module _ (n : ℕ) (e : n ≡ and_after (check_of first) (and_after (check_of second) (demand (same_symbols (decode first) (decode second)) 51 0))) where
+    pub inputs_refused : (n ≡ 0 → ⊥) → Answered asked made out refusal (Refused n) out
+    inputs_refused h = refused_answer asked made out refusal n (inputs_decide result first second (length out) n e h) h
 
-    module _ (none : n ≡ 0) (F : Form) (ef : F ≡ asked) (symbols : ℕ) (size : Size) (m : ℕ) (es : symbols ≡ length made.arities) (s : Sized size made) (em : m ≡ demand (withinLimits size.states size.tags size.rules) 52 (demand (leb (totalLength F symbols size.states size.rules) (length out)) 53 0)) where
+    module _ (none : n ≡ 0) (F : Form) (ef : F ≡ asked) (symbols : ℕ) (size : Size) (m : ℕ) (es : symbols ≡ length made.arities) (s : Sized size made) (em : m ≡ demand (within_limits size.states size.tags size.rules) 52 (demand (leb (total_length F symbols size.states size.rules) (length out)) 53 0)) where
       decides : m ≡ refusal
       decides =
           em
-          ∙ sized-check F made symbols size (length out) es s
-          ∙ ap (λ (z : Form). resultCheckOf z made (length out)) ef
-          ∙ inputs-none result first second (length out) n e none
+          ∙ sized_check F made symbols size (length out) es s
+          ∙ ap (λ (z : Form). result_check_of z made (length out)) ef
+          ∙ inputs_none result first second (length out) n e none
 
-      pub result-refused : (m ≡ 0 → ⊥) → Answered asked made out refusal (Refused m) out
-      result-refused h = refused-answer asked made out refusal m decides h
+      pub result_refused : (m ≡ 0 → ⊥) → Answered asked made out refusal (Refused m) out
+      result_refused h = refused_answer asked made out refusal m decides h
 
-      pub may_write : m ≡ 0 → Ready first second made × Sized size made × (encodedLength F made ≤ length out)
-      may_write h = let (a, b) = ready result first second (length out) (sym decides ∙ h) in (a, s, subst (λ (z : Form). encodedLength z made ≤ length out) (sym ef) b)
+      pub may_write : m ≡ 0 → Ready first second made × Sized size made × (encoded_length F made ≤ length out)
+      may_write h = let (a, b) = ready result first second (length out) (sym decides ∙ h) in (a, s, subst (λ (z : Form). encoded_length z made ≤ length out) (sym ef) b)
 
       pub written : m ≡ 0 → (r : ℕ) (after : List ℕ) → Laid out after 0 r (encode F made) → Answered asked made out refusal (Length r) after
       written h r after p =
           let q = subst (λ (z : Form). Laid out after 0 r (encode z made)) ef p in
-          written-answer asked made out refusal r after (sym decides ∙ h) (let d = encode-length asked made in let z = q.ends in omega arith) q.holds
+          written_answer_lem asked made out refusal r after (sym decides ∙ h) (let d = encode_length asked made in let z = q.ends in omega arith) q.holds
 
 -- The results are sound.
 module _ (first second : List ℕ) where
@@ -207,12 +207,12 @@ module _ (first second : List ℕ) where
   abbrev B : Automaton
   B = decode second
 
-  pub ready-union : Ready first second (union A B) → Sound (union A B)
-  ready-union h =
-      union-sound A B (sound-decode first h.first-sound) (sound-decode second h.second-sound) h.same
-      (omega (arith, h.states, union-states A B)) h.tags (omega (arith, h.rules, union-rules A B))
+  pub ready_union : Ready first second (union A B) → Sound (union A B)
+  ready_union h =
+      union_sound A B (sound_decode first h.first_sound) (sound_decode second h.second_sound) h.same
+      (omega (arith, h.states, union_states A B)) h.tags (omega (arith, h.rules, union_rules_lem A B))
 
-  pub ready-product : Ready first second (product A B) → Sound (product A B)
-  ready-product h =
-      product-sound A B (sound-decode first h.first-sound) (sound-decode second h.second-sound) h.same
-      (omega (arith, h.states, product-states A B)) h.tags (omega (arith, h.rules, product-rules A B))
+  pub ready_product : Ready first second (product A B) → Sound (product A B)
+  ready_product h =
+      product_sound A B (sound_decode first h.first_sound) (sound_decode second h.second_sound) h.same
+      (omega (arith, h.states, product_states A B)) h.tags (omega (arith, h.rules, product_rules A B))

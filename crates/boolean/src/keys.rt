@@ -1,12 +1,12 @@
 // Rules as keys: numbers that ascend as the rules do, and off which the rules are read again.
 ghost use Rattle.std.specs.Prelude.{◌≡◌, map, ◌+◌, ◌*◌, ◌^◌, ◌≤◌, ◌<◌, length, get_or};
-ghost use Rattle.model.specs.Limits.{maxChildren};
+ghost use Rattle.model.specs.Limits.{max_children};
 ghost use Rattle.model.specs.Lists.{tab};
-ghost use Rattle.model.specs.Boolean.{shiftRule};
+ghost use Rattle.model.specs.Boolean.{shift_rule};
 ghost use Rattle.automaton.specs.Stored.{decode};
-ghost use Rattle.automaton.specs.Check.{checkOf};
+ghost use Rattle.automaton.specs.Check.{check_of};
 ghost use Rattle.automaton.specs.Answer.{IsRule};
-ghost use Rattle.boolean.specs.Key.{digitWidth, pushed, masked, key_of, packed, digitAt, placeAt, unpacked, shiftedPlace, pairedPlace};
+ghost use Rattle.boolean.specs.Key.{digit_width, pushed, masked, key_of, packed, digit_at, place_at, unpacked, shifted_place, paired_place};
 
 use automaton::copy::moved_up;
 use automaton::{State, StoredRule};
@@ -25,15 +25,15 @@ const MASKS: u64 = 65536;
 
 // The digits x, at most k, with one more.
 fn push(x: u64, p: u64, k: u64) -> u64
-    requires { (x < 2 ^ (digitWidth * k)) × (k ≤ 5) }
-    ensures { (result ≡ pushed x p) × (result < 2 ^ (digitWidth * (k + 1))) }
+    requires { (x < 2 ^ (digit_width * k)) × (k ≤ 5) }
+    ensures { (result ≡ pushed x p) × (result < 2 ^ (digit_width * (k + 1))) }
 {
     x * DIGITS + p % DIGITS
 }
 
 // The digits x, and behind them the tags to forget.
 fn with_mask(x: u64, mask: u64) -> u64
-    requires { x < 2 ^ (digitWidth * 6) }
+    requires { x < 2 ^ (digit_width * 6) }
     ensures { result ≡ masked x mask }
 {
     x * MASKS + mask % MASKS
@@ -42,7 +42,7 @@ fn with_mask(x: u64, mask: u64) -> u64
 // A place with its state shifted by n.
 fn shifted_place(p: State, n: u64) -> u64
     requires { n < 65536 }
-    ensures { result ≡ shiftedPlace n p.0 }
+    ensures { result ≡ shifted_place n p.0 }
 {
     if p.0 < MAX_STATES {
         n + wide(p.0)
@@ -54,7 +54,7 @@ fn shifted_place(p: State, n: u64) -> u64
 // The key of a rule with its states shifted by n and its tags by t.
 fn shifted_key(r: StoredRule, n: u64, t: u16) -> u64
     requires { n < 65536 }
-    ensures { result ≡ key_of r.symbol (λ k. shiftedPlace n (get_or (map (λ q. q.0) r.places) k 0)) (n + r.target.0) (r.forget * 2 ^ t) }
+    ensures { result ≡ key_of r.symbol (λ k. shifted_place n (get_or (map (λ q. q.0) r.places) k 0)) (n + r.target.0) (r.forget * 2 ^ t) }
 {
     let places = r.places;
     let mut x = push(0, wide(r.symbol), 0);
@@ -71,7 +71,7 @@ fn shifted_key(r: StoredRule, n: u64, t: u16) -> u64
 // The place of a pair of states, n being the number of the second's states.
 fn paired_place(p: State, q: State, n: u64) -> u64
     requires { n < 65536 }
-    ensures { result ≡ pairedPlace n p.0 q.0 }
+    ensures { result ≡ paired_place n p.0 q.0 }
 {
     if p.0 < MAX_STATES {
         wide(p.0) * n + wide(q.0)
@@ -83,7 +83,7 @@ fn paired_place(p: State, q: State, n: u64) -> u64
 // The key of the rule that pairs two rules, n being the number of the second's states and t that of the first's tags.
 pub(crate) fn paired_key(r: StoredRule, s: StoredRule, n: u64, t: u16) -> u64
     requires { n < 65536 }
-    ensures { result ≡ key_of r.symbol (λ k. pairedPlace n (get_or (map (λ q. q.0) r.places) k 0) (get_or (map (λ q. q.0) s.places) k 0)) (r.target.0 * n + s.target.0) (r.forget + s.forget * 2 ^ t) }
+    ensures { result ≡ key_of r.symbol (λ k. paired_place n (get_or (map (λ q. q.0) r.places) k 0) (get_or (map (λ q. q.0) s.places) k 0)) (r.target.0 * n + s.target.0) (r.forget + s.forget * 2 ^ t) }
 {
     let firsts = r.places;
     let seconds = s.places;
@@ -100,8 +100,8 @@ pub(crate) fn paired_key(r: StoredRule, s: StoredRule, n: u64, t: u16) -> u64
 
 // The keys of a set's rules with their states shifted by n and their tags by t, which fill a space.
 pub(crate) fn shifted_keys(set: &[u8], n: u64, t: u16, keys: &mut [u64])
-    requires { (checkOf set.now ≡ 0) × (length keys.old ≡ length (decode set.now).rules) × (n < 65536) }
-    ensures { keys.new ≡ map packed (map (shiftRule n t) (decode set.now).rules) }
+    requires { (check_of set.now ≡ 0) × (length keys.old ≡ length (decode set.now).rules) × (n < 65536) }
+    ensures { keys.new ≡ map packed (map (shift_rule n t) (decode set.now).rules) }
 {
     let count = automaton::header(set).rules;
     let mut i = 0;
@@ -115,7 +115,7 @@ pub(crate) fn shifted_keys(set: &[u8], n: u64, t: u16, keys: &mut [u64])
 // Digit k of a key, counted from its end.
 fn digit_at(x: u64, k: u16) -> u16
     requires { k ≤ 5 }
-    ensures { result ≡ digitAt x k }
+    ensures { result ≡ digit_at x k }
 {
     ((x >> (MASK_WIDTH + DIGIT_WIDTH * k as u64)) % DIGITS) as u16
 }
@@ -123,7 +123,7 @@ fn digit_at(x: u64, k: u16) -> u16
 // Child place k of a key whose symbol has n children.
 fn place_of(x: u64, n: u16, k: u16) -> State
     requires { k ≤ 4 }
-    ensures { result.0 ≡ placeAt x n k }
+    ensures { result.0 ≡ place_at x n k }
 {
     if k < n {
         State(digit_at(x, MAX_CHILDREN - k))
@@ -134,7 +134,7 @@ fn place_of(x: u64, n: u16, k: u16) -> State
 
 // The child places of a key whose symbol has n children.
 fn places_of(x: u64, n: u16) -> [State; 4]
-    ensures { map (λ q. q.0) result ≡ tab maxChildren (placeAt x n) }
+    ensures { map (λ q. q.0) result ≡ tab max_children (place_at x n) }
 {
     let mut places = [State(UNUSED); 4];
     let mut k = 0;

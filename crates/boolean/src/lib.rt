@@ -1,14 +1,14 @@
 // Union and product of two stored automata, written in the wide form, or in the one with rules that forget tags if either has such rules.
 ghost use Rattle.std.specs.Prelude.{◌≡◌, eqb, leb};
-ghost use Rattle.model.specs.Automaton.{arityOf};
+ghost use Rattle.model.specs.Automaton.{arity_of};
 ghost use Rattle.model.specs.Boolean.{union, product};
-ghost use Rattle.model.specs.Refusal.{demand, andAfter};
-ghost use Rattle.automaton.specs.Form.{totalLength};
+ghost use Rattle.model.specs.Refusal.{demand, and_after};
+ghost use Rattle.automaton.specs.Form.{total_length};
 ghost use Rattle.automaton.specs.Stored.{decode};
-ghost use Rattle.automaton.specs.Check.{checkOf};
-ghost use Rattle.automaton.specs.Answer.{writtenAnswer};
-ghost use Rattle.boolean.specs.Combine.{resultForm, sameSymbols, withinLimits};
-ghost use Rattle.boolean.specs.Answer.{combinedOf, combinedSpace};
+ghost use Rattle.automaton.specs.Check.{check_of};
+ghost use Rattle.automaton.specs.Answer.{written_answer};
+ghost use Rattle.boolean.specs.Combine.{result_form, same_symbols, within_limits};
+ghost use Rattle.boolean.specs.Answer.{combined_of, combined_space};
 ghost use Rattle.boolean.specs.Ready.{Sized};
 
 mod keys;
@@ -31,13 +31,13 @@ struct Size {
 
 // Whether symbol f has as many children in both sets.
 fn same_arity(first: &[u8], second: &[u8], f: u16) -> bool
-    ensures { result ≡ eqb (arityOf (decode first.now) f) (arityOf (decode second.now) f) }
+    ensures { result ≡ eqb (arity_of (decode first.now) f) (arity_of (decode second.now) f) }
 {
     automaton::arity(first, f) == automaton::arity(second, f)
 }
 
 fn same_symbols(first: &[u8], second: &[u8]) -> bool
-    ensures { result ≡ sameSymbols (decode first.now) (decode second.now) }
+    ensures { result ≡ same_symbols (decode first.now) (decode second.now) }
 {
     let n = automaton::header(first).symbols;
     if n != automaton::header(second).symbols {
@@ -56,7 +56,7 @@ fn same_symbols(first: &[u8], second: &[u8]) -> bool
 
 // The number for the two sets, before their result is looked at.
 fn inputs(first: &[u8], second: &[u8]) -> u16
-    ensures { result ≡ andAfter (checkOf first.now) (andAfter (checkOf second.now) (demand (sameSymbols (decode first.now) (decode second.now)) 51 0)) }
+    ensures { result ≡ and_after (check_of first.now) (and_after (check_of second.now) (demand (same_symbols (decode first.now) (decode second.now)) 51 0)) }
 {
     if let Checked::Refused(n) = automaton::check(first) {
         return n;
@@ -68,7 +68,7 @@ fn inputs(first: &[u8], second: &[u8]) -> u16
 }
 
 fn within_limits(size: Size) -> bool
-    ensures { result ≡ withinLimits size.states size.tags size.rules }
+    ensures { result ≡ within_limits size.states size.tags size.rules }
 {
     (size.states <= MAX_STATES as usize)
         & (size.tags <= MAX_TAGS as usize)
@@ -77,7 +77,7 @@ fn within_limits(size: Size) -> bool
 
 // The number for a result of so many symbols and this size, in a form and a space of so many bytes.
 fn result(form: Form, symbols: u16, size: Size, space: usize) -> u16
-    ensures { result ≡ demand (withinLimits size.states size.tags size.rules) 52 (demand (leb (totalLength form symbols size.states size.rules) space) 53 0) }
+    ensures { result ≡ demand (within_limits size.states size.tags size.rules) 52 (demand (leb (total_length form symbols size.states size.rules) space) 53 0) }
 {
     if !within_limits(size) {
         return 52;
@@ -91,7 +91,7 @@ fn result(form: Form, symbols: u16, size: Size, space: usize) -> u16
 
 // The form that a result is written in.
 fn result_form(first: &[u8], second: &[u8]) -> Form
-    ensures { result ≡ resultForm first.now second.now }
+    ensures { result ≡ result_form first.now second.now }
 {
     if isolating(automaton::form_of(first)) | isolating(automaton::form_of(second)) {
         Form::Isolating
@@ -113,7 +113,7 @@ fn union_size(first: &[u8], second: &[u8]) -> Size
 }
 
 fn product_size(first: &[u8], second: &[u8]) -> Size
-    requires { (checkOf first.now ≡ 0) × (checkOf second.now ≡ 0) }
+    requires { (check_of first.now ≡ 0) × (check_of second.now ≡ 0) }
     ensures { Sized result (product (decode first.now) (decode second.now)) }
 {
     let a = automaton::header(first);
@@ -128,8 +128,8 @@ fn product_size(first: &[u8], second: &[u8]) -> Size
 
 // The union: what either set accepts.
 pub fn union(first: &[u8], second: &[u8], out: &mut [u8]) -> Written
-    ensures answer { writtenAnswer result ≡ combinedOf union first.now second.now out.old }
-    ensures space { out.new ≡ combinedSpace union first.now second.now out.old }
+    ensures answer { written_answer result ≡ combined_of union first.now second.now out.old }
+    ensures space { out.new ≡ combined_space union first.now second.now out.old }
 {
     let refused = inputs(first, second);
     if refused != 0 {
@@ -146,8 +146,8 @@ pub fn union(first: &[u8], second: &[u8], out: &mut [u8]) -> Written
 
 // The product: what both sets accept.
 pub fn product(first: &[u8], second: &[u8], out: &mut [u8]) -> Written
-    ensures answer { writtenAnswer result ≡ combinedOf product first.now second.now out.old }
-    ensures space { out.new ≡ combinedSpace product first.now second.now out.old }
+    ensures answer { written_answer result ≡ combined_of product first.now second.now out.old }
+    ensures space { out.new ≡ combined_space product first.now second.now out.old }
 {
     let refused = inputs(first, second);
     if refused != 0 {

@@ -1,6 +1,6 @@
 // The keys of a result's rules, in order.
 ghost use Rattle.std.specs.Prelude.{◌≡◌, ◌≤◌, length};
-ghost use Rattle.model.specs.Limits.{maxRules};
+ghost use Rattle.model.specs.Limits.{max_rules};
 ghost use Rattle.model.specs.Boolean.{union, product};
 ghost use Rattle.automaton.specs.Stored.{decode};
 ghost use Rattle.boolean.specs.Ready.{Ready, Keyed};
@@ -16,7 +16,7 @@ pub(crate) fn union_keys(
     scratch: &mut [u64],
     keys: &mut [u64],
 ) -> usize
-    requires { Ready first.now second.now (union (decode first.now) (decode second.now)) × (maxRules ≤ length scratch.old) × (length keys.old ≡ length scratch.old) }
+    requires { Ready first.now second.now (union (decode first.now) (decode second.now)) × (max_rules ≤ length scratch.old) × (length keys.old ≡ length scratch.old) }
     ensures { Keyed (union (decode first.now) (decode second.now)) keys.new result }
 {
     let a = automaton::header(first);
@@ -35,7 +35,7 @@ pub(crate) fn product_keys(
     scratch: &mut [u64],
     keys: &mut [u64],
 ) -> usize
-    requires { Ready first.now second.now (product (decode first.now) (decode second.now)) × (maxRules ≤ length scratch.old) × (length keys.old ≡ length scratch.old) }
+    requires { Ready first.now second.now (product (decode first.now) (decode second.now)) × (max_rules ≤ length scratch.old) × (length keys.old ≡ length scratch.old) }
     ensures { Keyed (product (decode first.now) (decode second.now)) keys.new result }
 {
     let n = pair_keys(first, second, keys);

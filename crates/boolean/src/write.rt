@@ -1,10 +1,10 @@
 // Writing the result: header and symbols, states, rules.
 ghost use Rattle.std.specs.Prelude.{◌+◌, ◌≤◌, ◌<◌, length};
-ghost use Rattle.model.specs.Lists.{concatMap};
+ghost use Rattle.model.specs.Lists.{concat_map};
 ghost use Rattle.model.specs.Boolean.{union, product};
 ghost use Rattle.automaton.specs.Stored.{decode};
-ghost use Rattle.automaton.specs.Encode.{encodeRule, encodeStates, encode, encodedLength};
-ghost use Rattle.boolean.specs.Key.{encodeKey};
+ghost use Rattle.automaton.specs.Encode.{encode_rule, encode_states, encode, encoded_length};
+ghost use Rattle.boolean.specs.Key.{encode_key};
 ghost use Rattle.automaton.specs.Laid.{Laid};
 ghost use Rattle.boolean.specs.Ready.{Ready, Sized, front};
 
@@ -21,8 +21,8 @@ const MOST_KEYS: usize = MAX_RULES as usize;
 
 // The states of a product.
 fn put_pair_states(out: &mut [u8], at: usize, form: Form, first: &[u8], second: &[u8]) -> usize
-    requires { Ready first.now second.now (product (decode first.now) (decode second.now)) × (at + length (encodeStates form (product (decode first.now) (decode second.now)).states) ≤ length out.old) }
-    ensures { Laid out.old out.new at result (encodeStates form (product (decode first.now) (decode second.now)).states) }
+    requires { Ready first.now second.now (product (decode first.now) (decode second.now)) × (at + length (encode_states form (product (decode first.now) (decode second.now)).states) ≤ length out.old) }
+    ensures { Laid out.old out.new at result (encode_states form (product (decode first.now) (decode second.now)).states) }
 {
     let a = automaton::header(first);
     let b = automaton::header(second);
@@ -42,8 +42,8 @@ fn put_pair_states(out: &mut [u8], at: usize, form: Form, first: &[u8], second: 
 
 // The rules of keys, with the symbols of a set.
 fn put_rules(out: &mut [u8], at: usize, form: Form, set: &[u8], keys: &[u64]) -> usize
-    requires { at + length (concatMap (encodeKey form (decode set.now).arities) keys.now) ≤ length out.old }
-    ensures { Laid out.old out.new at result (concatMap (encodeKey form (decode set.now).arities) keys.now) }
+    requires { at + length (concat_map (encode_key form (decode set.now).arities) keys.now) ≤ length out.old }
+    ensures { Laid out.old out.new at result (concat_map (encode_key form (decode set.now).arities) keys.now) }
 {
     let mut end = at;
     let mut i = 0;
@@ -73,8 +73,8 @@ fn put_front(out: &mut [u8], form: Form, set: &[u8], size: Size) -> usize
 
 // The rules of a union.
 fn put_union_rules(out: &mut [u8], at: usize, form: Form, first: &[u8], second: &[u8]) -> usize
-    requires { Ready first.now second.now (union (decode first.now) (decode second.now)) × (at + length (concatMap (encodeRule form) (union (decode first.now) (decode second.now)).rules) ≤ length out.old) }
-    ensures { Laid out.old out.new at result (concatMap (encodeRule form) (union (decode first.now) (decode second.now)).rules) }
+    requires { Ready first.now second.now (union (decode first.now) (decode second.now)) × (at + length (concat_map (encode_rule form) (union (decode first.now) (decode second.now)).rules) ≤ length out.old) }
+    ensures { Laid out.old out.new at result (concat_map (encode_rule form) (union (decode first.now) (decode second.now)).rules) }
 {
     let mut scratch = [0u64; MOST_KEYS];
     let mut keys = [0u64; MOST_KEYS];
@@ -84,8 +84,8 @@ fn put_union_rules(out: &mut [u8], at: usize, form: Form, first: &[u8], second: 
 
 // The rules of a product.
 fn put_pair_rules(out: &mut [u8], at: usize, form: Form, first: &[u8], second: &[u8]) -> usize
-    requires { Ready first.now second.now (product (decode first.now) (decode second.now)) × (at + length (concatMap (encodeRule form) (product (decode first.now) (decode second.now)).rules) ≤ length out.old) }
-    ensures { Laid out.old out.new at result (concatMap (encodeRule form) (product (decode first.now) (decode second.now)).rules) }
+    requires { Ready first.now second.now (product (decode first.now) (decode second.now)) × (at + length (concat_map (encode_rule form) (product (decode first.now) (decode second.now)).rules) ≤ length out.old) }
+    ensures { Laid out.old out.new at result (concat_map (encode_rule form) (product (decode first.now) (decode second.now)).rules) }
 {
     let mut scratch = [0u64; MOST_KEYS];
     let mut keys = [0u64; MOST_KEYS];
@@ -101,7 +101,7 @@ pub(crate) fn put_union(
     size: Size,
     out: &mut [u8],
 ) -> usize
-    requires { Ready first.now second.now (union (decode first.now) (decode second.now)) × Sized size (union (decode first.now) (decode second.now)) × (encodedLength form (union (decode first.now) (decode second.now)) ≤ length out.old) }
+    requires { Ready first.now second.now (union (decode first.now) (decode second.now)) × Sized size (union (decode first.now) (decode second.now)) × (encoded_length form (union (decode first.now) (decode second.now)) ≤ length out.old) }
     ensures { Laid out.old out.new 0 result (encode form (union (decode first.now) (decode second.now))) }
 {
     let at = put_front(out, form, first, size);
@@ -118,7 +118,7 @@ pub(crate) fn put_product(
     size: Size,
     out: &mut [u8],
 ) -> usize
-    requires { Ready first.now second.now (product (decode first.now) (decode second.now)) × Sized size (product (decode first.now) (decode second.now)) × (encodedLength form (product (decode first.now) (decode second.now)) ≤ length out.old) }
+    requires { Ready first.now second.now (product (decode first.now) (decode second.now)) × Sized size (product (decode first.now) (decode second.now)) × (encoded_length form (product (decode first.now) (decode second.now)) ≤ length out.old) }
     ensures { Laid out.old out.new 0 result (encode form (product (decode first.now) (decode second.now))) }
 {
     let at = put_front(out, form, first, size);

@@ -9,30 +9,30 @@ use native.Mathlib.Omega.{arith}
 use borrow.Author.Tests.{eqb-true}
 use lib.Dec.{eqb}
 use lib.ListN.{length}
-use Rattle.model.specs.Lists.{concatMap, all_below, anyBelow, uses?}
+use Rattle.model.specs.Lists.{concat_map, all_below, any_below, uses?}
 use Rattle.model.specs.Tree.{Tree, levels, highest}
-use Rattle.model.specs.Automaton.{arityOf}
-use Rattle.model.specs.Refusal.{demand, andAfter, unless, Answer, gives}
+use Rattle.model.specs.Automaton.{arity_of}
+use Rattle.model.specs.Refusal.{demand, and_after, unless, Answer, gives}
 use Rattle.model.specs.Table.{Row}
 use Rattle.model.specs.Run.{Accepts}
 use Rattle.model.specs.Annotation.{annotations}
-use Rattle.model.specs.Build.{addTree, addForest, rows_of}
+use Rattle.model.specs.Build.{add_tree, add_forest, rows_of}
 use Rattle.model.proofs.Below.{at}
-use Rattle.automaton.specs.Form.{tagsWidth, stateWidth, ruleNumbers, ruleWidth, keptMask}
-use Rattle.automaton.specs.Stored.{word, symbolByte, form_of, finalByte, tagsAt, tagsOf, ruleWord, place_of, forgetOf, decode}
-use Rattle.automaton.specs.Check.{countsOk, offsetsOk, symbolOk, stateOk, placeOk, ruleOk, keyWord, ascendsAt, forgetOk, checkOf}
-use Rattle.document.specs.Rows.{cellIn, encodeRows}
-use Rattle.document.specs.Check.{counted?, known?, place_in, child?, children?, scalarFits?, formCheckOf, fresh?, distinctCheckOf, used?, usedCheckOf, levelsCheckOf, tableCheckOf}
+use Rattle.automaton.specs.Form.{tags_width, state_width, rule_numbers, rule_width, kept_mask}
+use Rattle.automaton.specs.Stored.{word, symbol_byte, form_of, final_byte, tags_at, tags_of, rule_word, place_of, forget_of, decode}
+use Rattle.automaton.specs.Check.{counts_ok, offsets_ok, symbol_ok, state_ok, place_ok, rule_ok, key_word, ascends_at, forget_ok, check_of}
+use Rattle.document.specs.Rows.{cell_in, encode_rows}
+use Rattle.document.specs.Check.{counted?, known?, place_in, child?, children?, scalar_fits?, form_check_of, fresh?, distinct_check_of, used?, used_check_of, levels_check_of, table_check_of}
 use Rattle.names.specs.Lines.{lines}
-use Rattle.runs.specs.Steps.{stepCells}
-use Rattle.membership.specs.Cells.{annotationCells, roomOf}
-use Rattle.membership.specs.Judge.{judgeCheckOf}
-use Rattle.json.specs.Signature.{jsonArity, Over}
-use Rattle.json.specs.Read.{rowsRead, refusedAt, read_of}
+use Rattle.runs.specs.Steps.{step_cells}
+use Rattle.membership.specs.Cells.{annotation_cells, room_of}
+use Rattle.membership.specs.Judge.{judge_check_of}
+use Rattle.json.specs.Signature.{json_arity, Over}
+use Rattle.json.specs.Read.{rows_read, refused_at, read_of}
 use Rattle.json.specs.Meaning.{TreeOfText}
 use Rattle.json.proofs.Computing.{bytes, answered}
-use Rattle.json.proofs.ReadTexts.{read-means}
-use Rattle.cases.proofs.JudgedJson.{answer_of, judged-json}
+use Rattle.json.proofs.ReadTexts.{read_means}
+use Rattle.cases.proofs.JudgedJson.{answer_of, judged_json}
 
 -- 24 symbols, 24 states, 1 tag, 25 rules; 0 is the tagged state, on the pools, and 23 the final one
 abbrev set : List ℕ
@@ -68,7 +68,7 @@ set =
     ∷ []
 
 abbrev keys : List ℕ
-keys = concatMap (λ s. bytes s ++ 10 ∷ []) ("pool" ∷ "time" ∷ "servers" ∷ "name" ∷ "address" ∷ "weight" ∷ "sessions" ∷ "rate" ∷ "bytes_in" ∷ "bytes_out" ∷ "limit" ∷ "checks" ∷ "downtime" ∷ "load" ∷ "status" ∷ "queue" ∷ [])
+keys = concat_map (λ s. bytes s ++ 10 ∷ []) ("pool" ∷ "time" ∷ "servers" ∷ "name" ∷ "address" ∷ "weight" ∷ "sessions" ∷ "rate" ∷ "bytes_in" ∷ "bytes_out" ∷ "limit" ∷ "checks" ∷ "downtime" ∷ "load" ∷ "status" ∷ "queue" ∷ [])
 
 -- an export of one server, with more before its weight, and its pool
 abbrev export : String → String → List ℕ
@@ -81,28 +81,28 @@ export more pool =
 
 -- spaces with room for 64 annotations, and as many steps
 abbrev work : ℕ
-work = 64 * annotationCells
+work = 64 * annotation_cells
 
 abbrev run : ℕ
-run = 64 * stepCells
+run = 64 * step_cells
 
 -- every definition on the way of the judge, and of the reader, is open
 unfoldable judged : List Row → Answer Bool
-unfolding answered all_below anyBelow place_of levels highest demand andAfter unless addTree addForest rows_of word symbolByte tagsWidth stateWidth ruleNumbers ruleWidth keptMask form_of finalByte tagsAt tagsOf ruleWord forgetOf decode countsOk offsetsOk symbolOk stateOk placeOk ruleOk keyWord ascendsAt forgetOk checkOf cellIn counted? known? place_in child? children? scalarFits? formCheckOf fresh? distinctCheckOf uses? used? usedCheckOf levelsCheckOf tableCheckOf roomOf judgeCheckOf jsonArity
-judged rows = answer_of set (encodeRows rows) work run
+unfolding answered all_below any_below place_of levels highest demand and_after unless add_tree add_forest rows_of word symbol_byte tags_width state_width rule_numbers rule_width kept_mask form_of final_byte tags_at tags_of rule_word forget_of decode counts_ok offsets_ok symbol_ok state_ok place_ok rule_ok key_word ascends_at forget_ok check_of cell_in counted? known? place_in child? children? scalar_fits? form_check_of fresh? distinct_check_of uses? used? used_check_of levels_check_of table_check_of room_of judge_check_of json_arity
+judged rows = answer_of set (encode_rows rows) work run
 
-sound : checkOf set ≡ 0
+sound : check_of set ≡ 0
 unfolding judged
 sound = refl
 
 -- THE SET HAS THE SYMBOLS OF ITS KEY LIST.
 pub over : Over (length (lines keys)) (decode set)
 unfolding judged
-over s l = (l, eqb-true _ _ (at (λ s. eqb (arityOf (decode set) s) (jsonArity s)) 24 s refl l))
+over s l = (l, eqb-true _ _ (at (λ s. eqb (arity_of (decode set) s) (json_arity s)) 24 s refl l))
 
 -- the rows that a text is read to
 abbrev rows_from : List ℕ → List Row
-rows_from text = elim (read_of keys text 10240) [ rowsRead rows ↦ rows | refusedAt w p ↦ [] ]
+rows_from text = elim (read_of keys text 10240) [ rows_read rows ↦ rows | refused_at w p ↦ [] ]
 
 -- a tree is accepted, or it is not
 abbrev Is : Bool → Tree → Type 0
@@ -114,20 +114,20 @@ abbrev TextIs : Bool → List ℕ → Type 0
 TextIs b text = (tree : Tree) × TreeOfText (lines keys) text tree × Is b tree
 
 -- what the judge answers on the rows of a text holds of its tree
-module _ (text : List ℕ) (e : read_of keys text 10240 ≡ rowsRead (rows_from text)) (few : length (annotations (decode set) (rows_from text)) ≤ 64) where
+module _ (text : List ℕ) (e : read_of keys text 10240 ≡ rows_read (rows_from text)) (few : length (annotations (decode set) (rows_from text)) ≤ 64) where
   abbrev Answers : Bool → Type 0
-  Answers b = answer_of set (encodeRows (rows_from text)) work run ≡ gives b
+  Answers b = answer_of set (encode_rows (rows_from text)) work run ≡ gives b
 
   as_said : (b : Bool) (tree : Tree) → (Answers true ↔ Is true tree) → (Answers false ↔ Is false tree) → Answers b → Is b tree
   as_said true tree yes-means no-means = yes-means.0
   as_said false tree yes-means no-means = no-means.0
 
   holds : (b : Bool) → Answers b → TextIs b text
-  unfolding roomOf
+  unfolding room_of
   holds b answer =
-      let h = read-means keys text 10240 (rows_from text) e in
-      let (passes, yes-means, no-means) = judged-json set keys text 10240 work run (rows_from text) h.tree e h.text-is sound over (omega arith) few in
-      (h.tree, h.text-is, as_said b h.tree yes-means no-means answer)
+      let h = read_means keys text 10240 (rows_from text) e in
+      let (passes, yes-means, no-means) = judged_json set keys text 10240 work run (rows_from text) h.tree e h.text_is sound over (omega arith) few in
+      (h.tree, h.text_is, as_said b h.tree yes-means no-means answer)
 
 -- THE SET ACCEPTS THE EXPORT IN THE AGREED SHAPE.
 pub agreed : TextIs true (export "" "web")
@@ -135,10 +135,10 @@ unfolding judged
 agreed = holds (export "" "web") refl (omega arith) true refl
 
 -- It does not accept one with a queue before the weight, nor one whose server has another pool.
-pub with-queue : TextIs false (export "\"queue\":9," "web")
+pub with_queue : TextIs false (export "\"queue\":9," "web")
 unfolding judged
-with-queue = holds (export "\"queue\":9," "web") refl (omega arith) false refl
+with_queue = holds (export "\"queue\":9," "web") refl (omega arith) false refl
 
-pub other-pool : TextIs false (export "" "mail")
+pub other_pool : TextIs false (export "" "mail")
 unfolding judged
-other-pool = holds (export "" "mail") refl (omega arith) false refl
+other_pool = holds (export "" "mail") refl (omega arith) false refl

@@ -1,30 +1,30 @@
 -- Every starred case holds, of sets in either form: computed, against the definitions that the contracts cite. Assumes nothing.
 use mathlib.Core.Path.{refl}
-use Rattle.model.specs.Lists.{all_below, anyBelow, uses?}
+use Rattle.model.specs.Lists.{all_below, any_below, uses?}
 use Rattle.model.specs.Tree.{levels, highest}
-use Rattle.model.specs.Refusal.{demand, andAfter, unless}
-use Rattle.model.specs.Build.{addTree, addForest, rows_of}
-use Rattle.automaton.specs.Form.{tagsWidth, stateWidth, ruleNumbers, ruleWidth, keptMask}
-use Rattle.automaton.specs.Stored.{word, symbolByte, form_of, finalByte, tagsAt, tagsOf, ruleWord, place_of, forgetOf, decode}
-use Rattle.automaton.specs.Encode.{encodeHeader, encodeSymbol, encodeTags, encodeState, maskNumbers, encodePlaces, encode}
-use Rattle.automaton.specs.Check.{countsOk, offsetsOk, symbolOk, stateOk, placeOk, ruleOk, keyWord, ascendsAt, forgetOk, checkOf}
-use Rattle.document.specs.Rows.{cellIn}
-use Rattle.document.specs.Check.{counted?, known?, place_in, child?, children?, scalarFits?, formCheckOf, fresh?, distinctCheckOf, used?, usedCheckOf, levelsCheckOf, tableCheckOf}
-use Rattle.emptiness.specs.Answer.{sampleCheckOf, witnessCheckOf}
-use Rattle.names.specs.Lines.{lines, blank?, trimmed, line_at, lineCount}
-use Rattle.names.specs.Names.{letter?, digit?, nameByte?, name?, name_of, digits, defaultName, shownName, firstBelow, findIn}
-use Rattle.names.specs.Check.{lineFits?, listFits?, new?, distinct?, namesCheckOf}
-use Rattle.term.specs.Scan.{leading, nameBytes, name_at, word_bytes, word_at, digitsFrom, number_at, hexDigit?, hexValue, hexFrom, value_at, scalarAt}
-use Rattle.term.specs.Grammar.{endTerm, readArgs, readTerm}
-use Rattle.term.specs.Read.{readText, read_of}
-use Rattle.membership.specs.Cells.{roomOf}
-use Rattle.membership.specs.Judge.{judgeCheckOf}
-use Rattle.boolean.specs.Combine.{resultForm, sameSymbols, withinLimits, resultCheckOf, combineCheckOf}
-use Rattle.cases.specs.Sets.{set_b, wideB}
+use Rattle.model.specs.Refusal.{demand, and_after, unless}
+use Rattle.model.specs.Build.{add_tree, add_forest, rows_of}
+use Rattle.automaton.specs.Form.{tags_width, state_width, rule_numbers, rule_width, kept_mask}
+use Rattle.automaton.specs.Stored.{word, symbol_byte, form_of, final_byte, tags_at, tags_of, rule_word, place_of, forget_of, decode}
+use Rattle.automaton.specs.Encode.{encode_header, encode_symbol, encode_tags, encode_state, mask_numbers, encode_places, encode}
+use Rattle.automaton.specs.Check.{counts_ok, offsets_ok, symbol_ok, state_ok, place_ok, rule_ok, key_word, ascends_at, forget_ok, check_of}
+use Rattle.document.specs.Rows.{cell_in}
+use Rattle.document.specs.Check.{counted?, known?, place_in, child?, children?, scalar_fits?, form_check_of, fresh?, distinct_check_of, used?, used_check_of, levels_check_of, table_check_of}
+use Rattle.emptiness.specs.Answer.{sample_check_of, witness_check_of}
+use Rattle.names.specs.Lines.{lines, blank?, trimmed, line_at, line_count}
+use Rattle.names.specs.Names.{letter?, digit?, name_byte?, name?, name_of, digits, default_name, shown_name, first_below, find_in}
+use Rattle.names.specs.Check.{line_fits?, list_fits?, new?, distinct?, names_check_of}
+use Rattle.term.specs.Scan.{leading, name_bytes, name_at, word_bytes, word_at, digits_from, number_at, hex_digit?, hex_value, hex_from, value_at, scalar_at}
+use Rattle.term.specs.Grammar.{end_term, read_args, read_term}
+use Rattle.term.specs.Read.{read_text, read_of}
+use Rattle.membership.specs.Cells.{room_of}
+use Rattle.membership.specs.Judge.{judge_check_of}
+use Rattle.boolean.specs.Combine.{result_form, same_symbols, within_limits, result_check_of, combine_check_of}
+use Rattle.cases.specs.Sets.{set_b, wide_b}
 use Rattle.cases.specs.Cases.{cases, AllHold}
-use Rattle.cases.proofs.Twice.{two-on-first}
+use Rattle.cases.proofs.Twice.{two_on_first}
 
 pub stars : AllHold cases
-unfolding all_below anyBelow place_of levels highest demand andAfter unless addTree addForest rows_of word symbolByte tagsWidth stateWidth ruleNumbers ruleWidth keptMask form_of finalByte tagsAt tagsOf ruleWord forgetOf decode encodeHeader encodeSymbol encodeTags encodeState maskNumbers encodePlaces encode countsOk offsetsOk symbolOk stateOk placeOk ruleOk keyWord ascendsAt forgetOk checkOf cellIn counted? known? place_in child? children? scalarFits? formCheckOf fresh? distinctCheckOf uses? used? usedCheckOf levelsCheckOf tableCheckOf sampleCheckOf witnessCheckOf lines blank? trimmed line_at lineCount letter? digit? nameByte? name? name_of digits defaultName shownName firstBelow findIn lineFits? listFits? new? distinct? namesCheckOf leading nameBytes name_at word_bytes word_at digitsFrom number_at hexDigit? hexValue hexFrom value_at scalarAt endTerm readArgs readTerm readText read_of roomOf judgeCheckOf resultForm sameSymbols withinLimits resultCheckOf combineCheckOf
+unfolding all_below any_below place_of levels highest demand and_after unless add_tree add_forest rows_of word symbol_byte tags_width state_width rule_numbers rule_width kept_mask form_of final_byte tags_at tags_of rule_word forget_of decode encode_header encode_symbol encode_tags encode_state mask_numbers encode_places encode counts_ok offsets_ok symbol_ok state_ok place_ok rule_ok key_word ascends_at forget_ok check_of cell_in counted? known? place_in child? children? scalar_fits? form_check_of fresh? distinct_check_of uses? used? used_check_of levels_check_of table_check_of sample_check_of witness_check_of lines blank? trimmed line_at line_count letter? digit? name_byte? name? name_of digits default_name shown_name first_below find_in line_fits? list_fits? new? distinct? names_check_of leading name_bytes name_at word_bytes word_at digits_from number_at hex_digit? hex_value hex_from value_at scalar_at end_term read_args read_term read_text read_of room_of judge_check_of result_form same_symbols within_limits result_check_of combine_check_of
 stars =
-    ((refl, refl, refl), (refl, ((refl, refl, refl), ((refl, refl, refl), ((refl, refl, refl), ((refl, refl, refl), ((refl, refl, refl), ((refl, refl, refl), (two-on-first set_b refl, ((refl, refl), ((refl, refl, refl), ((refl, refl, refl), ((refl, refl), ((refl, refl), ((refl, refl), ((refl, refl, refl), (refl, ((refl, refl, refl), ((refl, refl, refl), ((refl, refl, refl), ((refl, refl, refl), ((refl, refl, refl), ((refl, refl, refl), (two-on-first wideB refl, ((refl, refl), ((refl, refl, refl), ((refl, refl, refl), ((refl, refl), ((refl, refl), ((refl, refl), tt))))))))))))))))))))))))))))))
+    ((refl, refl, refl), (refl, ((refl, refl, refl), ((refl, refl, refl), ((refl, refl, refl), ((refl, refl, refl), ((refl, refl, refl), ((refl, refl, refl), (two_on_first set_b refl, ((refl, refl), ((refl, refl, refl), ((refl, refl, refl), ((refl, refl), ((refl, refl), ((refl, refl), ((refl, refl, refl), (refl, ((refl, refl, refl), ((refl, refl, refl), ((refl, refl, refl), ((refl, refl, refl), ((refl, refl, refl), ((refl, refl, refl), (two_on_first wide_b refl, ((refl, refl), ((refl, refl, refl), ((refl, refl, refl), ((refl, refl), ((refl, refl), ((refl, refl), tt))))))))))))))))))))))))))))))

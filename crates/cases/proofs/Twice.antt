@@ -10,14 +10,14 @@ use lib.Dec.{eqb}
 use lib.ListN.{length, get_or}
 use Rattle.model.specs.Automaton.{Automaton}
 use Rattle.model.specs.Table.{Row, row_at}
-use Rattle.model.specs.Written.{Step, stepAt, ruleAt, ruleOf, WrittenRun}
-use Rattle.model.proofs.Count.{place-of}
+use Rattle.model.specs.Written.{Step, step_at, rule_at, rule_of, WrittenRun}
+use Rattle.model.proofs.Count.{place_of_lem}
 use Rattle.automaton.specs.Stored.{decode}
-use Rattle.document.specs.Rows.{cellIn, decodeRows}
-use Rattle.runs.specs.Steps.{decodeSteps}
-use Rattle.runs.specs.Check.{checkRunOf}
-use Rattle.runs.proofs.Meaning.{run-written}
-use Rattle.cases.specs.Cases.{onFirst}
+use Rattle.document.specs.Rows.{cell_in, decode_rows}
+use Rattle.runs.specs.Steps.{decode_steps}
+use Rattle.runs.specs.Check.{check_run_of}
+use Rattle.runs.proofs.Meaning.{run_written}
+use Rattle.cases.specs.Cases.{on_first}
 
 -- the cells of pair(a,a)
 abbrev pub cells : List ℕ
@@ -38,16 +38,16 @@ B = record {
 abbrev rows : List Row
 rows = record { symbol = 1; kind = 0; payload = 0; children = [] } ∷ record { symbol = 0; kind = 0; payload = 0; children = 0 ∷ 0 ∷ [] } ∷ []
 
-rows_are : decodeRows cells ≡ rows
-unfolding cellIn
+rows_are : decode_rows cells ≡ rows
+unfolding cell_in
 rows_are = refl
 
 -- a rule of the pair's symbol asks the states 0 and 1
-pair-states : (r : ℕ) → r < 3 → (ruleAt B r).symbol ≡ 0 → (ruleAt B r).children ≡ 0 ∷ 1 ∷ []
-pair-states zero l e = refl
-pair-states (suc zero) l e = let z : ⊥ = omega arith in absurd z
-pair-states (suc (suc zero)) l e = let z : ⊥ = omega arith in absurd z
-pair-states (suc (suc (suc r))) l e = let z : ⊥ = omega arith in absurd z
+pair_states : (r : ℕ) → r < 3 → (rule_at B r).symbol ≡ 0 → (rule_at B r).children ≡ 0 ∷ 1 ∷ []
+pair_states zero l e = refl
+pair_states (suc zero) l e = let z : ⊥ = omega arith in absurd z
+pair_states (suc (suc zero)) l e = let z : ⊥ = omega arith in absurd z
+pair_states (suc (suc (suc r))) l e = let z : ⊥ = omega arith in absurd z
 
 -- three numbers are not among two
 not_three : (x y : ℕ) → (0 ≡ x) ⊎ (0 ≡ y) → (1 ≡ x) ⊎ (1 ≡ y) → (2 ≡ x) ⊎ (2 ≡ y) → ⊥
@@ -59,7 +59,7 @@ not_three x y (inr a) (inl b) (inr c) = omega arith
 not_three x y (inr a) (inr b) c = omega arith
 
 -- of three steps the first two are on row 0
-counted : (run : List Step) → length run ≡ 3 → (stepAt run 0).row ≡ 0 → (stepAt run 1).row ≡ 0 → (stepAt run 2).row ≡ 1 → onFirst run ≡ 2
+counted : (run : List Step) → length run ≡ 3 → (step_at run 0).row ≡ 0 → (step_at run 1).row ≡ 0 → (step_at run 2).row ≡ 1 → on_first run ≡ 2
 counted [] e a b c = let z : ⊥ = omega arith in absurd z
 counted (s ∷ []) e a b c = let z : ⊥ = omega arith in absurd z
 counted (s ∷ t ∷ []) e a b c = let z : ⊥ = omega arith in absurd z
@@ -68,28 +68,28 @@ counted (s ∷ t ∷ u ∷ v ∷ run) e a b c = let z : ⊥ = omega arith in abs
 
 module _ (run : List Step) (w : WrittenRun B rows run) where
   abbrev row : ℕ → ℕ
-  row i = (stepAt run i).row
+  row i = (step_at run i).row
 
   abbrev steps : ℕ → List ℕ
-  steps i = (stepAt run i).steps
+  steps i = (step_at run i).steps
 
   -- child rows are row 0, and only row 1 has any
-  child-first : (i k : ℕ) → i < 2 → k < length (row_at rows i).children → (get_or (row_at rows i).children k 0 ≡ 0) × (i ≡ 1) × (k < 2)
-  child-first zero k l m = let z : ⊥ = omega arith in absurd z
-  child-first (suc zero) zero l m = (refl, refl, omega arith)
-  child-first (suc zero) (suc zero) l m = (refl, refl, omega arith)
-  child-first (suc zero) (suc (suc k)) l m = let z : ⊥ = omega arith in absurd z
-  child-first (suc (suc i)) k l m = let z : ⊥ = omega arith in absurd z
+  child_first : (i k : ℕ) → i < 2 → k < length (row_at rows i).children → (get_or (row_at rows i).children k 0 ≡ 0) × (i ≡ 1) × (k < 2)
+  child_first zero k l m = let z : ⊥ = omega arith in absurd z
+  child_first (suc zero) zero l m = (refl, refl, omega arith)
+  child_first (suc zero) (suc zero) l m = (refl, refl, omega arith)
+  child_first (suc zero) (suc (suc k)) l m = let z : ⊥ = omega arith in absurd z
+  child_first (suc (suc i)) k l m = let z : ⊥ = omega arith in absurd z
 
   -- what uses a step, and at which place
   user : (i : ℕ) → suc i < length run → (row i ≡ 0) × ((j : ℕ) × (j < length run) × (row j ≡ 1) × ((k : ℕ) × (k < 2) × (get_or (steps j) k 0 ≡ i)))
   user i l =
       let (j, lower, inside, member) = w.used i l in
-      let (k, lk, e) = place-of 0 member in
+      let (k, lk, e) = place_of_lem 0 member in
       let fit = w.each j inside in
       let many = fit.one_each in
-      let (first, second, few) = child-first (row j) k fit.known-row (subst (λ n. k < n) many lk) in
-      (sym (ap row e) ∙ fit.child-row k (subst (λ n. k < n) many lk) ∙ first, (j, inside, second, (k, few, e)))
+      let (first, second, few) = child_first (row j) k fit.known_row (subst (λ n. k < n) many lk) in
+      (sym (ap row e) ∙ fit.child_row k (subst (λ n. k < n) many lk) ∙ first, (j, inside, second, (k, few, e)))
 
   abbrev last : ℕ
   last = length run - 1
@@ -119,13 +119,13 @@ module _ (run : List Step) (w : WrittenRun B rows run) where
   -- the two are lower, and two, for their states differ
   children : (get_or (steps last) 0 0 < last) × (get_or (steps last) 1 0 < last) × (get_or (steps last) 0 0 ≡ get_or (steps last) 1 0 → ⊥)
   children =
-      let some = w.some-step in
+      let some = w.some_step in
       let fit = w.each last (omega arith) in
       let place : (k : ℕ) → k < 2 → k < length (row_at rows (row last)).children = λ k l. subst (λ i. k < length (row_at rows i).children) (sym last_row) l in
-      let asked = pair-states (stepAt run last).rule fit.known-rule (fit.same-symbol ∙ ap (λ i. (row_at rows i).symbol) last_row) in
-      let left = fit.child-state 0 (place 0 (omega arith)) ∙ ap (λ (l : List ℕ). get_or l 0 0) asked in
-      let right = fit.child-state 1 (place 1 (omega arith)) ∙ ap (λ (l : List ℕ). get_or l 1 0) asked in
-      (fit.lower 0 (place 0 (omega arith)), fit.lower 1 (place 1 (omega arith)), λ e. apart (sym left ∙ ap (λ i. (ruleOf B run i).target) e ∙ right))
+      let asked = pair_states (step_at run last).rule fit.known_rule (fit.same_symbol ∙ ap (λ i. (row_at rows i).symbol) last_row) in
+      let left = fit.child_state 0 (place 0 (omega arith)) ∙ ap (λ (l : List ℕ). get_or l 0 0) asked in
+      let right = fit.child_state 1 (place 1 (omega arith)) ∙ ap (λ (l : List ℕ). get_or l 1 0) asked in
+      (fit.lower 0 (place 0 (omega arith)), fit.lower 1 (place 1 (omega arith)), λ e. apart (sym left ∙ ap (λ i. (rule_of B run i).target) e ∙ right))
     where
       apart : ◌≡◌ {A = ℕ} 0 1 → ⊥
       apart e = omega arith
@@ -140,15 +140,15 @@ module _ (run : List Step) (w : WrittenRun B rows run) where
       go l (yes m) = absurd (not_three (get_or (steps last) 0 0) (get_or (steps last) 1 0) (among 0 (omega arith)) (among 1 (omega arith)) (among 2 (omega arith)))
       go l (no m) = omega (arith, m)
 
-  pub two_steps : onFirst run ≡ 2
+  pub two_steps : on_first run ≡ 2
   two_steps =
       let n = three in
       let end : last ≡ 2 = omega arith in
       counted run n (user 0 (omega arith)).0 (user 1 (omega arith)).0 (ap row (sym end) ∙ last_row)
 
 -- of any bytes that stand for B
-pub two-on-first : (set : List ℕ) → decode set ≡ B → (run : List ℕ) → checkRunOf set cells run ≡ 0 → onFirst (decodeSteps run) ≡ 2
-two-on-first set e run passes =
-    two_steps (decodeSteps run)
-    (subst (λ (z : List Row). WrittenRun B z (decodeSteps run)) rows_are
-    (subst (λ (a : Automaton). WrittenRun a (decodeRows cells) (decodeSteps run)) e (run-written set cells run passes)))
+pub two_on_first : (set : List ℕ) → decode set ≡ B → (run : List ℕ) → check_run_of set cells run ≡ 0 → on_first (decode_steps run) ≡ 2
+two_on_first set e run passes =
+    two_steps (decode_steps run)
+    (subst (λ (z : List Row). WrittenRun B z (decode_steps run)) rows_are
+    (subst (λ (a : Automaton). WrittenRun a (decode_rows cells) (decode_steps run)) e (run_written set cells run passes)))

@@ -1,19 +1,19 @@
 -- Lists of equal pairs (document 02, Wish 9): sets whose rules forget tags, computed from bytes: the form, its numbers, the judge, the run check, union and product, the sample, the move. Assumes nothing.
 use Rattle.std.specs.Prelude.{◌≡◌, List, [], ◌∷◌, ◌++◌, map, true, false, ℕ, ◌+◌, ◌/◌, ◌%◌, length, take, drop, replicate}
 use Rattle.model.specs.Refusal.{gives, refuses}
-use Rattle.model.specs.Automaton.{forgetsNothing?}
+use Rattle.model.specs.Automaton.{forgets_nothing?}
 use Rattle.model.specs.Papers.{papers?}
 use Rattle.model.specs.Boolean.{union, product}
 use Rattle.automaton.specs.declared.Form.TheVariants.{Narrow, Wide, Isolating}
-use Rattle.automaton.specs.Form.{totalLength}
+use Rattle.automaton.specs.Form.{total_length}
 use Rattle.automaton.specs.Stored.{form_of, decode}
-use Rattle.automaton.specs.Check.{checkOf}
-use Rattle.runs.specs.Check.{checkRunOf}
-use Rattle.boolean.specs.Answer.{combinedOf, combinedSpace}
-use Rattle.forms.specs.Move.{movedOf, movedSpace}
+use Rattle.automaton.specs.Check.{check_of}
+use Rattle.runs.specs.Check.{check_run_of}
+use Rattle.boolean.specs.Answer.{combined_of, combined_space}
+use Rattle.forms.specs.Move.{moved_of, moved_space}
 use Rattle.cases.specs.Sets.{set_e}
-use Rattle.cases.specs.Cases.{Case, judged, refused, live, unsampled, AllHold, cellsFrom, a, a=, g, gNames}
-use Rattle.cases.specs.Edges.{bareIn}
+use Rattle.cases.specs.Cases.{Case, judged, refused, live, unsampled, AllHold, cells_from, a, a=, g, g_names}
+use Rattle.cases.specs.Edges.{bare_in}
 use Rattle.cases.specs.SixteenTags.{junk}
 
 -- four unused child places, and the two behind two children
@@ -37,8 +37,8 @@ pairs mask =
     ∷ (rule 0 1 (0 ∷ 0 ∷ 0 ∷ 0 ∷ two) mask ++ rule 1 2 (1 ∷ 0 ∷ 2 ∷ 0 ∷ two) 0 ++ rule 2 2 none 0 ++ rule 3 0 none 0)
 
 -- the same with rules of 12 bytes
-abbrev pub plainPairs : List ℕ
-plainPairs =
+abbrev pub plain_pairs : List ℕ
+plain_pairs =
     4 ∷ 0 ∷ 3 ∷ 0 ∷ 1 ∷ 0 ∷ 4 ∷ 0 ∷ 16 ∷ 0 ∷ 20 ∷ 0 ∷ 29 ∷ 0 ∷ 77 ∷ 0
     ∷ 2 ∷ 2 ∷ 0 ∷ 0
     ∷ 0 ∷ 1 ∷ 0 ∷ 0 ∷ 0 ∷ 0 ∷ 1 ∷ 0 ∷ 0
@@ -87,17 +87,17 @@ beside =
     ∷ (rule 0 0 (0 ∷ 0 ∷ replicate 6 255) 0 ++ rule 0 1 (0 ∷ 0 ∷ replicate 6 255) 0 ++ rule 1 0 none 0 ++ rule 1 1 none 0)
 
 -- name lists: p, c, n, a; c, n, a; f, a; k, f, a
-abbrev pairsNames : List ℕ
-pairsNames = 112 ∷ 10 ∷ 99 ∷ 10 ∷ 110 ∷ 10 ∷ 97 ∷ []
+abbrev pairs_names : List ℕ
+pairs_names = 112 ∷ 10 ∷ 99 ∷ 10 ∷ 110 ∷ 10 ∷ 97 ∷ []
 
-abbrev doubledNames : List ℕ
-doubledNames = drop 2 pairsNames
+abbrev doubled_names : List ℕ
+doubled_names = drop 2 pairs_names
 
-abbrev balancedNames : List ℕ
-balancedNames = 102 ∷ 10 ∷ 97 ∷ []
+abbrev balanced_names : List ℕ
+balanced_names = 102 ∷ 10 ∷ 97 ∷ []
 
-abbrev readingsNames : List ℕ
-readingsNames = 107 ∷ 10 ∷ balancedNames
+abbrev readings_names : List ℕ
+readings_names = 107 ∷ 10 ∷ balanced_names
 
 -- texts: n, p(..,..), c(..,..), f(..,..), k(..)
 abbrev n : List ℕ
@@ -120,30 +120,30 @@ k x = 107 ∷ 40 ∷ (x ++ 41 ∷ [])
 
 -- The judge and the sample. In `p` no two unequal parts stand, whatever is forgotten behind it; two pairs are each equal for themselves only where the tag is
 -- forgotten between them; a rule's own target comes after what it forgets; annotations are counted after forgetting; the sample does not look at it.
-abbrev pub pairCases : List Case
-pairCases =
-    judged (pairs 1) pairsNames (c (p (a= 1) (a= 1)) (c (p (a= 2) (a= 2)) n)) 7 true 7
-    ∷ judged (pairs 0) pairsNames (c (p (a= 1) (a= 1)) (c (p (a= 2) (a= 2)) n)) 7 false 6
-    ∷ judged plainPairs pairsNames (c (p (a= 1) (a= 1)) (c (p (a= 2) (a= 2)) n)) 7 false 6
-    ∷ judged (pairs 1) pairsNames (c (p (a= 1) (a= 2)) n) 5 false 3
-    ∷ judged (pairs 0) pairsNames (c (p (a= 1) (a= 1)) n) 4 true 4
-    ∷ judged doubled doubledNames (c (a= 1) (c (a= 1) (c (a= 2) (c (a= 2) n)))) 7 true 7
-    ∷ judged doubled doubledNames (c (a= 1) (c (a= 2) (c (a= 2) (c (a= 1) n)))) 7 false 4
-    ∷ judged doubled doubledNames (c (a= 1) n) 3 false 3
-    ∷ judged balanced balancedNames (f a a) 2 true 2
-    ∷ judged balanced balancedNames (f (f a a) a) 3 false 2
-    ∷ judged balanced balancedNames (f (f a a) (f a a)) 3 true 3
-    ∷ judged (readings 1) readingsNames (k (f (a= 1) (a= 2))) 4 true 7
-    ∷ judged (readings 0) readingsNames (k (f (a= 1) (a= 2))) 4 true 8
-    ∷ refused (readings 1) readingsNames (k (f (a= 1) (a= 2))) 6 31
-    ∷ live (pairs 1) pairsNames n 1 1
-    ∷ live balanced balancedNames a 1 1
+abbrev pub pair_cases : List Case
+pair_cases =
+    judged (pairs 1) pairs_names (c (p (a= 1) (a= 1)) (c (p (a= 2) (a= 2)) n)) 7 true 7
+    ∷ judged (pairs 0) pairs_names (c (p (a= 1) (a= 1)) (c (p (a= 2) (a= 2)) n)) 7 false 6
+    ∷ judged plain_pairs pairs_names (c (p (a= 1) (a= 1)) (c (p (a= 2) (a= 2)) n)) 7 false 6
+    ∷ judged (pairs 1) pairs_names (c (p (a= 1) (a= 2)) n) 5 false 3
+    ∷ judged (pairs 0) pairs_names (c (p (a= 1) (a= 1)) n) 4 true 4
+    ∷ judged doubled doubled_names (c (a= 1) (c (a= 1) (c (a= 2) (c (a= 2) n)))) 7 true 7
+    ∷ judged doubled doubled_names (c (a= 1) (c (a= 2) (c (a= 2) (c (a= 1) n)))) 7 false 4
+    ∷ judged doubled doubled_names (c (a= 1) n) 3 false 3
+    ∷ judged balanced balanced_names (f a a) 2 true 2
+    ∷ judged balanced balanced_names (f (f a a) a) 3 false 2
+    ∷ judged balanced balanced_names (f (f a a) (f a a)) 3 true 3
+    ∷ judged (readings 1) readings_names (k (f (a= 1) (a= 2))) 4 true 7
+    ∷ judged (readings 0) readings_names (k (f (a= 1) (a= 2))) 4 true 8
+    ∷ refused (readings 1) readings_names (k (f (a= 1) (a= 2))) 6 31
+    ∷ live (pairs 1) pairs_names n 1 1
+    ∷ live balanced balanced_names a 1 1
     ∷ unsampled shared 41
     ∷ []
 
 -- the steps a in 0, a in 1, g(a) in 1, g(a) in 0 and the root, of which the second and the third are not used; and a, a and p with unequal parts, then nil
-abbrev pub besideRun : List ℕ
-besideRun =
+abbrev pub beside_run : List ℕ
+beside_run =
     2 ∷ 0 ∷ 65535 ∷ 65535 ∷ 65535 ∷ 65535
     ∷ 3 ∷ 0 ∷ 65535 ∷ 65535 ∷ 65535 ∷ 65535
     ∷ 1 ∷ 1 ∷ 0 ∷ 65535 ∷ 65535 ∷ 65535
@@ -151,8 +151,8 @@ besideRun =
     ∷ 0 ∷ 2 ∷ 3 ∷ 65535 ∷ 65535 ∷ 65535
     ∷ []
 
-abbrev pub unequalRun : List ℕ
-unequalRun =
+abbrev pub unequal_run : List ℕ
+unequal_run =
     3 ∷ 0 ∷ 65535 ∷ 65535 ∷ 65535 ∷ 65535
     ∷ 3 ∷ 1 ∷ 65535 ∷ 65535 ∷ 65535 ∷ 65535
     ∷ 0 ∷ 2 ∷ 0 ∷ 1 ∷ 65535 ∷ 65535
@@ -160,41 +160,41 @@ unequalRun =
     ∷ []
 
 -- what the rules of a union or a product of two sets forget, as they are written
-abbrev pub unionMasks : List ℕ → List ℕ → ℕ → List ℕ
-unionMasks s t length = map (λ r. r.forget) (decode (combinedSpace union s t (replicate length 0))).rules
+abbrev pub union_masks : List ℕ → List ℕ → ℕ → List ℕ
+union_masks s t length = map (λ r. r.forget) (decode (combined_space union s t (replicate length 0))).rules
 
-abbrev pub productMasks : List ℕ → List ℕ → ℕ → List ℕ
-productMasks s t length = map (λ r. r.forget) (decode (combinedSpace product s t (replicate length 0))).rules
+abbrev pub product_masks : List ℕ → List ℕ → ℕ → List ℕ
+product_masks s t length = map (λ r. r.forget) (decode (combined_space product s t (replicate length 0))).rules
 
 pub record EqualPairs : Type 0 where
-  pub documents : AllHold pairCases
+  pub documents : AllHold pair_cases
   -- the total tells how long the rules are; without rules they are those without masks
   pub forms :
-      (form_of (pairs 1) ≡ Isolating) × (form_of (pairs 0) ≡ Isolating) × (form_of plainPairs ≡ Wide) × (bareIn Isolating 1 1 0 ≡ bareIn Wide 1 1 0)
-      × (form_of (bareIn Isolating 1 1 0) ≡ Wide)
-  pub longest : totalLength Isolating 64 256 1024 ≡ 15184
+      (form_of (pairs 1) ≡ Isolating) × (form_of (pairs 0) ≡ Isolating) × (form_of plain_pairs ≡ Wide) × (bare_in Isolating 1 1 0 ≡ bare_in Wide 1 1 0)
+      × (form_of (bare_in Isolating 1 1 0) ≡ Wide)
+  pub longest : total_length Isolating 64 256 1024 ≡ 15184
   -- 3 admits the form whole, and no narrow set with such rules; 9 looks at both bytes of a mask; a rule stands once: 7, before 9
-  pub checked : (checkOf (pairs 1) ≡ 0) × (checkOf (pairs 0) ≡ 0) × (checkOf plainPairs ≡ 0) × (checkOf (take 84 (pairs 1)) ≡ 3) × (checkOf (pairs 1 ++ 0 ∷ []) ≡ 3)
-  pub narrow : checkOf (take 14 set_e ++ 65 ∷ 0 ∷ drop 16 set_e ++ replicate 6 0) ≡ 3
-  pub masks : (checkOf (pairs 2) ≡ 9) × (checkOf (pairs 3) ≡ 9) × (checkOf (pairs 256) ≡ 9) × (checkOf twice ≡ 7)
+  pub checked : (check_of (pairs 1) ≡ 0) × (check_of (pairs 0) ≡ 0) × (check_of plain_pairs ≡ 0) × (check_of (take 84 (pairs 1)) ≡ 3) × (check_of (pairs 1 ++ 0 ∷ []) ≡ 3)
+  pub narrow : check_of (take 14 set_e ++ 65 ∷ 0 ∷ drop 16 set_e ++ replicate 6 0) ≡ 3
+  pub masks : (check_of (pairs 2) ≡ 9) × (check_of (pairs 3) ≡ 9) × (check_of (pairs 256) ≡ 9) × (check_of twice ≡ 7)
   -- a test tells sets that forget, whatever their form
-  pub forgets : (forgetsNothing? (decode (pairs 1)) ≡ false) × (forgetsNothing? (decode (pairs 0)) ≡ true) × (forgetsNothing? (decode plainPairs) ≡ true)
+  pub forgets : (forgets_nothing? (decode (pairs 1)) ≡ false) × (forgets_nothing? (decode (pairs 0)) ≡ true) × (forgets_nothing? (decode plain_pairs) ≡ true)
   -- P is an isolating automaton of source document 000: each tag has exactly one state, and no state two tags
   pub source : (papers? (decode (pairs 1)) ≡ true) × (papers? (decode doubled) ≡ true) × (papers? (decode balanced) ≡ true)
   -- 24 is a clash at a step, used or not, before 25 and 26; steps that no one step sees together do not clash
   pub steps :
-      (checkRunOf beside (cellsFrom beside gNames (g (g a))) besideRun ≡ 26)
-      × (checkRunOf (pairs 1) (cellsFrom (pairs 1) pairsNames (c (p (a= 1) (a= 2)) n)) unequalRun ≡ 24)
+      (check_run_of beside (cells_from beside g_names (g (g a))) beside_run ≡ 26)
+      × (check_run_of (pairs 1) (cells_from (pairs 1) pairs_names (c (p (a= 1) (a= 2)) n)) unequal_run ≡ 24)
   -- union and product have masks where either set has, the second's shifted; a rule of a product forgets what either of its rules forgets
   pub unions :
-      (combinedOf union (pairs 1) (pairs 1) (junk 150) ≡ gives 150) × (combinedOf union plainPairs (pairs 0) (junk 150) ≡ gives 150)
-      × (combinedOf union plainPairs plainPairs (junk 134) ≡ gives 134) × (combinedOf union (pairs 1) plainPairs (junk 149) ≡ refuses 53)
-      × (unionMasks (pairs 1) (pairs 1) 150 ≡ 1 ∷ 2 ∷ 0 ∷ 0 ∷ 0 ∷ 0 ∷ 0 ∷ 0 ∷ [])
+      (combined_of union (pairs 1) (pairs 1) (junk 150) ≡ gives 150) × (combined_of union plain_pairs (pairs 0) (junk 150) ≡ gives 150)
+      × (combined_of union plain_pairs plain_pairs (junk 134) ≡ gives 134) × (combined_of union (pairs 1) plain_pairs (junk 149) ≡ refuses 53)
+      × (union_masks (pairs 1) (pairs 1) 150 ≡ 1 ∷ 2 ∷ 0 ∷ 0 ∷ 0 ∷ 0 ∷ 0 ∷ 0 ∷ [])
   pub products :
-      (combinedOf product (pairs 1) (pairs 1) (junk 103) ≡ gives 103) × (combinedOf product plainPairs plainPairs (junk 95) ≡ gives 95)
-      × (productMasks (pairs 1) (pairs 1) 103 ≡ 3 ∷ 0 ∷ 0 ∷ 0 ∷ []) × (productMasks (pairs 1) plainPairs 103 ≡ 1 ∷ 0 ∷ 0 ∷ 0 ∷ [])
-      × (productMasks plainPairs (pairs 1) 103 ≡ 2 ∷ 0 ∷ 0 ∷ 0 ∷ [])
+      (combined_of product (pairs 1) (pairs 1) (junk 103) ≡ gives 103) × (combined_of product plain_pairs plain_pairs (junk 95) ≡ gives 95)
+      × (product_masks (pairs 1) (pairs 1) 103 ≡ 3 ∷ 0 ∷ 0 ∷ 0 ∷ []) × (product_masks (pairs 1) plain_pairs 103 ≡ 1 ∷ 0 ∷ 0 ∷ 0 ∷ [])
+      × (product_masks plain_pairs (pairs 1) 103 ≡ 2 ∷ 0 ∷ 0 ∷ 0 ∷ [])
   -- narrowing a set with such rules, and widening one, is 18, behind 9; without rules a wide set is narrowed
   pub moved :
-      (movedOf Wide Narrow (pairs 1) [] ≡ refuses 18) × (movedOf Wide Narrow (pairs 2) [] ≡ refuses 9) × (movedOf Narrow Wide (pairs 0) [] ≡ refuses 18)
-      × (movedOf Wide Narrow (bareIn Isolating 1 1 8) (junk 19) ≡ gives 19)
+      (moved_of Wide Narrow (pairs 1) [] ≡ refuses 18) × (moved_of Wide Narrow (pairs 2) [] ≡ refuses 9) × (moved_of Narrow Wide (pairs 0) [] ≡ refuses 18)
+      × (moved_of Wide Narrow (bare_in Isolating 1 1 8) (junk 19) ≡ gives 19)

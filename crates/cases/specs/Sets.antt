@@ -13,8 +13,8 @@ set_e =
     ∷ []
 
 -- G (source document 004, example 6): g/1, a/0; q = 0 final, r = 1 with tag 0; g(q) to r, g(r) to q, a to q
-abbrev pub setG : List ℕ
-setG =
+abbrev pub set_g : List ℕ
+set_g =
     2 ∷ 0 ∷ 2 ∷ 0 ∷ 1 ∷ 0 ∷ 3 ∷ 0 ∷ 16 ∷ 0 ∷ 18 ∷ 0 ∷ 22 ∷ 0 ∷ 58 ∷ 0
     ∷ 1 ∷ 0
     ∷ 1 ∷ 0 ∷ 0 ∷ 1
@@ -24,8 +24,8 @@ setG =
     ∷ []
 
 -- D: symbols as E; only pair(0,0) to 0, state 0 final
-abbrev pub setD : List ℕ
-setD =
+abbrev pub set_d : List ℕ
+set_d =
     3 ∷ 0 ∷ 1 ∷ 0 ∷ 0 ∷ 0 ∷ 1 ∷ 0 ∷ 16 ∷ 0 ∷ 19 ∷ 0 ∷ 21 ∷ 0 ∷ 33 ∷ 0
     ∷ 2 ∷ 0 ∷ 0
     ∷ 1 ∷ 0
@@ -44,8 +44,8 @@ set_b =
     ∷ []
 
 -- E and B demanded together: state (p, q) is 3p + q, those of E's state 0 with tag 0, 5 final; a to 0, a to 1, pair(0,1) to 5
-abbrev pub setEB : List ℕ
-setEB =
+abbrev pub set_eB : List ℕ
+set_eB =
     3 ∷ 0 ∷ 6 ∷ 0 ∷ 1 ∷ 0 ∷ 3 ∷ 0 ∷ 16 ∷ 0 ∷ 19 ∷ 0 ∷ 31 ∷ 0 ∷ 67 ∷ 0
     ∷ 2 ∷ 0 ∷ 0
     ∷ 0 ∷ 1 ∷ 0 ∷ 1 ∷ 0 ∷ 1 ∷ 0 ∷ 0 ∷ 0 ∷ 0 ∷ 1 ∷ 0
@@ -55,8 +55,8 @@ setEB =
     ∷ []
 
 -- E in the wide form
-abbrev pub wideE : List ℕ
-wideE =
+abbrev pub wide_e : List ℕ
+wide_e =
     3 ∷ 0 ∷ 2 ∷ 0 ∷ 1 ∷ 0 ∷ 3 ∷ 0 ∷ 16 ∷ 0 ∷ 19 ∷ 0 ∷ 25 ∷ 0 ∷ 61 ∷ 0
     ∷ 2 ∷ 0 ∷ 0
     ∷ 0 ∷ 1 ∷ 0 ∷ 1 ∷ 0 ∷ 0
@@ -66,8 +66,8 @@ wideE =
     ∷ []
 
 -- G in the wide form
-abbrev pub wideG : List ℕ
-wideG =
+abbrev pub wide_g : List ℕ
+wide_g =
     2 ∷ 0 ∷ 2 ∷ 0 ∷ 1 ∷ 0 ∷ 3 ∷ 0 ∷ 16 ∷ 0 ∷ 18 ∷ 0 ∷ 24 ∷ 0 ∷ 60 ∷ 0
     ∷ 1 ∷ 0
     ∷ 1 ∷ 0 ∷ 0 ∷ 0 ∷ 1 ∷ 0
@@ -77,8 +77,8 @@ wideG =
     ∷ []
 
 -- D in the wide form
-abbrev pub wideD : List ℕ
-wideD =
+abbrev pub wide_d : List ℕ
+wide_d =
     3 ∷ 0 ∷ 1 ∷ 0 ∷ 0 ∷ 0 ∷ 1 ∷ 0 ∷ 16 ∷ 0 ∷ 19 ∷ 0 ∷ 22 ∷ 0 ∷ 34 ∷ 0
     ∷ 2 ∷ 0 ∷ 0
     ∷ 1 ∷ 0 ∷ 0
@@ -86,8 +86,8 @@ wideD =
     ∷ []
 
 -- B in the wide form
-abbrev pub wideB : List ℕ
-wideB =
+abbrev pub wide_b : List ℕ
+wide_b =
     3 ∷ 0 ∷ 3 ∷ 0 ∷ 0 ∷ 0 ∷ 3 ∷ 0 ∷ 16 ∷ 0 ∷ 19 ∷ 0 ∷ 28 ∷ 0 ∷ 64 ∷ 0
     ∷ 2 ∷ 0 ∷ 0
     ∷ 0 ∷ 0 ∷ 0 ∷ 0 ∷ 0 ∷ 0 ∷ 1 ∷ 0 ∷ 0
@@ -97,8 +97,8 @@ wideB =
     ∷ []
 
 -- EB in the wide form
-abbrev pub wideEB : List ℕ
-wideEB =
+abbrev pub wide_eB : List ℕ
+wide_eB =
     3 ∷ 0 ∷ 6 ∷ 0 ∷ 1 ∷ 0 ∷ 3 ∷ 0 ∷ 16 ∷ 0 ∷ 19 ∷ 0 ∷ 37 ∷ 0 ∷ 73 ∷ 0
     ∷ 2 ∷ 0 ∷ 0
     ∷ 0 ∷ 1 ∷ 0 ∷ 0 ∷ 1 ∷ 0 ∷ 0 ∷ 1 ∷ 0 ∷ 0 ∷ 0 ∷ 0 ∷ 0 ∷ 0 ∷ 0 ∷ 1 ∷ 0 ∷ 0

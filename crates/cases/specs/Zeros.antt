@@ -3,13 +3,13 @@ use Rattle.std.specs.Prelude.{◌≡◌, List, [], ◌∷◌, ◌++◌, true, fa
 use Rattle.std.specs.Float.{fin, binary64}
 use Rattle.std.specs.Float.Ieee.{neg, eq, of_bits}
 use Rattle.model.specs.Refusal.{gives}
-use Rattle.model.specs.Table.{minusZero, rate?, oneZero, scalar?}
+use Rattle.model.specs.Table.{minus_zero, rate?, one_zero, scalar?}
 use Rattle.automaton.specs.Stored.{decode}
-use Rattle.document.specs.Check.{tableCheckOf}
-use Rattle.term.specs.Zeros.{zerosOne}
-use Rattle.spelling.specs.Write.{writeOf}
+use Rattle.document.specs.Check.{table_check_of}
+use Rattle.term.specs.Zeros.{zeros_one}
+use Rattle.spelling.specs.Write.{write_of}
 use Rattle.cases.specs.Sets.{set_e}
-use Rattle.cases.specs.Cases.{pairNames, pair, cellsFrom, Case, judged, AllHold}
+use Rattle.cases.specs.Cases.{pair_names, pair, cells_from, Case, judged, AllHold}
 
 -- a rate's digits: the two zeros, and the rate next to minus zero
 abbrev pub plus : List ℕ
@@ -33,26 +33,26 @@ abbrev pub row : ℕ → List ℕ → List ℕ
 row kind payload = 1 ∷ 65535 ∷ 65535 ∷ 65535 ∷ 65535 ∷ kind ∷ payload
 
 -- The example, which was no; two minus zeros; and a zero with the rate next to the other.
-abbrev pub zeroCases : List Case
-zeroCases = judged set_e pairNames (rates plus minus) 2 true 2 ∷ judged set_e pairNames (rates minus minus) 2 true 2 ∷ judged set_e pairNames (rates plus below) 3 false 2 ∷ []
+abbrev pub zero_cases : List Case
+zero_cases = judged set_e pair_names (rates plus minus) 2 true 2 ∷ judged set_e pair_names (rates minus minus) 2 true 2 ∷ judged set_e pair_names (rates plus below) 3 false 2 ∷ []
 
 pub record TwoZeros : Type 0 where
   -- minus zero is the toolchain's zero with a minus sign, which equals the other zero as a float
-  pub float : (of_bits binary64 minusZero ≡ neg (of_bits binary64 0)) × (of_bits binary64 0 ≡ fin false 0 (pos 0)) × (eq (of_bits binary64 minusZero) (of_bits binary64 0) ≡ true)
+  pub float : (of_bits binary64 minus_zero ≡ neg (of_bits binary64 0)) × (of_bits binary64 0 ≡ fin false 0 (pos 0)) × (eq (of_bits binary64 minus_zero) (of_bits binary64 0) ≡ true)
   -- it alone may not stand in a row: its neighbours, the infinities and NaNs may, and so may the count with these bits
   pub standing :
-      (rate? minusZero ≡ false) × (rate? (minusZero - 1) ≡ true) × (rate? (minusZero + 1) ≡ true) × (rate? 0 ≡ true)
+      (rate? minus_zero ≡ false) × (rate? (minus_zero - 1) ≡ true) × (rate? (minus_zero + 1) ≡ true) × (rate? 0 ≡ true)
       × (rate? 9218868437227405312 ≡ true) × (rate? 18442240474082181120 ≡ true) × (rate? 18444492273895866368 ≡ true) × (rate? (2 ^ 64 - 1) ≡ true) × (rate? (2 ^ 64) ≡ false)
-      × (scalar? 2 minusZero ≡ true)
+      × (scalar? 2 minus_zero ≡ true)
   -- it becomes zero, its neighbour and a NaN with its sign stay
-  pub becomes : (oneZero minusZero ≡ 0) × (oneZero (minusZero + 1) ≡ minusZero + 1) × (oneZero 18444492273895866368 ≡ 18444492273895866368) × (oneZero 0 ≡ 0)
-  pub example : AllHold zeroCases
+  pub becomes : (one_zero minus_zero ≡ 0) × (one_zero (minus_zero + 1) ≡ minus_zero + 1) × (one_zero 18444492273895866368 ≡ 18444492273895866368) × (one_zero 0 ≡ 0)
+  pub example : AllHold zero_cases
   -- given in a row it is 14; its neighbour and the count are not
   pub given :
-      (tableCheckOf (decode set_e) (row 3 (0 ∷ 0 ∷ 0 ∷ 32768 ∷ [])) ≡ 14)
-      × (tableCheckOf (decode set_e) (row 3 (1 ∷ 0 ∷ 0 ∷ 32768 ∷ [])) ≡ 0)
-      × (tableCheckOf (decode set_e) (row 2 (0 ∷ 0 ∷ 0 ∷ 32768 ∷ [])) ≡ 0)
+      (table_check_of (decode set_e) (row 3 (0 ∷ 0 ∷ 0 ∷ 32768 ∷ [])) ≡ 14)
+      × (table_check_of (decode set_e) (row 3 (1 ∷ 0 ∷ 0 ∷ 32768 ∷ [])) ≡ 0)
+      × (table_check_of (decode set_e) (row 2 (0 ∷ 0 ∷ 0 ∷ 32768 ∷ [])) ≡ 0)
   -- a text writes back with zeros
-  pub written : writeOf set_e pairNames [] (cellsFrom set_e pairNames (rates plus minus)) 43 ≡ gives (rates plus plus)
+  pub written : write_of set_e pair_names [] (cells_from set_e pair_names (rates plus minus)) 43 ≡ gives (rates plus plus)
   -- the text with its zeros made one: no other digits change, nor these without `~`
-  pub text : (zerosOne (rates minus minus) ≡ rates plus plus) × (zerosOne (rates plus below) ≡ rates plus below) × (zerosOne (97 ∷ 61 ∷ minus) ≡ 97 ∷ 61 ∷ minus) × (zerosOne (126 ∷ minus ++ minus) ≡ 126 ∷ plus ++ minus)
+  pub text : (zeros_one (rates minus minus) ≡ rates plus plus) × (zeros_one (rates plus below) ≡ rates plus below) × (zeros_one (97 ∷ 61 ∷ minus) ≡ 97 ∷ 61 ∷ minus) × (zeros_one (126 ∷ minus ++ minus) ≡ 126 ∷ plus ++ minus)

@@ -1,9 +1,9 @@
 // Answers as one 64-bit number.
 ghost use Rattle.std.specs.Prelude.{◌≡◌, ◌-◌, ◌^◌, ◌<◌, min};
-ghost use Rattle.automaton.specs.Answer.{checkAnswer, writtenAnswer};
-ghost use Rattle.emptiness.specs.Answer.{emptinessAnswer};
-ghost use Rattle.spelling.specs.Write.{writeAnswer};
-ghost use Rattle.cidhomba.specs.Code.{refusalCode, checkCode, judgedCode, countCode, witnessCode};
+ghost use Rattle.automaton.specs.Answer.{check_answer, written_answer};
+ghost use Rattle.emptiness.specs.Answer.{emptiness_answer};
+ghost use Rattle.spelling.specs.Write.{write_answer};
+ghost use Rattle.cidhomba.specs.Code.{refusal_code, check_code, judged_code, count_code, witness_code};
 
 use automaton::{Checked, Written};
 use emptiness::Emptiness;
@@ -26,13 +26,13 @@ fn cut_place(place: usize) -> u64
 
 pub(crate) fn refusal_code(number: u16, place: usize) -> u64
     requires { number < 256 }
-    ensures { result ≡ refusalCode number place }
+    ensures { result ≡ refusal_code number place }
 {
     REFUSED + cut_place(place) * 256 + number as u64
 }
 
 pub(crate) fn check_code(c: Checked) -> u64
-    ensures { result ≡ checkCode (checkAnswer c) }
+    ensures { result ≡ check_code (check_answer c) }
 {
     match c {
         Checked::Passed => 0,
@@ -41,7 +41,7 @@ pub(crate) fn check_code(c: Checked) -> u64
 }
 
 pub(crate) fn judged_code(j: Judged) -> u64
-    ensures { result ≡ judgedCode j }
+    ensures { result ≡ judged_code j }
 {
     match j {
         Judged::Yes(s) => s as u64,
@@ -51,7 +51,7 @@ pub(crate) fn judged_code(j: Judged) -> u64
 }
 
 pub(crate) fn written_code(w: Written) -> u64
-    ensures { result ≡ countCode (writtenAnswer w) }
+    ensures { result ≡ count_code (written_answer w) }
 {
     match w {
         Written::Length(n) => n as u64,
@@ -60,7 +60,7 @@ pub(crate) fn written_code(w: Written) -> u64
 }
 
 pub(crate) fn witness_code(e: Emptiness) -> u64
-    ensures { result ≡ witnessCode (emptinessAnswer e) }
+    ensures { result ≡ witness_code (emptiness_answer e) }
 {
     match e {
         Emptiness::Dead => 0,
@@ -70,7 +70,7 @@ pub(crate) fn witness_code(e: Emptiness) -> u64
 }
 
 pub(crate) fn write_code(w: TermWritten) -> u64
-    ensures { result ≡ countCode (writeAnswer w) }
+    ensures { result ≡ count_code (write_answer w) }
 {
     match w {
         TermWritten::Bytes(n) => n as u64,

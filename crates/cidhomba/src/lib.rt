@@ -2,23 +2,23 @@
 mod code; // code.rt: answers as numbers
 
 ghost use Rattle.std.specs.Prelude.{◌≡◌, length};
-ghost use Rattle.model.specs.Refusal.{unless, answerMap};
+ghost use Rattle.model.specs.Refusal.{unless, answer_map};
 ghost use Rattle.model.specs.Boolean.{union, product};
 ghost use Rattle.automaton.specs.declared.Form.TheVariants.{Narrow, Wide, Isolating};
-ghost use Rattle.automaton.specs.Check.{checkOf};
-ghost use Rattle.document.specs.Check.{documentCheckOf};
-ghost use Rattle.runs.specs.Check.{checkRunOf};
-ghost use Rattle.boolean.specs.Answer.{combinedOf, combinedSpace};
-ghost use Rattle.forms.specs.Move.{movedOf, movedSpace};
-ghost use Rattle.emptiness.specs.Answer.{emptinessOf};
-ghost use Rattle.emptiness.specs.Answer.{spaceAfter as witnessSpace};
-ghost use Rattle.term.specs.Read.{readingMap, read_of};
-ghost use Rattle.term.specs.Read.{spaceAfter as readSpace};
-ghost use Rattle.json.specs.Read.{readingMap as jsonMap, read_of as jsonOf};
-ghost use Rattle.json.specs.Answer.{spaceAfter as jsonSpace};
-ghost use Rattle.spelling.specs.Write.{writeOf};
-ghost use Rattle.spelling.specs.Write.{spaceAfter as writeSpace};
-ghost use Rattle.cidhomba.specs.Code.{checkCode, JudgingCode, countCode, witnessCode, read_code, jsonCode};
+ghost use Rattle.automaton.specs.Check.{check_of};
+ghost use Rattle.document.specs.Check.{document_check_of};
+ghost use Rattle.runs.specs.Check.{check_run_of};
+ghost use Rattle.boolean.specs.Answer.{combined_of, combined_space};
+ghost use Rattle.forms.specs.Move.{moved_of, moved_space};
+ghost use Rattle.emptiness.specs.Answer.{emptiness_of};
+ghost use Rattle.emptiness.specs.Answer.{space_after as witnessSpace};
+ghost use Rattle.term.specs.Read.{reading_map, read_of};
+ghost use Rattle.term.specs.Read.{space_after as readSpace};
+ghost use Rattle.json.specs.Read.{reading_map as jsonMap, read_of as jsonOf};
+ghost use Rattle.json.specs.Answer.{space_after as jsonSpace};
+ghost use Rattle.spelling.specs.Write.{write_of};
+ghost use Rattle.spelling.specs.Write.{space_after as writeSpace};
+ghost use Rattle.cidhomba.specs.Code.{check_code, JudgingCode, count_code, witness_code, read_code, json_code};
 
 use code::{check_code, judged_code, refusal_code, witness_code, write_code, written_code};
 use json::JsonRead;
@@ -27,7 +27,7 @@ use term::TermRead;
 // 0, or the refusal of the set.
 #[unsafe(no_mangle)]
 pub extern "C" fn cidhomba_check_automaton(set: &[u8]) -> u64
-    ensures { result ≡ checkCode (unless (checkOf set.now) tt) }
+    ensures { result ≡ check_code (unless (check_of set.now) tt) }
 {
     check_code(automaton::check(set))
 }
@@ -35,7 +35,7 @@ pub extern "C" fn cidhomba_check_automaton(set: &[u8]) -> u64
 // 0, or the refusal of the set or of the table.
 #[unsafe(no_mangle)]
 pub extern "C" fn cidhomba_check_document(set: &[u8], rows: &[u16]) -> u64
-    ensures { result ≡ checkCode (unless (documentCheckOf set.now rows.now) tt) }
+    ensures { result ≡ check_code (unless (document_check_of set.now rows.now) tt) }
 {
     check_code(document::check(set, rows))
 }
@@ -43,7 +43,7 @@ pub extern "C" fn cidhomba_check_document(set: &[u8], rows: &[u16]) -> u64
 // 0, or the refusal of the set, of the table or of the run.
 #[unsafe(no_mangle)]
 pub extern "C" fn cidhomba_check_run(set: &[u8], rows: &[u16], run: &[u16]) -> u64
-    ensures { result ≡ checkCode (unless (checkRunOf set.now rows.now run.now) tt) }
+    ensures { result ≡ check_code (unless (check_run_of set.now rows.now run.now) tt) }
 {
     check_code(runs::check(set, rows, run))
 }
@@ -64,8 +64,8 @@ pub extern "C" fn cidhomba_membership(
 // The length of the union written, or the refusal of the first set, of the second, or of both.
 #[unsafe(no_mangle)]
 pub extern "C" fn cidhomba_union(first: &[u8], second: &[u8], out: &mut [u8]) -> u64
-    ensures answer { result ≡ countCode (combinedOf union first.now second.now out.old) }
-    ensures space { out.new ≡ combinedSpace union first.now second.now out.old }
+    ensures answer { result ≡ count_code (combined_of union first.now second.now out.old) }
+    ensures space { out.new ≡ combined_space union first.now second.now out.old }
 {
     written_code(boolean::union(first, second, out))
 }
@@ -73,8 +73,8 @@ pub extern "C" fn cidhomba_union(first: &[u8], second: &[u8], out: &mut [u8]) ->
 // The length of the product written, or the refusal of the first set, of the second, or of both.
 #[unsafe(no_mangle)]
 pub extern "C" fn cidhomba_product(first: &[u8], second: &[u8], out: &mut [u8]) -> u64
-    ensures answer { result ≡ countCode (combinedOf product first.now second.now out.old) }
-    ensures space { out.new ≡ combinedSpace product first.now second.now out.old }
+    ensures answer { result ≡ count_code (combined_of product first.now second.now out.old) }
+    ensures space { out.new ≡ combined_space product first.now second.now out.old }
 {
     written_code(boolean::product(first, second, out))
 }
@@ -82,8 +82,8 @@ pub extern "C" fn cidhomba_product(first: &[u8], second: &[u8], out: &mut [u8]) 
 // The length of the set written in the wide form, or its refusal.
 #[unsafe(no_mangle)]
 pub extern "C" fn cidhomba_widen_states(set: &[u8], out: &mut [u8]) -> u64
-    ensures answer { result ≡ countCode (movedOf Narrow Wide set.now out.old) }
-    ensures space { out.new ≡ movedSpace Narrow Wide set.now out.old }
+    ensures answer { result ≡ count_code (moved_of Narrow Wide set.now out.old) }
+    ensures space { out.new ≡ moved_space Narrow Wide set.now out.old }
 {
     written_code(forms::widen_states(set, out))
 }
@@ -91,8 +91,8 @@ pub extern "C" fn cidhomba_widen_states(set: &[u8], out: &mut [u8]) -> u64
 // The length of the set written in the narrow form, or its refusal.
 #[unsafe(no_mangle)]
 pub extern "C" fn cidhomba_narrow_states(set: &[u8], out: &mut [u8]) -> u64
-    ensures answer { result ≡ countCode (movedOf Wide Narrow set.now out.old) }
-    ensures space { out.new ≡ movedSpace Wide Narrow set.now out.old }
+    ensures answer { result ≡ count_code (moved_of Wide Narrow set.now out.old) }
+    ensures space { out.new ≡ moved_space Wide Narrow set.now out.old }
 {
     written_code(forms::narrow_states(set, out))
 }
@@ -100,8 +100,8 @@ pub extern "C" fn cidhomba_narrow_states(set: &[u8], out: &mut [u8]) -> u64
 // The length of the set written with rules of 14 bytes, or its refusal.
 #[unsafe(no_mangle)]
 pub extern "C" fn cidhomba_widen_rules(set: &[u8], out: &mut [u8]) -> u64
-    ensures answer { result ≡ countCode (movedOf Wide Isolating set.now out.old) }
-    ensures space { out.new ≡ movedSpace Wide Isolating set.now out.old }
+    ensures answer { result ≡ count_code (moved_of Wide Isolating set.now out.old) }
+    ensures space { out.new ≡ moved_space Wide Isolating set.now out.old }
 {
     written_code(forms::widen_rules(set, out))
 }
@@ -109,8 +109,8 @@ pub extern "C" fn cidhomba_widen_rules(set: &[u8], out: &mut [u8]) -> u64
 // The length of the set written with rules of 12 bytes, or its refusal.
 #[unsafe(no_mangle)]
 pub extern "C" fn cidhomba_narrow_rules(set: &[u8], out: &mut [u8]) -> u64
-    ensures answer { result ≡ countCode (movedOf Isolating Wide set.now out.old) }
-    ensures space { out.new ≡ movedSpace Isolating Wide set.now out.old }
+    ensures answer { result ≡ count_code (moved_of Isolating Wide set.now out.old) }
+    ensures space { out.new ≡ moved_space Isolating Wide set.now out.old }
 {
     written_code(forms::narrow_rules(set, out))
 }
@@ -118,7 +118,7 @@ pub extern "C" fn cidhomba_narrow_rules(set: &[u8], out: &mut [u8]) -> u64
 // 0 for dead; for live the number of rows, which stand at the front of the space, and 65536 times the levels; or the refusal.
 #[unsafe(no_mangle)]
 pub extern "C" fn cidhomba_witness(set: &[u8], rows: &mut [u16]) -> u64
-    ensures answer { result ≡ witnessCode (emptinessOf set.now (length rows.old)) }
+    ensures answer { result ≡ witness_code (emptiness_of set.now (length rows.old)) }
     ensures space { rows.new ≡ witnessSpace set.now rows.old }
 {
     witness_code(emptiness::witness(set, rows))
@@ -133,7 +133,7 @@ pub extern "C" fn cidhomba_read_term<'a>(
     text: &[u8],
     rows: &mut [u16],
 ) -> u64
-    ensures answer { result ≡ read_code (readingMap length (read_of set.now site.now built_in.now text.now (length rows.old))) }
+    ensures answer { result ≡ read_code (reading_map length (read_of set.now site.now built_in.now text.now (length rows.old))) }
     ensures space { rows.new ≡ readSpace (read_of set.now site.now built_in.now text.now (length rows.old)) rows.old }
 {
     match term::read(set, site, built_in, text, rows) {
@@ -145,7 +145,7 @@ pub extern "C" fn cidhomba_read_term<'a>(
 // The number of rows written, or the refusal of the key list or of the text.
 #[unsafe(no_mangle)]
 pub extern "C" fn cidhomba_read_json(keys: &[u8], text: &[u8], rows: &mut [u16]) -> u64
-    ensures answer { result ≡ jsonCode (jsonMap length (jsonOf keys.now text.now (length rows.old))) }
+    ensures answer { result ≡ json_code (jsonMap length (jsonOf keys.now text.now (length rows.old))) }
     ensures space { rows.new ≡ jsonSpace (jsonOf keys.now text.now (length rows.old)) rows.old }
 {
     match json::read(keys, text, rows) {
@@ -163,8 +163,8 @@ pub extern "C" fn cidhomba_write_term<'a>(
     rows: &[u16],
     text: &mut [u8],
 ) -> u64
-    ensures answer { result ≡ countCode (answerMap length (writeOf set.now site.now built_in.now rows.now (length text.old))) }
-    ensures space { text.new ≡ writeSpace (writeOf set.now site.now built_in.now rows.now (length text.old)) text.old }
+    ensures answer { result ≡ count_code (answer_map length (write_of set.now site.now built_in.now rows.now (length text.old))) }
+    ensures space { text.new ≡ writeSpace (write_of set.now site.now built_in.now rows.now (length text.old)) text.old }
 {
     write_code(spelling::write(set, site, built_in, rows, text))
 }

@@ -10,8 +10,8 @@ use lib.Dec.{eqb}
 use lib.ListN.{get_or}
 use lib.Pow.{shr-shr}
 use Rattle.model.specs.Automaton.{bit?}
-use Rattle.model.proofs.Tab.{tab-at}
-use Rattle.classes.specs.Classes.{answers, sixClasses, inClass?, classTable}
+use Rattle.model.proofs.Tab.{tab_at}
+use Rattle.classes.specs.Classes.{answers, six_classes, in_class?, class_table}
 
 -- the lowest bit is the first answer, and above it stand the others
 lowest : (x : ℕ) (r : Bool) → bit? (x * 2 + cond r 1 0) 0 ≡ r
@@ -34,10 +34,10 @@ answered [] b k = ap (λ (n : ℕ). eqb (n % 2) 1) (zero-div (2 ^ k))
 answered (p ∷ ps) b zero = lowest (answers ps b) (p b)
 answered (p ∷ ps) b (suc k) = above (answers ps b) k (p b) ∙ answered ps b k
 
-pub compared : (b k : ℕ) → b < 256 → bit? (get_or classTable b 0) k ≡ inClass? k b
-unfolding classTable
-compared b k h = ap (λ (n : ℕ). bit? n k) (tab-at 0 256 (answers sixClasses) b h) ∙ answered sixClasses b k
+pub compared : (b k : ℕ) → b < 256 → bit? (get_or class_table b 0) k ≡ in_class? k b
+unfolding class_table
+compared b k h = ap (λ (n : ℕ). bit? n k) (tab_at 0 256 (answers six_classes) b h) ∙ answered six_classes b k
 
 -- the same of a table that was lent
-pub compared-in : (t : List ℕ) (b k : ℕ) → b < 256 → t ≡ classTable → bit? (get_or t b 0) k ≡ inClass? k b
-compared-in t b k h e = ap (λ (l : List ℕ). bit? (get_or l b 0) k) e ∙ compared b k h
+pub compared_in : (t : List ℕ) (b k : ℕ) → b < 256 → t ≡ class_table → bit? (get_or t b 0) k ≡ in_class? k b
+compared_in t b k h e = ap (λ (l : List ℕ). bit? (get_or l b 0) k) e ∙ compared b k h

@@ -18,10 +18,10 @@ either false b f g h = g h
 pub between : (a b x : ℕ) → (leb a x && leb x b) ≡ true → (a ≤ x) × (x ≤ b)
 between a b x e = let (p, q) = both (leb a x) (leb x b) e in (leb-true a x p, leb-true x b q)
 
-pub letter-range : (b : ℕ) → letter? b ≡ true → (97 ≤ b) × (b ≤ 122)
+pub letter_range : (b : ℕ) → letter? b ≡ true → (97 ≤ b) × (b ≤ 122)
 unfolding letter?
-letter-range b e = between 97 122 b e
+letter_range b e = between 97 122 b e
 
-pub digit-range : (b : ℕ) → digit? b ≡ true → (48 ≤ b) × (b ≤ 57)
+pub digit_range : (b : ℕ) → digit? b ≡ true → (48 ≤ b) × (b ≤ 57)
 unfolding digit?
-digit-range b e = between 48 57 b e
+digit_range b e = between 48 57 b e

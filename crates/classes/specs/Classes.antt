@@ -11,8 +11,8 @@ unfoldable pub digit? : ℕ → Bool
 digit? b = leb 48 b && leb b 57
 
 -- 0 to 9, a to f, A to F
-unfoldable pub eitherHexDigit? : ℕ → Bool
-eitherHexDigit? b = digit? b || ((leb 97 b && leb b 102) || (leb 65 b && leb b 70))
+unfoldable pub either_hex_digit? : ℕ → Bool
+either_hex_digit? b = digit? b || ((leb 97 b && leb b 102) || (leb 65 b && leb b 70))
 
 -- tab, newline, return, space
 unfoldable pub space? : ℕ → Bool
@@ -27,12 +27,12 @@ unfoldable pub control? : ℕ → Bool
 control? b = ltb b 32
 
 -- the six classes, in the order of their bits
-abbrev pub sixClasses : List (ℕ → Bool)
-sixClasses = letter? ∷ digit? ∷ eitherHexDigit? ∷ space? ∷ mark? ∷ control? ∷ []
+abbrev pub six_classes : List (ℕ → Bool)
+six_classes = letter? ∷ digit? ∷ either_hex_digit? ∷ space? ∷ mark? ∷ control? ∷ []
 
 -- byte b is in class k
-abbrev pub inClass? : ℕ → ℕ → Bool
-inClass? k = get_or sixClasses k (λ _. false)
+abbrev pub in_class? : ℕ → ℕ → Bool
+in_class? k = get_or six_classes k (λ _. false)
 
 -- the number whose bit k is what test k says of a byte
 abbrev pub answers : List (ℕ → Bool) → ℕ → ℕ
@@ -40,5 +40,5 @@ answers [] b = 0
 answers (p ∷ ps) b = answers ps b * 2 + cond (p b) 1 0
 
 -- the table: for each byte what the six classes say of it
-unfoldable pub classTable : List ℕ
-classTable = tab 256 (answers sixClasses)
+unfoldable pub class_table : List ℕ
+class_table = tab 256 (answers six_classes)

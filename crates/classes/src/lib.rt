@@ -4,7 +4,7 @@ mod entries; // entries.rt: the table
 
 ghost use Rattle.std.specs.Prelude.{◌≡◌, ◌||◌, ◌<◌, get_or};
 ghost use Rattle.model.specs.Automaton.{bit?};
-ghost use Rattle.classes.specs.Classes.{letter?, digit?, eitherHexDigit?, space?, mark?, control?, inClass?, classTable};
+ghost use Rattle.classes.specs.Classes.{letter?, digit?, either_hex_digit?, space?, mark?, control?, in_class?, class_table};
 
 use entries::CLASSES;
 
@@ -23,7 +23,7 @@ const CONTROL: u8 = 5;
 
 // The table, built anew at each call: an entry point calls once.
 pub fn class_table() -> [u8; 256]
-    ensures { result ≡ classTable }
+    ensures { result ≡ class_table }
 {
     CLASSES
 }
@@ -32,7 +32,7 @@ pub fn class_table() -> [u8; 256]
 fn is_in(table: &[u8; 256], b: u8, k: u8) -> bool
     requires { k < 8 }
     ensures told { result ≡ bit? (get_or table.now b 0) k }
-    ensures compared { table.now ≡ classTable → result ≡ inClass? k b }
+    ensures compared { table.now ≡ class_table → result ≡ in_class? k b }
 {
     (table[b as usize] >> k) % 2 == 1
 }
@@ -40,7 +40,7 @@ fn is_in(table: &[u8; 256], b: u8, k: u8) -> bool
 // Whether a byte is a letter a to z.
 pub fn is_letter(table: &[u8; 256], b: u8) -> bool
     ensures told { result ≡ bit? (get_or table.now b 0) 0 }
-    ensures compared { table.now ≡ classTable → result ≡ letter? b }
+    ensures compared { table.now ≡ class_table → result ≡ letter? b }
 {
     is_in(table, b, LETTER)
 }
@@ -48,7 +48,7 @@ pub fn is_letter(table: &[u8; 256], b: u8) -> bool
 // Whether a byte is a digit.
 pub fn is_digit(table: &[u8; 256], b: u8) -> bool
     ensures told { result ≡ bit? (get_or table.now b 0) 1 }
-    ensures compared { table.now ≡ classTable → result ≡ digit? b }
+    ensures compared { table.now ≡ class_table → result ≡ digit? b }
 {
     is_in(table, b, DIGIT)
 }
@@ -56,7 +56,7 @@ pub fn is_digit(table: &[u8; 256], b: u8) -> bool
 // Whether a byte is a hex digit, of either case.
 pub fn is_hex_digit(table: &[u8; 256], b: u8) -> bool
     ensures told { result ≡ bit? (get_or table.now b 0) 2 }
-    ensures compared { table.now ≡ classTable → result ≡ eitherHexDigit? b }
+    ensures compared { table.now ≡ class_table → result ≡ either_hex_digit? b }
 {
     is_in(table, b, HEX_DIGIT)
 }
@@ -64,7 +64,7 @@ pub fn is_hex_digit(table: &[u8; 256], b: u8) -> bool
 // Whether a byte is a space: tab, newline, return or blank.
 pub fn is_space(table: &[u8; 256], b: u8) -> bool
     ensures told { result ≡ bit? (get_or table.now b 0) 3 }
-    ensures compared { table.now ≡ classTable → result ≡ space? b }
+    ensures compared { table.now ≡ class_table → result ≡ space? b }
 {
     is_in(table, b, SPACE)
 }
@@ -72,7 +72,7 @@ pub fn is_space(table: &[u8; 256], b: u8) -> bool
 // Whether a byte is a structural mark, one of `{}[](),:`.
 pub fn is_mark(table: &[u8; 256], b: u8) -> bool
     ensures told { result ≡ bit? (get_or table.now b 0) 4 }
-    ensures compared { table.now ≡ classTable → result ≡ mark? b }
+    ensures compared { table.now ≡ class_table → result ≡ mark? b }
 {
     is_in(table, b, MARK)
 }
@@ -80,7 +80,7 @@ pub fn is_mark(table: &[u8; 256], b: u8) -> bool
 // Whether a byte is a control byte, below 32.
 pub fn is_control(table: &[u8; 256], b: u8) -> bool
     ensures told { result ≡ bit? (get_or table.now b 0) 5 }
-    ensures compared { table.now ≡ classTable → result ≡ control? b }
+    ensures compared { table.now ≡ class_table → result ≡ control? b }
 {
     is_in(table, b, CONTROL)
 }
@@ -88,7 +88,7 @@ pub fn is_control(table: &[u8; 256], b: u8) -> bool
 // Whether a byte is a letter a to z or a digit.
 pub fn is_letter_or_digit(table: &[u8; 256], b: u8) -> bool
     ensures told { result ≡ (bit? (get_or table.now b 0) 0 || bit? (get_or table.now b 0) 1) }
-    ensures compared { table.now ≡ classTable → result ≡ (letter? b || digit? b) }
+    ensures compared { table.now ≡ class_table → result ≡ (letter? b || digit? b) }
 {
     is_letter(table, b) | is_digit(table, b)
 }

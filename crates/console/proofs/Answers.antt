@@ -7,167 +7,167 @@ use Prim.Native.Nat.{ℕ, zero, suc, ◌+◌, ◌*◌, ◌≤◌}
 use native.Mathlib.Omega.{arith}
 use lib.ListN.{length, take, drop, replicate, length-append, length-replicate}
 use lib.Seq.{take_at}
-use Rattle.model.specs.Limits.{maxRows, maxStates}
-use Rattle.model.specs.Refusal.{Answer, gives, refuses, unless, answerMap}
+use Rattle.model.specs.Limits.{max_rows, max_states}
+use Rattle.model.specs.Refusal.{Answer, gives, refuses, unless, answer_map}
 use Rattle.model.specs.Tree.{Tree, levels}
 use Rattle.model.specs.Table.{Row}
 use Rattle.model.specs.Build.{rows_of}
 use Rattle.model.specs.Witness.{witness}
 use Rattle.model.specs.Annotation.{accepts?}
 use Rattle.automaton.specs.Stored.{decode}
-use Rattle.document.specs.Rows.{rowCells, encodeRows, decodeRows}
-use Rattle.document.proofs.Encoding.{length-encode}
-use Rattle.runs.specs.Steps.{stepCells}
+use Rattle.document.specs.Rows.{row_cells, encode_rows, decode_rows}
+use Rattle.document.proofs.Encoding.{length_encode}
+use Rattle.runs.specs.Steps.{step_cells}
 use Rattle.membership.specs.declared.Judged.{Judged}
 use Rattle.membership.specs.declared.Judged.TheVariants.{Yes, No, Refused as Stopped}
-use Rattle.membership.specs.Cells.{annotationCells}
-use Rattle.membership.specs.Judge.{Judging, judgeCheckOf, judgeAnswer}
+use Rattle.membership.specs.Cells.{annotation_cells}
+use Rattle.membership.specs.Judge.{Judging, judge_check_of, judge_answer}
 use Rattle.term.specs.declared.TermRead.{TermRead}
 use Rattle.term.specs.declared.TermRead.TheVariants.{Rows, Refused as Unread}
-use Rattle.term.specs.Read.{Reading, rowsRead, refusedAt, readingMap, read_of, readAnswer, spaceAfter as rowsAfter}
-use Rattle.term.proofs.Whole.{answer_of as readOut, answer-is as read_is}
+use Rattle.term.specs.Read.{Reading, rows_read, refused_at, reading_map, read_of, read_answer, space_after as rowsAfter}
+use Rattle.term.proofs.Whole.{answer_of as readOut, answer_is as read_is}
 use Rattle.spelling.specs.declared.TermWritten.{TermWritten}
 use Rattle.spelling.specs.declared.TermWritten.TheVariants.{Bytes, Refused as Unwritten}
-use Rattle.spelling.specs.Write.{writeOf, writeAnswer, spaceAfter as textAfter}
+use Rattle.spelling.specs.Write.{write_of, write_answer, space_after as textAfter}
 use Rattle.emptiness.specs.declared.Emptiness.{Emptiness}
 use Rattle.emptiness.specs.declared.Emptiness.TheVariants.{Dead, Live, Refused as Unsampled}
-use Rattle.emptiness.specs.Answer.{emptinessAnswer, witnessCheckOf, space_of, emptinessOf, spaceAfter as witnessAfter}
-use Rattle.emptiness.proofs.Answered.{answer_of as liveAnswer, answer-is as live-is}
-use Rattle.console.specs.Words.{refusedLine, refusalLine, aliveLines, deadLine, yesLine, noLine}
-use Rattle.console.specs.Output.{Printed, room, textSpace, liveLines, sampleLines, judgeLine, rowsLine, readLine, judgedLine}
+use Rattle.emptiness.specs.Answer.{emptiness_answer, witness_check_of, space_of, emptiness_of, space_after as witnessAfter}
+use Rattle.emptiness.proofs.Answered.{answer_of as liveAnswer, answer_is as live-is}
+use Rattle.console.specs.Words.{refused_line, refusal_line, alive_lines, dead_line, yes_line, no_line}
+use Rattle.console.specs.Output.{Printed, room, text_space, live_lines, sample_lines, judge_line, rows_line, read_line, judged_line}
 
 -- a space as it is lent, of zeros
-pub zeros-long : (n : ℕ) → length {A = ℕ} (replicate n 0) ≡ n
-zeros-long n = length-replicate {A = ℕ} n 0
+pub zeros_long : (n : ℕ) → length {A = ℕ} (replicate n 0) ≡ n
+zeros_long n = length-replicate {A = ℕ} n 0
 
 -- the same bytes by another name
 pub named : (a b d new : List ℕ) (k : ℕ) → a ≡ b → Printed a d new k → Printed b d new k
 named a b d new k e p = subst (λ t. Printed t d new k) e p
 
 -- the rows of a table, and what the cells behind them held
-front-rows : (rows : List Row) (cells : List ℕ) → take (length rows * rowCells) (encodeRows rows ++ drop (length rows * rowCells) cells) ≡ encodeRows rows
-front-rows rows cells = take_at (encodeRows rows) (drop (length rows * rowCells) cells) (length rows * rowCells) (length-encode rows)
+front_rows : (rows : List Row) (cells : List ℕ) → take (length rows * row_cells) (encode_rows rows ++ drop (length rows * row_cells) cells) ≡ encode_rows rows
+front_rows rows cells = take_at (encode_rows rows) (drop (length rows * row_cells) cells) (length rows * row_cells) (length_encode rows)
 
-front_long : (rows : List Row) (cells : List ℕ) → length rows * rowCells ≤ length (encodeRows rows ++ drop (length rows * rowCells) cells)
+front_long : (rows : List Row) (cells : List ℕ) → length rows * row_cells ≤ length (encode_rows rows ++ drop (length rows * row_cells) cells)
 front_long rows cells =
-    let e = length-encode rows in
-    let f = length-append (encodeRows rows) (drop (length rows * rowCells) cells) in
+    let e = length_encode rows in
+    let f = length-append (encode_rows rows) (drop (length rows * row_cells) cells) in
     omega arith
 
 -- the judge
 abbrev pub line_for : Judged → List ℕ
-line_for r = judgeLine (judgeAnswer r)
+line_for r = judge_line (judge_answer r)
 
-pub judged-printed : (set cells work run work' run' : List ℕ) (r v : Judged) (d new : List ℕ) (k : ℕ) → Judging set cells work run r work' run' → length work ≡ room * annotationCells → length run ≡ room * stepCells → r ≡ v → Printed (line_for v) d new k → Printed (rowsLine set cells) d new k
-judged-printed set cells work run work' run' r v d new k j hw hr e p =
-    let b = accepts? (decode set) (decodeRows cells) in
-    let x : line_for v ≡ judgeLine (unless (judgeCheckOf set cells (length work) (length run)) b) = ap line_for (sym e) ∙ ap judgeLine j.answer in
-    let y : judgeLine (unless (judgeCheckOf set cells (length work) (length run)) b) ≡ rowsLine set cells = (λ i. judgeLine (unless (judgeCheckOf set cells (hw i) (hr i)) b)) in
-    named (line_for v) (rowsLine set cells) d new k (x ∙ y) p
+pub judged_printed : (set cells work run work' run' : List ℕ) (r v : Judged) (d new : List ℕ) (k : ℕ) → Judging set cells work run r work' run' → length work ≡ room * annotation_cells → length run ≡ room * step_cells → r ≡ v → Printed (line_for v) d new k → Printed (rows_line set cells) d new k
+judged_printed set cells work run work' run' r v d new k j hw hr e p =
+    let b = accepts? (decode set) (decode_rows cells) in
+    let x : line_for v ≡ judge_line (unless (judge_check_of set cells (length work) (length run)) b) = ap line_for (sym e) ∙ ap judge_line j.answer in
+    let y : judge_line (unless (judge_check_of set cells (length work) (length run)) b) ≡ rows_line set cells = (λ i. judge_line (unless (judge_check_of set cells (hw i) (hr i)) b)) in
+    named (line_for v) (rows_line set cells) d new k (x ∙ y) p
 
 -- the reader: the rows that an answer counts stand at the front of the space
-abbrev pub readShown : List ℕ → TermRead → List ℕ → List ℕ
-readShown set (Rows n) cells = rowsLine set (take (n * rowCells) cells)
-readShown set (Unread n p) cells = refusalLine n p
+abbrev pub read_shown : List ℕ → TermRead → List ℕ → List ℕ
+read_shown set (Rows n) cells = rows_line set (take (n * row_cells) cells)
+read_shown set (Unread n p) cells = refusal_line n p
 
-abbrev rowsCounted : TermRead → ℕ
-rowsCounted (Rows n) = n
-rowsCounted (Unread n p) = 0
+abbrev rows_counted : TermRead → ℕ
+rows_counted (Rows n) = n
+rows_counted (Unread n p) = 0
 
-read-line : (set : List ℕ) (v : Reading (List Row)) (before : List ℕ) → readShown set (readOut (readingMap length v)) (rowsAfter v before) ≡ readLine set v
-read-line set (rowsRead rows) before = ap (rowsLine set) (front-rows rows before)
-read-line set (refusedAt n p) before = refl
+read_line_lem : (set : List ℕ) (v : Reading (List Row)) (before : List ℕ) → read_shown set (readOut (reading_map length v)) (rowsAfter v before) ≡ read_line set v
+read_line_lem set (rows_read rows) before = ap (rows_line set) (front_rows rows before)
+read_line_lem set (refused_at n p) before = refl
 
-read-long : (v : Reading (List Row)) (before : List ℕ) → rowsCounted (readOut (readingMap length v)) * rowCells ≤ length (rowsAfter v before)
-read-long (rowsRead rows) before = front_long rows before
-read-long (refusedAt n p) before = omega arith
+read_long : (v : Reading (List Row)) (before : List ℕ) → rows_counted (readOut (reading_map length v)) * row_cells ≤ length (rowsAfter v before)
+read_long (rows_read rows) before = front_long rows before
+read_long (refused_at n p) before = omega arith
 
-pub read_fits : (set text before after : List ℕ) (r : TermRead) (n : ℕ) → readAnswer r ≡ readingMap length (read_of set [] [] text (length before)) → after ≡ rowsAfter (read_of set [] [] text (length before)) before → r ≡ Rows n → n * rowCells ≤ length after
+pub read_fits : (set text before after : List ℕ) (r : TermRead) (n : ℕ) → read_answer r ≡ reading_map length (read_of set [] [] text (length before)) → after ≡ rowsAfter (read_of set [] [] text (length before)) before → r ≡ Rows n → n * row_cells ≤ length after
 read_fits set text before after r n e s q =
     let v = read_of set [] [] text (length before) in
-    let c : n ≡ rowsCounted (readOut (readingMap length v)) = ap rowsCounted (sym q ∙ read_is r e) in
-    let l = read-long v before in
+    let c : n ≡ rows_counted (readOut (reading_map length v)) = ap rows_counted (sym q ∙ read_is r e) in
+    let l = read_long v before in
     let m = ap length s in
     omega arith
 
-pub read-printed : (set text before after : List ℕ) (r w : TermRead) (d new : List ℕ) (k : ℕ) → length before ≡ maxRows * rowCells → readAnswer r ≡ readingMap length (read_of set [] [] text (length before)) → after ≡ rowsAfter (read_of set [] [] text (length before)) before → r ≡ w → Printed (readShown set w after) d new k → Printed (judgedLine set text) d new k
-read-printed set text before after r w d new k h e s q p =
+pub read_printed : (set text before after : List ℕ) (r w : TermRead) (d new : List ℕ) (k : ℕ) → length before ≡ max_rows * row_cells → read_answer r ≡ reading_map length (read_of set [] [] text (length before)) → after ≡ rowsAfter (read_of set [] [] text (length before)) before → r ≡ w → Printed (read_shown set w after) d new k → Printed (judged_line set text) d new k
+read_printed set text before after r w d new k h e s q p =
     let v = read_of set [] [] text (length before) in
-    let x : readShown set w after ≡ readLine set v = (λ i. readShown set ((sym q ∙ read_is r e) i) (s i)) ∙ read-line set v before in
-    named (readShown set w after) (judgedLine set text) d new k (x ∙ ap (λ n. readLine set (read_of set [] [] text n)) h) p
+    let x : read_shown set w after ≡ read_line set v = (λ i. read_shown set ((sym q ∙ read_is r e) i) (s i)) ∙ read_line_lem set v before in
+    named (read_shown set w after) (judged_line set text) d new k (x ∙ ap (λ n. read_line set (read_of set [] [] text n)) h) p
 
 -- the writer: the bytes that an answer counts stand at the front of the space
-abbrev pub writeShown : ℕ → TermWritten → List ℕ → List ℕ
-writeShown h (Bytes n) text = aliveLines h (take n text)
-writeShown h (Unwritten n) text = refusedLine n
+abbrev pub write_shown : ℕ → TermWritten → List ℕ → List ℕ
+write_shown h (Bytes n) text = alive_lines h (take n text)
+write_shown h (Unwritten n) text = refused_line n
 
-abbrev bytesCounted : TermWritten → ℕ
-bytesCounted (Bytes n) = n
-bytesCounted (Unwritten n) = 0
+abbrev bytes_counted : TermWritten → ℕ
+bytes_counted (Bytes n) = n
+bytes_counted (Unwritten n) = 0
 
 -- the answer that says so many bytes, or refuses
-abbrev writtenOut : Answer ℕ → TermWritten
-writtenOut (gives n) = Bytes n
-writtenOut (refuses n) = Unwritten n
+abbrev written_out : Answer ℕ → TermWritten
+written_out (gives n) = Bytes n
+written_out (refuses n) = Unwritten n
 
-written_is : (r : TermWritten) {v : Answer ℕ} → writeAnswer r ≡ v → r ≡ writtenOut v
-written_is (Bytes n) e = ap writtenOut e
-written_is (Unwritten n) e = ap writtenOut e
+written_is : (r : TermWritten) {v : Answer ℕ} → write_answer r ≡ v → r ≡ written_out v
+written_is (Bytes n) e = ap written_out e
+written_is (Unwritten n) e = ap written_out e
 
-write-line : (h : ℕ) (v : Answer (List ℕ)) (before : List ℕ) → writeShown h (writtenOut (answerMap length v)) (textAfter v before) ≡ liveLines h v
-write-line h (gives text) before = ap (aliveLines h) (take_at text (drop (length text) before) (length text) refl)
-write-line h (refuses n) before = refl
+write_line : (h : ℕ) (v : Answer (List ℕ)) (before : List ℕ) → write_shown h (written_out (answer_map length v)) (textAfter v before) ≡ live_lines h v
+write_line h (gives text) before = ap (alive_lines h) (take_at text (drop (length text) before) (length text) refl)
+write_line h (refuses n) before = refl
 
-write-long : (v : Answer (List ℕ)) (before : List ℕ) → bytesCounted (writtenOut (answerMap length v)) ≤ length (textAfter v before)
-write-long (gives text) before = let e = length-append text (drop (length text) before) in omega arith
-write-long (refuses n) before = omega arith
+write_long : (v : Answer (List ℕ)) (before : List ℕ) → bytes_counted (written_out (answer_map length v)) ≤ length (textAfter v before)
+write_long (gives text) before = let e = length-append text (drop (length text) before) in omega arith
+write_long (refuses n) before = omega arith
 
-pub write-fits : (set cells before after : List ℕ) (r : TermWritten) (n : ℕ) → writeAnswer r ≡ answerMap length (writeOf set [] [] cells (length before)) → after ≡ textAfter (writeOf set [] [] cells (length before)) before → r ≡ Bytes n → n ≤ length after
-write-fits set cells before after r n e s q =
-    let v = writeOf set [] [] cells (length before) in
-    let c : n ≡ bytesCounted (writtenOut (answerMap length v)) = ap bytesCounted (sym q ∙ written_is r e) in
-    let l = write-long v before in
+pub write_fits : (set cells before after : List ℕ) (r : TermWritten) (n : ℕ) → write_answer r ≡ answer_map length (write_of set [] [] cells (length before)) → after ≡ textAfter (write_of set [] [] cells (length before)) before → r ≡ Bytes n → n ≤ length after
+write_fits set cells before after r n e s q =
+    let v = write_of set [] [] cells (length before) in
+    let c : n ≡ bytes_counted (written_out (answer_map length v)) = ap bytes_counted (sym q ∙ written_is r e) in
+    let l = write_long v before in
     let m = ap length s in
     omega arith
 
-pub write-printed : (h : ℕ) (set cells before after : List ℕ) (r w : TermWritten) (d new : List ℕ) (k : ℕ) → length before ≡ textSpace → writeAnswer r ≡ answerMap length (writeOf set [] [] cells (length before)) → after ≡ textAfter (writeOf set [] [] cells (length before)) before → r ≡ w → Printed (writeShown h w after) d new k → Printed (liveLines h (writeOf set [] [] cells textSpace)) d new k
-write-printed h set cells before after r w d new k l e s q p =
-    let v = writeOf set [] [] cells (length before) in
-    let x : writeShown h w after ≡ liveLines h v = (λ i. writeShown h ((sym q ∙ written_is r e) i) (s i)) ∙ write-line h v before in
-    named (writeShown h w after) (liveLines h (writeOf set [] [] cells textSpace)) d new k (x ∙ ap (λ n. liveLines h (writeOf set [] [] cells n)) l) p
+pub write_printed : (h : ℕ) (set cells before after : List ℕ) (r w : TermWritten) (d new : List ℕ) (k : ℕ) → length before ≡ text_space → write_answer r ≡ answer_map length (write_of set [] [] cells (length before)) → after ≡ textAfter (write_of set [] [] cells (length before)) before → r ≡ w → Printed (write_shown h w after) d new k → Printed (live_lines h (write_of set [] [] cells text_space)) d new k
+write_printed h set cells before after r w d new k l e s q p =
+    let v = write_of set [] [] cells (length before) in
+    let x : write_shown h w after ≡ live_lines h v = (λ i. write_shown h ((sym q ∙ written_is r e) i) (s i)) ∙ write_line h v before in
+    named (write_shown h w after) (live_lines h (write_of set [] [] cells text_space)) d new k (x ∙ ap (λ n. live_lines h (write_of set [] [] cells n)) l) p
 
 -- the emptiness test: a witness's rows stand at the front of the space
-abbrev pub sampleShown : List ℕ → Emptiness → List ℕ → List ℕ
-sampleShown set Dead cells = deadLine
-sampleShown set (Live n h) cells = liveLines h (writeOf set [] [] (take (n * rowCells) cells) textSpace)
-sampleShown set (Unsampled n) cells = refusedLine n
+abbrev pub sample_shown : List ℕ → Emptiness → List ℕ → List ℕ
+sample_shown set Dead cells = dead_line
+sample_shown set (Live n h) cells = live_lines h (write_of set [] [] (take (n * row_cells) cells) text_space)
+sample_shown set (Unsampled n) cells = refused_line n
 
-abbrev liveCounted : Emptiness → ℕ
-liveCounted Dead = 0
-liveCounted (Live n h) = n
-liveCounted (Unsampled n) = 0
+abbrev live_counted : Emptiness → ℕ
+live_counted Dead = 0
+live_counted (Live n h) = n
+live_counted (Unsampled n) = 0
 
-sample-line : (set : List ℕ) (n : ℕ) (o : Option Tree) (before : List ℕ) → sampleShown set (liveAnswer n o) (space_of n o before) ≡ sampleLines set (unless n o)
+sample_line : (set : List ℕ) (n : ℕ) (o : Option Tree) (before : List ℕ) → sample_shown set (liveAnswer n o) (space_of n o before) ≡ sample_lines set (unless n o)
 unfolding unless
-sample-line set zero none before = refl
-sample-line set zero (some w) before = ap (λ cells. liveLines (levels w) (writeOf set [] [] cells textSpace)) (front-rows (rows_of w) before)
-sample-line set (suc n) o before = refl
+sample_line set zero none before = refl
+sample_line set zero (some w) before = ap (λ cells. live_lines (levels w) (write_of set [] [] cells text_space)) (front_rows (rows_of w) before)
+sample_line set (suc n) o before = refl
 
-sample-long : (n : ℕ) (o : Option Tree) (before : List ℕ) → liveCounted (liveAnswer n o) * rowCells ≤ length (space_of n o before)
-sample-long zero none before = omega arith
-sample-long zero (some w) before = front_long (rows_of w) before
-sample-long (suc n) o before = omega arith
+sample_long : (n : ℕ) (o : Option Tree) (before : List ℕ) → live_counted (liveAnswer n o) * row_cells ≤ length (space_of n o before)
+sample_long zero none before = omega arith
+sample_long zero (some w) before = front_long (rows_of w) before
+sample_long (suc n) o before = omega arith
 
-pub sample-fits : (set before after : List ℕ) (r : Emptiness) (n h : ℕ) → emptinessAnswer r ≡ emptinessOf set (length before) → after ≡ witnessAfter set before → r ≡ Live n h → n * rowCells ≤ length after
-sample-fits set before after r n h e s q =
-    let c : n ≡ liveCounted (liveAnswer (witnessCheckOf set (length before)) (witness (decode set))) = ap liveCounted (sym q ∙ live-is r (witnessCheckOf set (length before)) (witness (decode set)) e) in
-    let l = sample-long (witnessCheckOf set (length before)) (witness (decode set)) before in
+pub sample_fits : (set before after : List ℕ) (r : Emptiness) (n h : ℕ) → emptiness_answer r ≡ emptiness_of set (length before) → after ≡ witnessAfter set before → r ≡ Live n h → n * row_cells ≤ length after
+sample_fits set before after r n h e s q =
+    let c : n ≡ live_counted (liveAnswer (witness_check_of set (length before)) (witness (decode set))) = ap live_counted (sym q ∙ live-is r (witness_check_of set (length before)) (witness (decode set)) e) in
+    let l = sample_long (witness_check_of set (length before)) (witness (decode set)) before in
     let m = ap length s in
     omega arith
 
-pub sample-printed : (set before after : List ℕ) (r w : Emptiness) (d new : List ℕ) (k : ℕ) → length before ≡ maxStates * rowCells → emptinessAnswer r ≡ emptinessOf set (length before) → after ≡ witnessAfter set before → r ≡ w → Printed (sampleShown set w after) d new k → Printed (sampleLines set (unless (witnessCheckOf set (maxStates * rowCells)) (witness (decode set)))) d new k
-sample-printed set before after r w d new k l e s q p =
-    let n = witnessCheckOf set (length before) in
+pub sample_printed : (set before after : List ℕ) (r w : Emptiness) (d new : List ℕ) (k : ℕ) → length before ≡ max_states * row_cells → emptiness_answer r ≡ emptiness_of set (length before) → after ≡ witnessAfter set before → r ≡ w → Printed (sample_shown set w after) d new k → Printed (sample_lines set (unless (witness_check_of set (max_states * row_cells)) (witness (decode set)))) d new k
+sample_printed set before after r w d new k l e s q p =
+    let n = witness_check_of set (length before) in
     let o = witness (decode set) in
-    let x : sampleShown set w after ≡ sampleLines set (unless n o) = (λ i. sampleShown set ((sym q ∙ live-is r n o e) i) (s i)) ∙ sample-line set n o before in
-    named (sampleShown set w after) (sampleLines set (unless (witnessCheckOf set (maxStates * rowCells)) o)) d new k (x ∙ ap (λ m. sampleLines set (unless (witnessCheckOf set m) o)) l) p
+    let x : sample_shown set w after ≡ sample_lines set (unless n o) = (λ i. sample_shown set ((sym q ∙ live-is r n o e) i) (s i)) ∙ sample_line set n o before in
+    named (sample_shown set w after) (sample_lines set (unless (witness_check_of set (max_states * row_cells)) o)) d new k (x ∙ ap (λ m. sample_lines set (unless (witness_check_of set m) o)) l) p

@@ -2,8 +2,8 @@
 mod line; // line.rt: the pieces of a line
 
 ghost use Rattle.std.specs.Prelude.{[], ◌≤◌, length};
-ghost use Rattle.spelling.specs.Write.{writeOf};
-ghost use Rattle.console.specs.Output.{Printed, outputBytes, textSpace, liveLines, rowsLine, judgedLine, sampleOutput, judgeOutput};
+ghost use Rattle.spelling.specs.Write.{write_of};
+ghost use Rattle.console.specs.Output.{Printed, output_bytes, text_space, live_lines, rows_line, judged_line, sample_output, judge_output};
 
 use crate::line::{put_alive, put_answer, put_refusal, put_refused};
 use base::limits::{MAX_ROWS, MAX_STATES};
@@ -40,8 +40,8 @@ const RUN: usize = ROOM * STEP_CELLS;
 
 // The rows of a witness: its height and its text.
 fn live(set: &[u8], rows: &[u16], height: u16, out: &mut [u8]) -> usize
-    requires { outputBytes ≤ length out.old }
-    ensures { Printed (liveLines height (writeOf set.now [] [] rows.now textSpace)) out.old out.new result }
+    requires { output_bytes ≤ length out.old }
+    ensures { Printed (live_lines height (write_of set.now [] [] rows.now text_space)) out.old out.new result }
 {
     let mut text = [0u8; TEXT];
     match spelling::write(set, b"", b"", rows, &mut text) {
@@ -52,7 +52,7 @@ fn live(set: &[u8], rows: &[u16], height: u16, out: &mut [u8]) -> usize
 
 // What the sample program prints for an input; the answer is the number of its bytes, which the space has.
 pub fn sample(input: &[u8], out: &mut [u8; OUTPUT]) -> usize
-    ensures printed { Printed (sampleOutput input.now) out.old out.new result }
+    ensures printed { Printed (sample_output input.now) out.old out.new result }
     ensures fits { result ≤ length out.new }
 {
     if input.len() > MAX_INPUT {
@@ -71,8 +71,8 @@ pub fn sample(input: &[u8], out: &mut [u8; OUTPUT]) -> usize
 
 // The line for a set and a document's rows.
 fn judge_rows(set: &[u8], rows: &[u16], out: &mut [u8]) -> usize
-    requires { outputBytes ≤ length out.old }
-    ensures { Printed (rowsLine set.now rows.now) out.old out.new result }
+    requires { output_bytes ≤ length out.old }
+    ensures { Printed (rows_line set.now rows.now) out.old out.new result }
 {
     let mut work = [0u16; WORK];
     let mut run = [0u16; RUN];
@@ -85,8 +85,8 @@ fn judge_rows(set: &[u8], rows: &[u16], out: &mut [u8]) -> usize
 
 // The line for a set and a text.
 fn judge_text(set: &[u8], text: &[u8], out: &mut [u8]) -> usize
-    requires { outputBytes ≤ length out.old }
-    ensures { Printed (judgedLine set.now text.now) out.old out.new result }
+    requires { output_bytes ≤ length out.old }
+    ensures { Printed (judged_line set.now text.now) out.old out.new result }
 {
     let mut rows = [0u16; CELLS];
     match term::read(set, b"", b"", text, &mut rows) {
@@ -100,7 +100,7 @@ fn judge_text(set: &[u8], text: &[u8], out: &mut [u8]) -> usize
 
 // What the judging program prints for an input, a stored set and a text behind it; the answer is the number of its bytes.
 pub fn judge(input: &[u8], out: &mut [u8; OUTPUT]) -> usize
-    ensures printed { Printed (judgeOutput input.now) out.old out.new result }
+    ensures printed { Printed (judge_output input.now) out.old out.new result }
     ensures fits { result ≤ length out.new }
 {
     if input.len() > MAX_INPUT {

@@ -3,7 +3,7 @@ ghost use Rattle.std.specs.Prelude.{[], ◌∷◌, ◌++◌, ◌+◌, ◌<◌, �
 ghost use Rattle.names.specs.Names.{decimal};
 ghost use Rattle.spelling.specs.Parts.{Wrote};
 ghost use Rattle.console.specs.Output.{Printed};
-ghost use Rattle.console.specs.Words.{refusedWord, atWord, numbered, line_of, refusedLine, refusedAtLine, refusalLine, aliveLines};
+ghost use Rattle.console.specs.Words.{refused_word, at_word, numbered, line_of, refused_line, refused_at_line, refusal_line, alive_lines};
 
 use base::space::put;
 use spelling::number::put_decimal;
@@ -79,7 +79,7 @@ fn put_number_line(out: &mut [u8], at: usize, word: &[u8], n: u64) -> usize
 // A refusal at the front of the output.
 pub(crate) fn put_refused(out: &mut [u8], number: u16) -> usize
     requires { 28 < length out.old }
-    ensures { Printed (refusedLine number) out.old out.new result }
+    ensures { Printed (refused_line number) out.old out.new result }
 {
     put_number_line(out, 0, b"refused ", number as u64)
 }
@@ -87,7 +87,7 @@ pub(crate) fn put_refused(out: &mut [u8], number: u16) -> usize
 // A refusal's number and place.
 fn put_numbers(out: &mut [u8], number: u16, place: u64) -> usize
     requires { 52 ≤ length out.old }
-    ensures wrote { Wrote out.old 0 (numbered refusedWord number ++ numbered atWord place) out.new result }
+    ensures wrote { Wrote out.old 0 (numbered refused_word number ++ numbered at_word place) out.new result }
     ensures few { result ≤ 52 }
 {
     let end = put_numbered(out, 0, b"refused ", number as u64);
@@ -97,7 +97,7 @@ fn put_numbers(out: &mut [u8], number: u16, place: u64) -> usize
 // A refusal with its place at the front of the output.
 fn put_refused_at(out: &mut [u8], number: u16, place: u64) -> usize
     requires { 52 < length out.old }
-    ensures { Printed (refusedAtLine number place) out.old out.new result }
+    ensures { Printed (refused_at_line number place) out.old out.new result }
 {
     let end = put_numbers(out, number, place);
     put_end(out, end)
@@ -106,7 +106,7 @@ fn put_refused_at(out: &mut [u8], number: u16, place: u64) -> usize
 // The same, with the place where the number has one.
 pub(crate) fn put_refusal(out: &mut [u8], number: u16, place: usize) -> usize
     requires { 52 < length out.old }
-    ensures { Printed (refusalLine number place) out.old out.new result }
+    ensures { Printed (refusal_line number place) out.old out.new result }
 {
     if number < FIRST_PLACED {
         return put_refused(out, number);
@@ -120,7 +120,7 @@ pub(crate) fn put_refusal(out: &mut [u8], number: u16, place: usize) -> usize
 // A height, and a text in a line of its own, at the front of the output.
 pub(crate) fn put_alive(out: &mut [u8], height: u16, text: &[u8]) -> usize
     requires { 28 + length text.now ≤ length out.old }
-    ensures { Printed (aliveLines height text.now) out.old out.new result }
+    ensures { Printed (alive_lines height text.now) out.old out.new result }
 {
     let end = put_number_line(out, 0, b"alive ", height as u64);
     put_line(out, end, text)

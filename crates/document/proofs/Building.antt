@@ -10,64 +10,64 @@ use native.Mathlib.Numerals.{add-one}
 use native.Mathlib.Omega.{arith}
 use lib.Dec.{T}
 use lib.ListN.{set, replicate}
-use Rattle.model.specs.Limits.{maxRows}
+use Rattle.model.specs.Limits.{max_rows}
 use Rattle.model.specs.Space.{put_at}
 use Rattle.model.specs.Lists.{tab}
 use Rattle.model.specs.Table.{Row}
-use Rattle.model.specs.Build.{eqRow, findRow, placed}
-use Rattle.model.proofs.Tab.{length-tab}
-use Rattle.model.proofs.Build.{eqRow→eq, eqRow-refl}
-use Rattle.model.proofs.Space.{put-length, put-before}
+use Rattle.model.specs.Build.{eq_row, find_row, placed}
+use Rattle.model.proofs.Tab.{length_tab}
+use Rattle.model.proofs.Build.{eq_row→eq, eq_row_refl}
+use Rattle.model.proofs.Space.{put_length, put_before}
 use Rattle.document.specs.declared.rows.Row as table
 use Rattle.document.specs.declared.index.Probed.{Probed}
 use Rattle.document.specs.declared.index.Probed.TheVariants.{Found}
 use Rattle.document.specs.declared.builder.Placed.TheVariants.{Added, Full}
-use Rattle.document.specs.Rows.{rowCells, row_in, rowsBelow, encodeRow, Kept}
+use Rattle.document.specs.Rows.{row_cells, row_in, rows_below, encode_row, Kept}
 use Rattle.document.specs.Fields.{as_row}
-use Rattle.document.specs.Index.{slotCount, startSlot, probe}
-use Rattle.document.specs.Builder.{Built, roomFor?, placeAt, findOrAdd, Grows}
-use Rattle.document.proofs.Probing.{scan, Opens, Answers, known, free, answers, indexed-none, indexed-same, indexed-more}
-use Rattle.document.proofs.Putting.{row_kept, row_put, rows-put}
+use Rattle.document.specs.Index.{slot_count, start_slot, probe}
+use Rattle.document.specs.Builder.{Built, room_for?, place_at, find_or_add, Grows}
+use Rattle.document.proofs.Probing.{scan, Opens, Answers, known, free, answers, indexed_none, indexed_same, indexed_more}
+use Rattle.document.proofs.Putting.{row_kept, row_put, rows_put}
 use Rattle.document.proofs.Placement.{room}
 
 -- the test of the scan: row i equals r
 abbrev pub equal? : List ℕ → Row → ℕ → Bool
-equal? cells r i = eqRow r (row_in cells i)
+equal? cells r i = eq_row r (row_in cells i)
 
 abbrev number : table.Row → ℕ
 number i = i.0
 
-find-scan : (r : Row) (n : ℕ) (f : ℕ → Row) → findRow r (tab n f) ≡ scan n (λ i. eqRow r (f i))
-find-scan r zero f = refl
-find-scan r (suc n) f = ap (λ o. cond (eqRow r (f 0)) (some 0) (map suc o)) (find-scan r n (λ k. f (suc k)))
+find_scan : (r : Row) (n : ℕ) (f : ℕ → Row) → find_row r (tab n f) ≡ scan n (λ i. eq_row r (f i))
+find_scan r zero f = refl
+find_scan r (suc n) f = ap (λ o. cond (eq_row r (f 0)) (some 0) (map suc o)) (find_scan r n (λ k. f (suc k)))
 
-same_row : (r x : Row) → eqRow r x ≡ true → r ≡ x
-same_row r x e = eqRow→eq r x (rw e tt)
+same_row : (r x : Row) → eq_row r x ≡ true → r ≡ x
+same_row r x e = eq_row→eq r x (rw e tt)
 
 -- Zeroed slots and any cells are a builder with no rows.
-pub built-none : (cells : List ℕ) → Built cells (replicate slotCount 0) 0
-built-none cells =
+pub built_none : (cells : List ℕ) → Built cells (replicate slot_count 0) 0
+built_none cells =
     record {
       few = zero-le;
       distinct = λ i j l m e. let z : ⊥ = omega arith in absurd z;
-      indexed = indexed-none (λ i. startSlot (row_in cells i));
+      indexed = indexed_none (λ i. start_slot (row_in cells i));
     }
 
 module _ (cells slots : List ℕ) (n : ℕ) (b : Built cells slots n) (r : Row) where
   -- The probe for a row answers what a plain scan over the rows finds.
-  pub found : Answers slots n (equal? cells r) (startSlot r) (probe slots (equal? cells r) (startSlot r))
+  pub found : Answers slots n (equal? cells r) (start_slot r) (probe slots (equal? cells r) (start_slot r))
   found =
-      answers slots n (λ i. startSlot (row_in cells i)) (equal? cells r) (startSlot r) b.indexed
-      (λ i l e. sym (ap startSlot (same_row r (row_in cells i) e)))
+      answers slots n (λ i. start_slot (row_in cells i)) (equal? cells r) (start_slot r) b.indexed
+      (λ i l e. sym (ap start_slot (same_row r (row_in cells i) e)))
       (omega (arith, b.few))
       (λ i j l m e f. b.distinct i j l m (sym (same_row r (row_in cells i) e) ∙ same_row r (row_in cells j) f))
 
   -- A row that equals none, entered at the slot that its probe found, keeps the state.
-  module _ (cells' : List ℕ) (t : ℕ) (few : n < maxRows) (old : (i : ℕ) → i < n → row_in cells' i ≡ row_in cells i) (new : row_in cells' n ≡ r) (fresh : (i : ℕ) → i < n → equal? cells r i ≡ false) (o : Opens slots (startSlot r) t) where
+  module _ (cells' : List ℕ) (t : ℕ) (few : n < max_rows) (old : (i : ℕ) → i < n → row_in cells' i ≡ row_in cells i) (new : row_in cells' n ≡ r) (fresh : (i : ℕ) → i < n → equal? cells r i ≡ false) (o : Opens slots (start_slot r) t) where
     differs : (i : ℕ) → i < n → row_in cells' n ≡ row_in cells' i → ⊥
     differs i l e =
         let q : r ≡ row_in cells i = sym new ∙ e ∙ old i l in
-        subst T (fresh i l) (subst (λ x. T (eqRow r x)) q (eqRow-refl r))
+        subst T (fresh i l) (subst (λ x. T (eq_row r x)) q (eq_row_refl r))
 
     one : (i j : ℕ) → (i ≡ n) ⊎ (i < n) → (j ≡ n) ⊎ (j < n) → row_in cells' i ≡ row_in cells' j → i ≡ j
     one i j (inl p) (inl q) e = p ∙ sym q
@@ -78,69 +78,69 @@ module _ (cells slots : List ℕ) (n : ℕ) (b : Built cells slots n) (r : Row) 
     split : (i : ℕ) → i < suc n → (i ≡ n) ⊎ (i < n)
     split i l = ⊎_elim (λ e. inl (omega arith)) (λ g. inr (omega arith)) (eq-or-lt_of_le l)
 
-    pub built-more : Built cells' (set slots t (suc n)) (suc n)
-    built-more =
+    pub built_more : Built cells' (set slots t (suc n)) (suc n)
+    built_more =
         record {
           few = few;
           distinct = λ i j l m. one i j (split i l) (split j m);
           indexed =
-              indexed-more slots n (λ i. startSlot (row_in cells' i)) t
-              (indexed-same (λ i. startSlot (row_in cells i)) (λ i. startSlot (row_in cells' i)) (λ i l. sym (ap startSlot (old i l))) b.indexed)
-              (subst (λ s. Opens slots s t) (ap startSlot (sym new)) o);
+              indexed_more slots n (λ i. start_slot (row_in cells' i)) t
+              (indexed_same (λ i. start_slot (row_in cells i)) (λ i. start_slot (row_in cells' i)) (λ i l. sym (ap start_slot (old i l))) b.indexed)
+              (subst (λ s. Opens slots s t) (ap start_slot (sym new)) o);
         }
 
 -- What `find_or_add` does is what a plain scan would do.
 module _ (cells slots : List ℕ) (n limit : ℕ) (b : Built cells slots n) (r : Row) (k : Kept r) where
-  grows-known : (i : ℕ) → scan n (equal? cells r) ≡ some i → Grows cells slots n limit r (placeAt cells slots n limit r (Found (as_row i)))
-  grows-known i e =
+  grows_known : (i : ℕ) → scan n (equal? cells r) ≡ some i → Grows cells slots n limit r (place_at cells slots n limit r (Found (as_row i)))
+  grows_known i e =
       record {
-        known = λ j q. let u : as_row i ≡ as_row j = cc in let p = ap number u in (ap (placed (rowsBelow cells n) r) (find-scan r n (row_in cells) ∙ e ∙ ap some p), refl, refl);
+        known = λ j q. let u : as_row i ≡ as_row j = cc in let p = ap number u in (ap (placed (rows_below cells n) r) (find_scan r n (row_in cells) ∙ e ∙ ap some p), refl, refl);
         added = λ j q. let z : ◌≡◌ {A = ℕ} 0 1 = cc in let y : ⊥ = omega arith in absurd y;
         full = λ q. let z : ◌≡◌ {A = ℕ} 0 1 = cc in let y : ⊥ = omega arith in absurd y;
         earlier = refl;
         size = refl;
       }
 
-  module _ (t : ℕ) (fresh : (i : ℕ) → i < n → equal? cells r i ≡ false) (e : scan n (equal? cells r) ≡ none) (o : Opens slots (startSlot r) t) where
-    grows-full : roomFor? cells n limit ≡ false → Grows cells slots n limit r (record { answer = Full; cells = cells; slots = slots })
-    grows-full f =
+  module _ (t : ℕ) (fresh : (i : ℕ) → i < n → equal? cells r i ≡ false) (e : scan n (equal? cells r) ≡ none) (o : Opens slots (start_slot r) t) where
+    grows_full : room_for? cells n limit ≡ false → Grows cells slots n limit r (record { answer = Full; cells = cells; slots = slots })
+    grows_full f =
         record {
           known = λ j q. let z : ◌≡◌ {A = ℕ} 0 1 = cc in let y : ⊥ = omega arith in absurd y;
           added = λ j q. let z : ◌≡◌ {A = ℕ} 0 1 = cc in let y : ⊥ = omega arith in absurd y;
-          full = λ q. (find-scan r n (row_in cells) ∙ e, f, refl, refl);
+          full = λ q. (find_scan r n (row_in cells) ∙ e, f, refl, refl);
           earlier = refl;
           size = refl;
         }
 
-    grows-added : roomFor? cells n limit ≡ true → Grows cells slots n limit r (record { answer = Added (as_row n); cells = put_at cells (n * rowCells) (encodeRow r); slots = set slots t (n + 1) })
-    grows-added f =
+    grows_added : room_for? cells n limit ≡ true → Grows cells slots n limit r (record { answer = Added (as_row n); cells = put_at cells (n * row_cells) (encode_row r); slots = set slots t (n + 1) })
+    grows_added f =
         let m = room cells n limit true (sym f) refl in
-        let new : rowsBelow cells n ++ r ∷ [] ≡ rowsBelow (put_at cells (n * rowCells) (encodeRow r)) (n + 1) =
-        sym (ap (rowsBelow (put_at cells (n * rowCells) (encodeRow r))) (add-one n) ∙ rows-put cells n r m.fits k) in
+        let new : rows_below cells n ++ r ∷ [] ≡ rows_below (put_at cells (n * row_cells) (encode_row r)) (n + 1) =
+        sym (ap (rows_below (put_at cells (n * row_cells) (encode_row r))) (add-one n) ∙ rows_put cells n r m.fits k) in
         record {
           known = λ j q. let z : ◌≡◌ {A = ℕ} 0 1 = cc in let y : ⊥ = omega arith in absurd y;
           added = λ j q.
               let u : as_row n ≡ as_row j = cc in let p = ap number u in (
                 sym p,
                 f,
-                ap (placed (rowsBelow cells n) r) (find-scan r n (row_in cells) ∙ e)
-                    ∙ (λ i. (new i, length-tab n (row_in cells) i)),
-                rw add-one (built-more cells slots n b r (put_at cells (n * rowCells) (encodeRow r)) t m.few (row_kept cells n r m.fits) (row_put cells n r m.fits k) fresh o),
+                ap (placed (rows_below cells n) r) (find_scan r n (row_in cells) ∙ e)
+                    ∙ (λ i. (new i, length_tab n (row_in cells) i)),
+                rw add-one (built_more cells slots n b r (put_at cells (n * row_cells) (encode_row r)) t m.few (row_kept cells n r m.fits) (row_put cells n r m.fits k) fresh o),
               );
           full = λ q. let z : ◌≡◌ {A = ℕ} 0 1 = cc in let y : ⊥ = omega arith in absurd y;
-          earlier = put-before cells (n * rowCells) (encodeRow r) m.fits;
-          size = put-length cells (n * rowCells) (encodeRow r) m.fits;
+          earlier = put_before cells (n * row_cells) (encode_row r) m.fits;
+          size = put_length cells (n * row_cells) (encode_row r) m.fits;
         }
 
-    grows-free : (x : Bool) → roomFor? cells n limit ≡ x
-        → Grows cells slots n limit r (cond x (record { answer = Added (as_row n); cells = put_at cells (n * rowCells) (encodeRow r); slots = set slots t (n + 1) }) (record { answer = Full; cells = cells; slots = slots }))
-    grows-free true f = grows-added f
-    grows-free false f = grows-full f
+    grows_free : (x : Bool) → room_for? cells n limit ≡ x
+        → Grows cells slots n limit r (cond x (record { answer = Added (as_row n); cells = put_at cells (n * row_cells) (encode_row r); slots = set slots t (n + 1) }) (record { answer = Full; cells = cells; slots = slots }))
+    grows_free true f = grows_added f
+    grows_free false f = grows_full f
 
-  grows-by : {q : Probed} → Answers slots n (equal? cells r) (startSlot r) q → Grows cells slots n limit r (placeAt cells slots n limit r q)
-  grows-by (known i l t e) = grows-known i e
-  grows-by (free t h e o) = grows-free t h e o (roomFor? cells n limit) refl
+  grows_by : {q : Probed} → Answers slots n (equal? cells r) (start_slot r) q → Grows cells slots n limit r (place_at cells slots n limit r q)
+  grows_by (known i l t e) = grows_known i e
+  grows_by (free t h e o) = grows_free t h e o (room_for? cells n limit) refl
 
-  pub grows : Grows cells slots n limit r (findOrAdd cells slots n limit r)
-  unfolding findOrAdd
-  grows = grows-by (found cells slots n b r)
+  pub grows : Grows cells slots n limit r (find_or_add cells slots n limit r)
+  unfolding find_or_add
+  grows = grows_by (found cells slots n b r)

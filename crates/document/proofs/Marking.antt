@@ -10,78 +10,78 @@ use borrow.Author.Tests.{eqb-true, eqb-false, eq-eqb, ne_eqb, lt-ltb, le-ltb}
 use lib.Dec.{eqb, ltb}
 use lib.ListN.{length, get_or, set, drop, replicate, length-set, length-replicate, get_or-replicate, drop_of_length-le}
 use lib.Seq.{get_or-set_same, get_or-set_other, drop-cons, set_out}
-use Rattle.model.specs.Limits.{maxChildren, maxRows, unused}
+use Rattle.model.specs.Limits.{max_children, max_rows, unused}
 use Rattle.model.specs.Table.{Row, row_at}
-use Rattle.model.specs.Lists.{all_below, anyBelow, uses?}
-use Rattle.document.specs.Rows.{used, placesIn, decodeRows}
+use Rattle.model.specs.Lists.{all_below, any_below, uses?}
+use Rattle.document.specs.Rows.{used, places_in, decode_rows}
 use Rattle.document.specs.Check.{used?}
 use Rattle.document.specs.Marks.{Counted, Marked}
-use Rattle.document.proofs.Places.{row-at, rows-length}
+use Rattle.document.proofs.Places.{row_at_lem, rows_length}
 
-or-false : (a : Bool) → (a || false) ≡ a
-or-false true = refl
-or-false false = refl
+or_false : (a : Bool) → (a || false) ≡ a
+or_false true = refl
+or_false false = refl
 
-or-true : (a : Bool) → (a || true) ≡ true
-or-true true = refl
-or-true false = refl
+or_true : (a : Bool) → (a || true) ≡ true
+or_true true = refl
+or_true false = refl
 
-and-false : (a : Bool) → (a && false) ≡ false
-and-false true = refl
-and-false false = refl
+and_false : (a : Bool) → (a && false) ≡ false
+and_false true = refl
+and_false false = refl
 
-uses-none : (j i : ℕ) → uses? j [] i ≡ false
+uses_none : (j i : ℕ) → uses? j [] i ≡ false
 unfolding uses?
-uses-none j i = and-false (ltb i j)
+uses_none j i = and_false (ltb i j)
 
-uses-this : (j i x : ℕ) (cs : List ℕ) → i ≡ x → i < j → uses? j (x ∷ cs) i ≡ true
+uses_this : (j i x : ℕ) (cs : List ℕ) → i ≡ x → i < j → uses? j (x ∷ cs) i ≡ true
 unfolding uses?
-uses-this j i x cs e l = simp (lt-ltb i j l, eq-eqb i x e)
+uses_this j i x cs e l = simp (lt-ltb i j l, eq-eqb i x e)
 
-uses-high : (j i : ℕ) (cs : List ℕ) → j ≤ i → uses? j cs i ≡ false
+uses_high : (j i : ℕ) (cs : List ℕ) → j ≤ i → uses? j cs i ≡ false
 unfolding uses?
-uses-high j i cs l = simp (le-ltb i j l)
+uses_high j i cs l = simp (le-ltb i j l)
 
-uses-other : (j i x : ℕ) (cs : List ℕ) → eqb i x ≡ false → uses? j (x ∷ cs) i ≡ uses? j cs i
+uses_other : (j i x : ℕ) (cs : List ℕ) → eqb i x ≡ false → uses? j (x ∷ cs) i ≡ uses? j cs i
 unfolding uses?
-uses-other j i x cs e = simp e
+uses_other j i x cs e = simp e
 
 -- the places from k on, up to the first unused one
 module _ (ps : List ℕ) (k : ℕ) where
-  rest-last : length ps ≤ k → used (drop k ps) ≡ []
-  rest-last l = ap used (drop_of_length-le ps l)
+  rest_last : length ps ≤ k → used (drop k ps) ≡ []
+  rest_last l = ap used (drop_of_length-le ps l)
 
-  rest-stop : k < length ps → get_or ps k 0 ≡ unused → used (drop k ps) ≡ []
-  rest-stop l u = ap used (drop-cons ps k 0 l) ∙ simp (eq-eqb (get_or ps k 0) unused u)
+  rest_stop : k < length ps → get_or ps k 0 ≡ unused → used (drop k ps) ≡ []
+  rest_stop l u = ap used (drop-cons ps k 0 l) ∙ simp (eq-eqb (get_or ps k 0) unused u)
 
   rest_more : k < length ps → (get_or ps k 0 ≡ unused → ⊥) → used (drop k ps) ≡ get_or ps k 0 ∷ used (drop (k + 1) ps)
   rest_more l u = ap used (drop-cons ps k 0 l) ∙ simp (ne_eqb (get_or ps k 0) unused u, add-one)
 
 -- at the head of the loop over the places ps of j: the marks, and what the places from k on add
 pub record Marking (ps : List ℕ) (j : ℕ) (before marks : List Bool) (k : ℕ) : Type 0 where
-  pub wide : length ps ≡ maxChildren
+  pub wide : length ps ≡ max_children
   pub long : length marks ≡ length before
   pub so_far : (i : ℕ) → i < length before → (get_or marks i false || uses? j (used (drop k ps)) i) ≡ (get_or before i false || uses? j (used ps) i)
 
 module _ (ps : List ℕ) (j : ℕ) (before : List Bool) where
-  pub marking-none : length ps ≡ maxChildren → Marking ps j before before 0
-  marking-none w = record { wide = w; long = refl; so_far = λ i l. refl }
+  pub marking_none : length ps ≡ max_children → Marking ps j before before 0
+  marking_none w = record { wide = w; long = refl; so_far = λ i l. refl }
 
   module _ (marks : List Bool) (k : ℕ) (h : Marking ps j before marks k) where
-    marked-when : used (drop k ps) ≡ [] → Marked j (used ps) before marks
-    marked-when e i l =
-        sym (or-false (get_or marks i false)) ∙ ap (λ (b : Bool). get_or marks i false || b) (sym (uses-none j i) ∙ ap (λ (cs : List ℕ). uses? j cs i) (sym e)) ∙ h.so_far i l
+    marked_when : used (drop k ps) ≡ [] → Marked j (used ps) before marks
+    marked_when e i l =
+        sym (or_false (get_or marks i false)) ∙ ap (λ (b : Bool). get_or marks i false || b) (sym (uses_none j i) ∙ ap (λ (cs : List ℕ). uses? j cs i) (sym e)) ∙ h.so_far i l
 
-    pub marked_all : maxChildren ≤ k → Marked j (used ps) before marks
-    marked_all l = marked-when (rest-last ps k (omega (arith, h.wide)))
+    pub marked_all : max_children ≤ k → Marked j (used ps) before marks
+    marked_all l = marked_when (rest_last ps k (omega (arith, h.wide)))
 
     -- place k holds x
-    module _ (x : ℕ) (l : k < maxChildren) (e : x ≡ get_or ps k 0) where
+    module _ (x : ℕ) (l : k < max_children) (e : x ≡ get_or ps k 0) where
       inside : k < length ps
       inside = omega (arith, h.wide)
 
-      pub marked-stop : x ≡ unused → Marked j (used ps) before marks
-      marked-stop u = marked-when (rest-stop ps k inside (sym e ∙ u))
+      pub marked_stop : x ≡ unused → Marked j (used ps) before marks
+      marked_stop u = marked_when (rest_stop ps k inside (sym e ∙ u))
 
       -- in use: the marks marks' have it too where it is lower than j
       module _ (u : x ≡ unused → ⊥) where
@@ -90,8 +90,8 @@ module _ (ps : List ℕ) (j : ℕ) (before : List Bool) where
             let more : used (drop k ps) ≡ x ∷ used (drop (k + 1) ps) = rest_more ps k inside (λ q. u (e ∙ q)) ∙ ap (λ (y : ℕ). y ∷ used (drop (k + 1) ps)) (sym e) in
             record { wide = h.wide; long = w; so_far = λ i m. g i m ∙ ap (λ (cs : List ℕ). get_or marks i false || uses? j cs i) (sym more) ∙ h.so_far i m }
 
-        pub marking-more : (marks' : List Bool) (a : ℕ) → x < j → a ≡ x → marks' ≡ set marks a true → Marking ps j before marks' (k + 1)
-        marking-more marks' a low f g =
+        pub marking_more : (marks' : List Bool) (a : ℕ) → x < j → a ≡ x → marks' ≡ set marks a true → Marking ps j before marks' (k + 1)
+        marking_more marks' a low f g =
             let q : marks' ≡ set marks x true = rw (← f) g in
             step marks' (λ i m. ap (λ (ms : List Bool). get_or ms i false || uses? j (used (drop (k + 1) ps)) i) q ∙ one i m (eqb i x) refl) (ap length q ∙ length-set marks x true ∙ h.long)
           where
@@ -99,25 +99,25 @@ module _ (ps : List ℕ) (j : ℕ) (before : List Bool) where
             one i m true q =
                 let s : i ≡ x = eqb-true i x q in
                 let m' : x < length marks = rw h.long (omega arith) in
-                rw (s, get_or-set_same marks x true false m', uses-this j x x (used (drop (k + 1) ps)) refl low, or-true)
-            one i m false q = rw (get_or-set_other marks x i true false (eqb-false i x q), uses-other j i x (used (drop (k + 1) ps)) q)
+                rw (s, get_or-set_same marks x true false m', uses_this j x x (used (drop (k + 1) ps)) refl low, or_true)
+            one i m false q = rw (get_or-set_other marks x i true false (eqb-false i x q), uses_other j i x (used (drop (k + 1) ps)) q)
 
-        pub marking-same : j ≤ x → Marking ps j before marks (k + 1)
-        marking-same high = step marks (λ i m. one i (eqb i x) refl) h.long
+        pub marking_same : j ≤ x → Marking ps j before marks (k + 1)
+        marking_same high = step marks (λ i m. one i (eqb i x) refl) h.long
           where
             one : (i : ℕ) (b : Bool) → eqb i x ≡ b → (get_or marks i false || uses? j (used (drop (k + 1) ps)) i) ≡ (get_or marks i false || uses? j (x ∷ used (drop (k + 1) ps)) i)
             one i true q =
                 let s : i ≡ x = eqb-true i x q in
-                rw (s, uses-high j x (used (drop (k + 1) ps)) high, uses-high j x (x ∷ used (drop (k + 1) ps)) high)
-            one i false q = rw (uses-other j i x (used (drop (k + 1) ps)) q)
+                rw (s, uses_high j x (used (drop (k + 1) ps)) high, uses_high j x (x ∷ used (drop (k + 1) ps)) high)
+            one i false q = rw (uses_other j i x (used (drop (k + 1) ps)) q)
 
-same-below : (n : ℕ) (p q : ℕ → Bool) → ((i : ℕ) → i < n → p i ≡ q i) → all_below n p ≡ all_below n q
+same_below : (n : ℕ) (p q : ℕ → Bool) → ((i : ℕ) → i < n → p i ≡ q i) → all_below n p ≡ all_below n q
 unfolding all_below
-same-below zero p q h = refl
-same-below (suc n) p q h = cc (same-below n p q (λ i l. h i (omega arith)), h n (omega arith))
+same_below zero p q h = refl
+same_below (suc n) p q h = cc (same_below n p q (λ i l. h i (omega arith)), h n (omega arith))
 
-any_same : (n : ℕ) (p q : ℕ → Bool) → ((i : ℕ) → i < n → p i ≡ q i) → anyBelow n p ≡ anyBelow n q
-unfolding anyBelow
+any_same : (n : ℕ) (p q : ℕ → Bool) → ((i : ℕ) → i < n → p i ≡ q i) → any_below n p ≡ any_below n q
+unfolding any_below
 any_same zero p q h = refl
 any_same (suc n) p q h = cc (any_same n p q (λ i l. h i (omega arith)), h n (omega arith))
 
@@ -125,16 +125,16 @@ any_same (suc n) p q h = cc (any_same n p q (λ i l. h i (omega arith)), h n (om
 pub record MarkedBelow (at : ℕ → List ℕ) (n m : ℕ) (marks : List Bool) (j : ℕ) : Type 0 where
   pub inside : j ≤ n
   pub long : length marks ≡ m
-  pub so_far : (i : ℕ) → i < m → get_or marks i false ≡ anyBelow j (λ j. uses? j (used (at j)) i)
+  pub so_far : (i : ℕ) → i < m → get_or marks i false ≡ any_below j (λ j. uses? j (used (at j)) i)
 
 module _ (at : ℕ → List ℕ) (n m : ℕ) where
-  pub below-first : MarkedBelow at n m (replicate m false) 0
-  unfolding anyBelow
-  below-first = record { inside = omega arith; long = length-replicate m false; so_far = λ i l. get_or-replicate m i false false l }
+  pub below_first : MarkedBelow at n m (replicate m false) 0
+  unfolding any_below
+  below_first = record { inside = omega arith; long = length-replicate m false; so_far = λ i l. get_or-replicate m i false false l }
 
   module _ (marks : List Bool) (j : ℕ) (h : MarkedBelow at n m marks j) where
     pub below_next : (marks' : List Bool) (ps : List ℕ) → j < n → ps ≡ at j → Marked j (used ps) marks marks' → length marks' ≡ length marks → MarkedBelow at n m marks' (j + 1)
-    unfolding anyBelow
+    unfolding any_below
     below_next marks' ps lj e k l =
         record {
           inside = omega arith;
@@ -143,31 +143,31 @@ module _ (at : ℕ → List ℕ) (n m : ℕ) where
         }
 
     -- each number but the last is marked exactly where it is used; cs is what the places hold
-    pub all-marked : (cs : ℕ → List ℕ) (k : ℕ) (r : Bool) → n ≤ m → ((i : ℕ) → i < n → used (at i) ≡ cs i) → n ≤ j → k ≡ n - 1 → r ≡ all_below k (λ i. get_or marks i false) → r ≡ all_below (n - 1) (λ i. anyBelow n (λ j. uses? j (cs j) i))
-    all-marked cs k r few same last f q =
+    pub all_marked : (cs : ℕ → List ℕ) (k : ℕ) (r : Bool) → n ≤ m → ((i : ℕ) → i < n → used (at i) ≡ cs i) → n ≤ j → k ≡ n - 1 → r ≡ all_below k (λ i. get_or marks i false) → r ≡ all_below (n - 1) (λ i. any_below n (λ j. uses? j (cs j) i))
+    all_marked cs k r few same last f q =
         let e : j ≡ n = omega (arith, h.inside) in
         q
-        ∙ same-below k (λ i. get_or marks i false) (λ i. anyBelow n (λ j. uses? j (cs j) i))
+        ∙ same_below k (λ i. get_or marks i false) (λ i. any_below n (λ j. uses? j (cs j) i))
         (λ i l.
         h.so_far i (omega arith)
-        ∙ ap (λ (z : ℕ). anyBelow z (λ j. uses? j (used (at j)) i)) e
+        ∙ ap (λ (z : ℕ). any_below z (λ j. uses? j (used (at j)) i)) e
         ∙ any_same n (λ j. uses? j (used (at j)) i) (λ j. uses? j (cs j) i) (λ y ly. ap (λ (xs : List ℕ). uses? y xs i) (same y ly)))
-        ∙ ap (λ (z : ℕ). all_below z (λ i. anyBelow n (λ j. uses? j (cs j) i))) f
+        ∙ ap (λ (z : ℕ). all_below z (λ i. any_below n (λ j. uses? j (cs j) i))) f
 
 -- the mark at a place that is i
-pub marked-at : (marks : List Bool) (a i : ℕ) (r : Bool) → r ≡ get_or marks a false → a ≡ i → r ≡ get_or marks i false
-marked-at marks a i r e q = e ∙ ap (λ (n : ℕ). get_or marks n false) q
+pub marked_at : (marks : List Bool) (a i : ℕ) (r : Bool) → r ≡ get_or marks a false → a ≡ i → r ≡ get_or marks i false
+marked_at marks a i r e q = e ∙ ap (λ (n : ℕ). get_or marks n false) q
 
 -- a mark past the end is none
 pub set_past : (marks : List Bool) (a i : ℕ) → a ≡ i → length marks ≤ a → marks ≡ set marks i true
 set_past marks a i e l = sym (set_out marks i true (omega arith))
 
-pub ruleset markings = (set_past, marking-none, marked-stop, marked_all, marking-more, marking-same, below-first, below_next, rules)
+pub ruleset markings = (set_past, marking_none, marked_stop, marked_all, marking_more, marking_same, below_first, below_next, rules)
 
 -- 16: the marks of the rows of a table
-pub rows-marked : (cells : List ℕ) (n : ℕ) (marks : List Bool) (j k : ℕ) (r : Bool) → Counted cells n → MarkedBelow (placesIn cells) n maxRows marks j → n ≤ j → k ≡ n - 1 → r ≡ all_below k (λ i. get_or marks i false) → r ≡ all_below (length (decodeRows cells) - 1) (used? (decodeRows cells))
+pub rows_marked : (cells : List ℕ) (n : ℕ) (marks : List Bool) (j k : ℕ) (r : Bool) → Counted cells n → MarkedBelow (places_in cells) n max_rows marks j → n ≤ j → k ≡ n - 1 → r ≡ all_below k (λ i. get_or marks i false) → r ≡ all_below (length (decode_rows cells) - 1) (used? (decode_rows cells))
 unfolding used?
-rows-marked cells n marks j k r c h last f q =
-    all-marked (placesIn cells) n maxRows marks j h (λ i. (row_at (decodeRows cells) i).children) k r c.few
-    (λ i l. ap (λ (x : Row). x.children) (sym (row-at cells i (omega (arith, c.rows))))) last f q
-    ∙ ap (λ (z : ℕ). all_below (z - 1) (λ i. anyBelow z (λ j. uses? j (row_at (decodeRows cells) j).children i))) (c.rows ∙ sym (rows-length cells))
+rows_marked cells n marks j k r c h last f q =
+    all_marked (places_in cells) n max_rows marks j h (λ i. (row_at (decode_rows cells) i).children) k r c.few
+    (λ i l. ap (λ (x : Row). x.children) (sym (row_at_lem cells i (omega (arith, c.rows))))) last f q
+    ∙ ap (λ (z : ℕ). all_below (z - 1) (λ i. any_below z (λ j. uses? j (row_at (decode_rows cells) j).children i))) (c.rows ∙ sym (rows_length cells))

@@ -5,7 +5,7 @@ use Prim.Native.Nat.{ℕ, zero, suc, ◌≤◌, ◌<◌}
 use native.Mathlib.Omega.{arith}
 use borrow.Author.Tests.{le-leb, lt-leb}
 use lib.Dec.{leb}
-use Rattle.model.specs.Refusal.{demand, andAfter}
+use Rattle.model.specs.Refusal.{demand, and_after}
 
 pub passed : (b : Bool) (n rest : ℕ) → 0 < n → demand b n rest ≡ 0 → (b ≡ true) × (rest ≡ 0)
 unfolding demand
@@ -16,18 +16,18 @@ pub pass : (b : Bool) (n rest : ℕ) → b ≡ true → rest ≡ 0 → demand b 
 unfolding demand
 pass b n rest e h = rw e h
 
-pub both-passed : (a b : ℕ) → andAfter a b ≡ 0 → (a ≡ 0) × (b ≡ 0)
-unfolding andAfter
-both-passed zero b h = (refl, h)
-both-passed (suc a) b h = let z : ⊥ = omega arith in absurd z
+pub both_passed : (a b : ℕ) → and_after a b ≡ 0 → (a ≡ 0) × (b ≡ 0)
+unfolding and_after
+both_passed zero b h = (refl, h)
+both_passed (suc a) b h = let z : ⊥ = omega arith in absurd z
 
-pub both-pass : (a b : ℕ) → a ≡ 0 → b ≡ 0 → andAfter a b ≡ 0
-unfolding andAfter
-both-pass a b e h = rw e h
+pub both_pass : (a b : ℕ) → a ≡ 0 → b ≡ 0 → and_after a b ≡ 0
+unfolding and_after
+both_pass a b e h = rw e h
 
-pub true-and : (a b : Bool) → (a && b) ≡ true → (a ≡ true) × (b ≡ true)
-true-and true b h = (refl, h)
-true-and false b h = let z : ◌≡◌ {A = ℕ} 0 1 = cc in let y : ⊥ = omega arith in absurd y
+pub true_and : (a b : Bool) → (a && b) ≡ true → (a ≡ true) × (b ≡ true)
+true_and true b h = (refl, h)
+true_and false b h = let z : ◌≡◌ {A = ℕ} 0 1 = cc in let y : ⊥ = omega arith in absurd y
 
 -- a number r that equals l tells what the demand that l keeps a limit says
 module _ (l r limit n : ℕ) (e : r ≡ l) where

@@ -6,16 +6,16 @@ use native.Mathlib.Omega.{arith}
 use borrow.Author.Tests.{eq-eqb, ne_eqb, eqb-true, eqb-false}
 use lib.Dec.{T, eqb, ltb, eqb→eq, ltb→lt}
 use Rattle.model.specs.Table.{rate?, scalar?}
-use Rattle.model.proofs.Scalars.{by_kind, rate-below}
+use Rattle.model.proofs.Scalars.{by_kind, rate_below}
 use Rattle.document.specs.declared.scalar.Scalar.{Scalar}
 use Rattle.document.specs.declared.scalar.Scalar.TheVariants.{Flag}
-use Rattle.document.specs.Scalars.{kind_of, payloadOf, hasKindPayload, scalarAt}
-use Rattle.document.proofs.Rates.{kind-rate, payload-rate}
+use Rattle.document.specs.Scalars.{kind_of, payload_of, has_kind_payload, scalar_at}
+use Rattle.document.proofs.Rates.{kind_rate, payload_rate}
 
 -- the kind and the payload of s are k and p
 pub record Back (k p : ℕ) (s : Scalar) : Type 0 where
   pub kind : kind_of s ≡ k
-  pub payload : payloadOf s ≡ p
+  pub payload : payload_of s ≡ p
 
 either_side : (a b : ℕ) → eqb a b ≡ eqb b a
 either_side a b = go (eqb a b) refl
@@ -25,36 +25,36 @@ either_side a b = go (eqb a b) refl
     go false e = sym (ne_eqb b a (λ q. eqb-false a b e (sym q)))
 
 -- what `held` compares: the scalar is t, and q its payload
-pub held-as : {s t : Scalar} (k p q : ℕ) → s ≡ t → q ≡ payloadOf t → (eqb k (kind_of t) && eqb p q) ≡ hasKindPayload s k p
-held-as {s} {t} k p q e f = rw (e, f, either_side k (kind_of t), either_side p (payloadOf t))
+pub held_as : {s t : Scalar} (k p q : ℕ) → s ≡ t → q ≡ payload_of t → (eqb k (kind_of t) && eqb p q) ≡ has_kind_payload s k p
+held_as {s} {t} k p q e f = rw (e, f, either_side k (kind_of t), either_side p (payload_of t))
 
-flag-back : (p : ℕ) → p < 2 → payloadOf (Flag (eqb p 1)) ≡ p
-flag-back zero h = refl
-flag-back (suc zero) h = refl
-flag-back (suc (suc p)) h = let z : ⊥ = omega arith in absurd z
+flag_back : (p : ℕ) → p < 2 → payload_of (Flag (eqb p 1)) ≡ p
+flag_back zero h = refl
+flag_back (suc zero) h = refl
+flag_back (suc (suc p)) h = let z : ⊥ = omega arith in absurd z
 
 -- the payload test of each kind
 module _ (p : ℕ) where
-  bare : T (eqb p 0) → Back 0 p (scalarAt 0 p)
-  unfolding scalarAt
+  bare : T (eqb p 0) → Back 0 p (scalar_at 0 p)
+  unfolding scalar_at
   bare h = record { kind = refl; payload = sym (eqb→eq p 0 h) }
 
-  flag : T (ltb p 2) → Back 1 p (scalarAt 1 p)
-  unfolding scalarAt
-  flag h = record { kind = refl; payload = flag-back p (ltb→lt p 2 h) }
+  flag : T (ltb p 2) → Back 1 p (scalar_at 1 p)
+  unfolding scalar_at
+  flag h = record { kind = refl; payload = flag_back p (ltb→lt p 2 h) }
 
-  count : Back 2 p (scalarAt 2 p)
-  unfolding scalarAt
+  count : Back 2 p (scalar_at 2 p)
+  unfolding scalar_at
   count = record { kind = refl; payload = refl }
 
-  rate : T (rate? p) → Back 3 p (scalarAt 3 p)
-  unfolding scalarAt
-  rate h = record { kind = kind-rate p; payload = payload-rate p (rate-below p h) }
+  rate : T (rate? p) → Back 3 p (scalar_at 3 p)
+  unfolding scalar_at
+  rate h = record { kind = kind_rate p; payload = payload_rate p (rate_below p h) }
 
-  name : Back 4 p (scalarAt 4 p)
-  unfolding scalarAt
+  name : Back 4 p (scalar_at 4 p)
+  unfolding scalar_at
   name = record { kind = refl; payload = refl }
 
 -- Every kind and payload that is a scalar goes to a Scalar and back unchanged.
-pub there_and_back : (k p : ℕ) → T (scalar? k p) → Back k p (scalarAt k p)
-there_and_back k p = by_kind (λ j. Back j p (scalarAt j p)) p (bare p) (flag p) (λ t. count p) (rate p) (λ t. name p) k
+pub there_and_back : (k p : ℕ) → T (scalar? k p) → Back k p (scalar_at k p)
+there_and_back k p = by_kind (λ j. Back j p (scalar_at j p)) p (bare p) (flag p) (λ t. count p) (rate p) (λ t. name p) k

@@ -3,30 +3,30 @@ use Rattle.std.specs.Prelude.{List, [], ◌∷◌, ℕ, ◌*◌, ◌/◌, ◌%�
 use Rattle.std.specs.Int.Bits.{bit_xor}
 
 -- a product with the factor, modulo 2^32
-abbrev pub fnvProduct : ℕ → ℕ
-fnvProduct h = h * 16777619 % 2 ^ 32
+abbrev pub fnv_product : ℕ → ℕ
+fnv_product h = h * 16777619 % 2 ^ 32
 
 -- a byte more
-abbrev pub fnvByte : ℕ → ℕ → ℕ
-fnvByte h b = fnvProduct (bit_xor h b)
+abbrev pub fnv_byte : ℕ → ℕ → ℕ
+fnv_byte h b = fnv_product (bit_xor h b)
 
 -- a cell more, its low byte first
-abbrev pub fnvCell : ℕ → ℕ → ℕ
-fnvCell h x = fnvByte (fnvByte h (x % 256)) (x / 256)
+abbrev pub fnv_cell : ℕ → ℕ → ℕ
+fnv_cell h x = fnv_byte (fnv_byte h (x % 256)) (x / 256)
 
 -- the bytes on, from the hash h
-unfoldable pub fnvFrom : ℕ → List ℕ → ℕ
-fnvFrom h [] = h
-fnvFrom h (b ∷ bytes) = fnvFrom (fnvByte h b) bytes
+unfoldable pub fnv_from : ℕ → List ℕ → ℕ
+fnv_from h [] = h
+fnv_from h (b ∷ bytes) = fnv_from (fnv_byte h b) bytes
 
 abbrev pub fnv1a : List ℕ → ℕ
-fnv1a bytes = fnvFrom 2166136261 bytes
+fnv1a bytes = fnv_from 2166136261 bytes
 
 -- the bytes of 16-bit cells, low byte first
-abbrev pub cellBytes : List ℕ → List ℕ
-cellBytes [] = []
-cellBytes (c ∷ cells) = c % 256 ∷ c / 256 ∷ cellBytes cells
+abbrev pub cell_bytes : List ℕ → List ℕ
+cell_bytes [] = []
+cell_bytes (c ∷ cells) = c % 256 ∷ c / 256 ∷ cell_bytes cells
 
 -- the hash of a row's ten cells
-abbrev pub rowHash : List ℕ → ℕ
-rowHash cells = fnv1a (cellBytes cells)
+abbrev pub row_hash : List ℕ → ℕ
+row_hash cells = fnv1a (cell_bytes cells)

@@ -1,8 +1,8 @@
 // The table builder: rows in cells that the caller lends, each added once, with an index over them.
 ghost use Rattle.std.specs.Prelude.{◌≡◌};
 ghost use Rattle.document.specs.Rows.{Kept};
-ghost use Rattle.document.specs.Fields.{fieldsRow};
-ghost use Rattle.document.specs.Builder.{roomFor?, findOrAdd, Did};
+ghost use Rattle.document.specs.Fields.{fields_row};
+ghost use Rattle.document.specs.Builder.{room_for?, find_or_add, Did};
 
 use crate::fields::{RowFields, cells_of};
 use crate::index::{Probed, SLOTS, look_up, start_slot};
@@ -20,7 +20,7 @@ pub enum Placed {
 
 // Room for a row more, after n.
 pub(crate) fn has_room(rows: &[u16], n: u16, limit: u16) -> bool
-    ensures { result ≡ roomFor? rows.now n limit }
+    ensures { result ≡ room_for? rows.now n limit }
 {
     let m = size(n);
     (n < limit) & (n < MAX_ROWS) & (m * ROW_CELLS + ROW_CELLS <= rows.len())
@@ -34,8 +34,8 @@ pub fn find_or_add(
     limit: u16,
     f: RowFields,
 ) -> Placed
-    ensures did { Did (findOrAdd rows.old slots.old n limit (fieldsRow f)) result rows.new slots.new }
-    ensures kept { Kept (fieldsRow f) }
+    ensures did { Did (find_or_add rows.old slots.old n limit (fields_row f)) result rows.new slots.new }
+    ensures kept { Kept (fields_row f) }
 {
     let cells = cells_of(f);
     let start = start_slot(cells);

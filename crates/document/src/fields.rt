@@ -1,9 +1,9 @@
 // A row by value: its symbol, child places and scalar; its ten cells; and its equality with a lent row.
 ghost use Rattle.std.specs.Prelude.{◌≡◌, ◌/◌, ◌%◌};
 ghost use Rattle.model.specs.Lists.{eq_list};
-ghost use Rattle.model.specs.Build.{eqRow};
-ghost use Rattle.document.specs.Rows.{used, places_of, row_in, encodeRow, Kept};
-ghost use Rattle.document.specs.Fields.{numbersOf, asRows, fieldsRow, placeAfter};
+ghost use Rattle.model.specs.Build.{eq_row};
+ghost use Rattle.document.specs.Rows.{used, places_of, row_in, encode_row, Kept};
+ghost use Rattle.document.specs.Fields.{numbers_of, as_rows, fields_row, place_after};
 
 use crate::rows::{ROW_CELLS, Row, kind, payload, place, symbol};
 use crate::scalar;
@@ -22,14 +22,14 @@ pub struct RowFields {
 }
 
 fn place_after(last: Row, x: Row) -> Row
-    ensures { result.0 ≡ placeAfter last.0 x.0 }
+    ensures { result.0 ≡ place_after last.0 x.0 }
 {
     if last.0 == UNUSED { Row(UNUSED) } else { x }
 }
 
 // The places, all unused after the first that is.
 fn settled(places: [Row; PLACES]) -> [Row; PLACES]
-    ensures { result ≡ asRows (places_of (used (numbersOf places))) }
+    ensures { result ≡ as_rows (places_of (used (numbers_of places))) }
 {
     let mut p = places;
     let mut k = 0;
@@ -42,8 +42,8 @@ fn settled(places: [Row; PLACES]) -> [Row; PLACES]
 
 // The ten cells of a row; they hold all of it.
 pub fn cells_of(f: RowFields) -> [u16; ROW_CELLS]
-    ensures value { result ≡ encodeRow (fieldsRow f) }
-    ensures kept { Kept (fieldsRow f) }
+    ensures value { result ≡ encode_row (fields_row f) }
+    ensures kept { Kept (fields_row f) }
 {
     let places = f.places;
     let p = settled(places);
@@ -69,7 +69,7 @@ pub fn cells_of(f: RowFields) -> [u16; ROW_CELLS]
 
 // Whether the places of row i are these, up to the first unused one.
 fn same_places(rows: &[u16], i: Row, places: [Row; PLACES]) -> bool
-    ensures { result ≡ eq_list (used (numbersOf places)) (row_in rows.now i.0).children }
+    ensures { result ≡ eq_list (used (numbers_of places)) (row_in rows.now i.0).children }
 {
     let mut k = 0;
     while k < PLACES {
@@ -88,7 +88,7 @@ fn same_places(rows: &[u16], i: Row, places: [Row; PLACES]) -> bool
 
 // Whether row i equals the fields.
 pub fn same_row(rows: &[u16], i: Row, f: RowFields) -> bool
-    ensures { result ≡ eqRow (fieldsRow f) (row_in rows.now i.0) }
+    ensures { result ≡ eq_row (fields_row f) (row_in rows.now i.0) }
 {
     if f.symbol != symbol(rows, i) {
         return false;

@@ -2,11 +2,11 @@
 ghost use Rattle.std.specs.Prelude.{◌≡◌};
 ghost use Rattle.std.proofs.Math.Option.{none};
 ghost use Rattle.model.specs.Table as table;
-ghost use Rattle.model.specs.Build.{findRow};
-ghost use Rattle.document.specs.Rows.{encodeRow, rowsBelow};
-ghost use Rattle.document.specs.Hash.{rowHash};
+ghost use Rattle.model.specs.Build.{find_row};
+ghost use Rattle.document.specs.Rows.{encode_row, rows_below};
+ghost use Rattle.document.specs.Hash.{row_hash};
 ghost use Rattle.document.specs.Words.{Words};
-ghost use Rattle.document.specs.Builder.{findOrAdd, Did, Ready};
+ghost use Rattle.document.specs.Builder.{find_or_add, Did, Ready};
 
 use crate::builder::{Placed, has_room};
 use crate::index::{Probed, SLOTS, free_slot};
@@ -24,7 +24,7 @@ pub fn add_new(
     b: u64,
     c: u64,
 ) -> Placed
-    ensures { (x : table.Row) → Words x a b c → hash ≡ rowHash (encodeRow x) → Ready rows.old slots.old n limit → findRow x (rowsBelow rows.old n) ≡ none → Did (findOrAdd rows.old slots.old n limit x) result rows.new slots.new }
+    ensures { (x : table.Row) → Words x a b c → hash ≡ row_hash (encode_row x) → Ready rows.old slots.old n limit → find_row x (rows_below rows.old n) ≡ none → Did (find_or_add rows.old slots.old n limit x) result rows.new slots.new }
 {
     match free_slot(&*slots, hash as usize % SLOTS) {
         Probed::Found(i) => Placed::Known(i),

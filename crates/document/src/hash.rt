@@ -1,8 +1,8 @@
 // The 32-bit FNV-1a hash of a row's ten cells: it picks the start slot in the index, and nothing else rests on it.
 ghost use Rattle.std.specs.Prelude.{◌≡◌, ◌∷◌, ◌++◌, ◌*◌, ◌%◌, ◌^◌, replicate};
-ghost use Rattle.document.specs.Rows.{splitCells};
-ghost use Rattle.document.specs.Hash.{fnvByte, fnvCell, fnvFrom, fnv1a, cellBytes, rowHash};
-ghost use Rattle.document.specs.Words.{wordsCells};
+ghost use Rattle.document.specs.Rows.{split_cells};
+ghost use Rattle.document.specs.Hash.{fnv_byte, fnv_cell, fnv_from, fnv1a, cell_bytes, row_hash};
+ghost use Rattle.document.specs.Words.{words_cells};
 
 use crate::rows::ROW_CELLS;
 use crate::words::{TWO_CELLS, low_cell};
@@ -51,21 +51,21 @@ fn times(h: u32, factor: u32) -> u32
 
 // A byte more; a wider number is taken whole.
 pub fn add_byte(h: u32, b: u32) -> u32
-    ensures { result ≡ fnvByte h b }
+    ensures { result ≡ fnv_byte h b }
 {
     times(h ^ b, FNV_FACTOR)
 }
 
 // A cell's two bytes, the low one first.
 fn add_cell(h: u32, x: u16) -> u32
-    ensures { result ≡ fnvCell h x }
+    ensures { result ≡ fnv_cell h x }
 {
     add_byte(add_byte(h, (x % 256) as u32), (x / 256) as u32)
 }
 
 // The same, at once where the cell is one byte, as a symbol and a kind are.
 fn add_small(h: u32, x: u16) -> u32
-    ensures { result ≡ fnvCell h x }
+    ensures { result ≡ fnv_cell h x }
 {
     if x < 256 {
         return times(h ^ x as u32, FACTOR_2);
@@ -75,14 +75,14 @@ fn add_small(h: u32, x: u16) -> u32
 
 // A number's two cells.
 fn add_two(h: u32, x: u64) -> u32
-    ensures { result ≡ fnvFrom h (cellBytes (splitCells 2 x)) }
+    ensures { result ≡ fnv_from h (cell_bytes (split_cells 2 x)) }
 {
     add_cell(add_cell(h, low_cell(x)), low_cell(x / 65536))
 }
 
 // A row's first four cells, its symbol and three places.
 fn front_hash(a: u64) -> u32
-    ensures { result ≡ fnv1a (cellBytes (splitCells 4 a)) }
+    ensures { result ≡ fnv1a (cell_bytes (split_cells 4 a)) }
 {
     let h = add_small(FNV_START, low_cell(a));
     add_cell(add_two(h, a / 65536), low_cell(a / 281474976710656))
@@ -90,7 +90,7 @@ fn front_hash(a: u64) -> u32
 
 // The first six: behind those a place and the kind.
 fn middle_hash(a: u64, m: u64) -> u32
-    ensures { result ≡ fnv1a (cellBytes (splitCells 4 a ++ splitCells 2 m)) }
+    ensures { result ≡ fnv1a (cell_bytes (split_cells 4 a ++ split_cells 2 m)) }
 {
     if a == NUMBER_FRONT {
         if m == COUNT_MIDDLE {
@@ -109,7 +109,7 @@ fn middle_hash(a: u64, m: u64) -> u32
 
 // The other four, the payload in two numbers. Zeros behind the first cells only multiply.
 fn add_rest(h: u32, x: u64, c: u64) -> u32
-    ensures { result ≡ fnvFrom h (cellBytes (splitCells 2 x ++ splitCells 2 c)) }
+    ensures { result ≡ fnv_from h (cell_bytes (split_cells 2 x ++ split_cells 2 c)) }
 {
     if c != 0 {
         return add_two(add_two(h, x), c);
@@ -125,14 +125,14 @@ fn add_rest(h: u32, x: u64, c: u64) -> u32
 
 // The hash of a row's words.
 pub fn words_hash(a: u64, b: u64, c: u64) -> u32
-    ensures { result ≡ rowHash (wordsCells a b c) }
+    ensures { result ≡ row_hash (words_cells a b c) }
 {
     add_rest(middle_hash(a, b % TWO_CELLS), b / TWO_CELLS, c)
 }
 
 // The hash of a row of up to three children and no scalar, by its first four cells, which then need not be taken out of words.
 pub fn node_hash(symbol: u16, x: u16, y: u16, z: u16) -> u32
-    ensures { result ≡ rowHash (symbol ∷ x ∷ y ∷ z ∷ 65535 ∷ replicate 5 0) }
+    ensures { result ≡ row_hash (symbol ∷ x ∷ y ∷ z ∷ 65535 ∷ replicate 5 0) }
 {
     let front = add_cell(add_cell(add_cell(add_small(FNV_START, symbol), x), y), z);
     times(add_cell(front, UNUSED), FACTOR_10)
@@ -140,7 +140,7 @@ pub fn node_hash(symbol: u16, x: u16, y: u16, z: u16) -> u32
 
 // The hash of ten cells, cell by cell: they lie in narrow parts, and reading them in wide ones would wait.
 pub fn row_hash(cells: [u16; ROW_CELLS]) -> u32
-    ensures { result ≡ rowHash cells }
+    ensures { result ≡ row_hash cells }
 {
     let mut h = FNV_START;
     let mut i = 0;

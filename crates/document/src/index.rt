@@ -1,10 +1,10 @@
 // The index of a table's rows: slots of open addressing, each empty or with a row's number and 1.
 ghost use Rattle.std.specs.Prelude.{◌≡◌, false, ◌<◌, ◌%◌};
-ghost use Rattle.model.specs.Build.{eqRow};
+ghost use Rattle.model.specs.Build.{eq_row};
 ghost use Rattle.document.specs.Rows.{row_in};
-ghost use Rattle.document.specs.Hash.{rowHash};
-ghost use Rattle.document.specs.Fields.{fieldsRow};
-ghost use Rattle.document.specs.Index.{slotCount, probe};
+ghost use Rattle.document.specs.Hash.{row_hash};
+ghost use Rattle.document.specs.Fields.{fields_row};
+ghost use Rattle.document.specs.Index.{slot_count, probe};
 ghost use Rattle.document.specs.Words.{same_words};
 
 use crate::fields::{RowFields, same_row};
@@ -26,14 +26,14 @@ pub enum Probed {
 
 // The slot where a row of these cells is looked for first.
 pub fn start_slot(cells: [u16; ROW_CELLS]) -> u16
-    ensures { result ≡ rowHash cells % slotCount }
+    ensures { result ≡ row_hash cells % slot_count }
 {
     (row_hash(cells) as usize % SLOTS) as u16
 }
 
 // Looks for a row that equals the fields, from slot start on.
 pub fn look_up(rows: &[u16], slots: &[u16; SLOTS], start: u16, f: RowFields) -> Probed
-    ensures { result ≡ probe slots.now (λ i. eqRow (fieldsRow f) (row_in rows.now i)) start }
+    ensures { result ≡ probe slots.now (λ i. eq_row (fields_row f) (row_in rows.now i)) start }
 {
     let mut d = 0;
     while d < SLOTS {
@@ -60,7 +60,7 @@ pub(crate) fn look_up_words(
     b: u64,
     c: u64,
 ) -> Probed
-    requires { start < slotCount }
+    requires { start < slot_count }
     ensures { result ≡ probe slots.now (same_words rows.now a b c) start }
 {
     let mut d = 0;
@@ -81,7 +81,7 @@ pub(crate) fn look_up_words(
 
 // The first empty slot from slot start on: a probe that no row passes.
 pub(crate) fn free_slot(slots: &[u16; SLOTS], start: usize) -> Probed
-    requires { start < slotCount }
+    requires { start < slot_count }
     ensures { result ≡ probe slots.now (λ _. false) start }
 {
     let mut d = 0;

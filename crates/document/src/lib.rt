@@ -13,14 +13,14 @@ mod tests; // tests.rt: the four tests of a table
 
 ghost use Rattle.std.specs.Prelude.{◌≡◌};
 ghost use Rattle.model.specs.Refusal.{unless};
-ghost use Rattle.automaton.specs.Answer.{checkAnswer};
-ghost use Rattle.document.specs.Check.{documentCheckOf};
+ghost use Rattle.automaton.specs.Answer.{check_answer};
+ghost use Rattle.document.specs.Check.{document_check_of};
 
 use automaton::Checked;
 pub use scalar::Scalar;
 
 fn answer(n: u16) -> Checked
-    ensures { checkAnswer result ≡ unless n tt }
+    ensures { check_answer result ≡ unless n tt }
 {
     if n == 0 {
         return Checked::Passed;
@@ -30,7 +30,7 @@ fn answer(n: u16) -> Checked
 
 // Whether rows are a sound table for a sound set: the number that refuses the set, else the one that refuses the table.
 pub fn check(set: &[u8], rows: &[u16]) -> Checked
-    ensures { checkAnswer result ≡ unless (documentCheckOf set.now rows.now) tt }
+    ensures { check_answer result ≡ unless (document_check_of set.now rows.now) tt }
 {
     match automaton::check(set) {
         Checked::Passed => answer(tests::table(set, rows)),

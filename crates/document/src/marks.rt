@@ -2,7 +2,7 @@
 ghost use Rattle.std.specs.Prelude.{◌≡◌, true, false, get_or, set};
 ghost use Rattle.model.specs.Lists.{all_below};
 ghost use Rattle.document.specs.Rows.{used};
-ghost use Rattle.document.specs.Fields.{numbersOf};
+ghost use Rattle.document.specs.Fields.{numbers_of};
 ghost use Rattle.document.specs.Marks.{Marked};
 
 use crate::rows::Row;
@@ -21,7 +21,7 @@ pub fn set_mark(marks: &mut [bool], at: usize)
 
 // Marks each of the places, up to the first unused one, that is lower than j.
 pub fn mark(marks: &mut [bool], j: Row, places: [Row; PLACES])
-    ensures { Marked j.0 (used (numbersOf places)) marks.old marks.new }
+    ensures { Marked j.0 (used (numbers_of places)) marks.old marks.new }
 {
     let mut k = 0;
     while k < PLACES {

@@ -2,7 +2,7 @@
 ghost use Rattle.std.specs.Prelude.{List, ℕ, ◌<◌};
 ghost use Rattle.model.specs.Table as table;
 ghost use Rattle.document.specs.Words.{Words};
-ghost use Rattle.document.specs.Builder.{findOrAdd, Did, Ready};
+ghost use Rattle.document.specs.Builder.{find_or_add, Did, Ready};
 ghost use Rattle.document.specs.declared.builder.Placed.TheVariants.{Known};
 
 use crate::builder::{Placed, has_room};
@@ -25,7 +25,7 @@ fn near_place(a: u64, b: u64, c: u64) -> usize
 
 // The row with the cells of the words, where it is near at hand among the first n; else what no row is.
 pub fn near_row(rows: &[u16; CELLS], near: &[u16; NEAR], n: u16, a: u64, b: u64, c: u64) -> Row
-    ensures { result.0 < n → (x : table.Row) (slots : List ℕ) (limit : ℕ) → Words x a b c → Ready rows.now slots n limit → Did (findOrAdd rows.now slots n limit x) (Known result) rows.now slots }
+    ensures { result.0 < n → (x : table.Row) (slots : List ℕ) (limit : ℕ) → Words x a b c → Ready rows.now slots n limit → Did (find_or_add rows.now slots n limit x) (Known result) rows.now slots }
 {
     let guess = near[near_place(a, b, c)];
     if (guess < n) & same_words(rows, Row(guess), a, b, c) {
@@ -45,7 +45,7 @@ pub fn place_row(
     b: u64,
     c: u64,
 ) -> Placed
-    ensures { (x : table.Row) → Words x a b c → Ready rows.old slots.old n limit → Did (findOrAdd rows.old slots.old n limit x) result rows.new slots.new }
+    ensures { (x : table.Row) → Words x a b c → Ready rows.old slots.old n limit → Did (find_or_add rows.old slots.old n limit x) result rows.new slots.new }
 {
     let at = near_place(a, b, c);
     let start = words_hash(a, b, c) as usize % SLOTS;

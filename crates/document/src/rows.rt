@@ -1,9 +1,9 @@
 // Lent rows, cell by cell: every function answers for every slice, a cell past the end counting as 0.
 ghost use Rattle.std.specs.Prelude.{◌≡◌, ◌*◌, ◌/◌, length};
 ghost use Rattle.model.specs.Space.{put_at};
-ghost use Rattle.document.specs.Rows.{rowCells, cellIn, placesIn, row_in, encodeRow};
-ghost use Rattle.document.specs.Scalars.{decodeScalar};
-ghost use Rattle.document.specs.Fields.{asRows, fieldsRow, orBare, fieldsIn};
+ghost use Rattle.document.specs.Rows.{row_cells, cell_in, places_in, row_in, encode_row};
+ghost use Rattle.document.specs.Scalars.{decode_scalar};
+ghost use Rattle.document.specs.Fields.{as_rows, fields_row, or_bare, fields_in};
 ghost use Rattle.document.specs.Check.{place_in};
 
 use crate::fields::{RowFields, cells_of};
@@ -24,7 +24,7 @@ pub const ROW_CELLS: usize = 10;
 
 // Cell k of row i.
 pub fn cell(rows: &[u16], i: Row, k: u16) -> u16
-    ensures { result ≡ cellIn rows.now i.0 k }
+    ensures { result ≡ cell_in rows.now i.0 k }
 {
     let at = size(i.0) * ROW_CELLS + size(k);
     if at < rows.len() {
@@ -35,7 +35,7 @@ pub fn cell(rows: &[u16], i: Row, k: u16) -> u16
 
 // As many rows as fit whole.
 pub fn count(rows: &[u16]) -> usize
-    ensures { result ≡ length rows.now / rowCells }
+    ensures { result ≡ length rows.now / row_cells }
 {
     rows.len() / ROW_CELLS
 }
@@ -72,7 +72,7 @@ pub fn payload(rows: &[u16], i: Row) -> u64
 }
 
 fn scalar_of(kind: u16, payload: u64) -> Scalar
-    ensures { result ≡ orBare (decodeScalar kind payload) }
+    ensures { result ≡ or_bare (decode_scalar kind payload) }
 {
     match from_cells(kind, payload) {
         Decoded::Is(s) => s,
@@ -82,7 +82,7 @@ fn scalar_of(kind: u16, payload: u64) -> Scalar
 
 // The four places of row i.
 pub(crate) fn places_of(rows: &[u16], i: Row) -> [Row; PLACES]
-    ensures { result ≡ asRows (placesIn rows.now i.0) }
+    ensures { result ≡ as_rows (places_in rows.now i.0) }
 {
     [
         Row(cell(rows, i, 1)),
@@ -94,7 +94,7 @@ pub(crate) fn places_of(rows: &[u16], i: Row) -> [Row; PLACES]
 
 // Row i by value; its scalar is bare where kind and payload are none.
 pub fn fields_at(rows: &[u16], i: Row) -> RowFields
-    ensures { result ≡ fieldsIn rows.now i.0 }
+    ensures { result ≡ fields_in rows.now i.0 }
 {
     let places = places_of(rows, i);
     let scalar = scalar_of(kind(rows, i), payload(rows, i));
@@ -107,14 +107,14 @@ pub fn fields_at(rows: &[u16], i: Row) -> RowFields
 
 // Makes the cells row i of the space; where they do not fit whole, nothing is written.
 pub fn put_cells(out: &mut [u16], i: Row, cells: [u16; ROW_CELLS])
-    ensures { out.new ≡ put_at out.old (i.0 * rowCells) cells }
+    ensures { out.new ≡ put_at out.old (i.0 * row_cells) cells }
 {
     space::put_cells(out, size(i.0) * ROW_CELLS, &cells);
 }
 
 // The same with a row by value.
 pub fn put_row(out: &mut [u16], i: Row, f: RowFields)
-    ensures { out.new ≡ put_at out.old (i.0 * rowCells) (encodeRow (fieldsRow f)) }
+    ensures { out.new ≡ put_at out.old (i.0 * row_cells) (encode_row (fields_row f)) }
 {
     put_cells(out, i, cells_of(f));
 }

@@ -2,9 +2,9 @@
 ghost use Rattle.std.specs.Prelude.{◌≡◌};
 ghost use Rattle.std.specs.Float.{binary64};
 ghost use Rattle.std.specs.Float.Ieee.{to_bits};
-ghost use Rattle.model.specs.Table.{oneZero};
+ghost use Rattle.model.specs.Table.{one_zero};
 ghost use Rattle.document.specs.declared.scalar.Scalar.TheVariants.{Flag};
-ghost use Rattle.document.specs.Scalars.{rateOf, rowRate, kind_of, payloadOf, decodeScalar, hasKindPayload};
+ghost use Rattle.document.specs.Scalars.{rate_of, row_rate, kind_of, payload_of, decode_scalar, has_kind_payload};
 
 // A bit pattern without its sign is a NaN where it is above that of infinity.
 const SIGN: u64 = 9223372036854775808;
@@ -31,7 +31,7 @@ pub enum Scalar {
 
 // The rate with these bits.
 fn rate_of(bits: u64) -> Scalar
-    ensures { result ≡ rateOf bits }
+    ensures { result ≡ rate_of bits }
 {
     if bits % SIGN > INFINITY {
         Scalar::NanRate(bits)
@@ -42,14 +42,14 @@ fn rate_of(bits: u64) -> Scalar
 
 // Two zeros are one load: the bits of minus zero become those of zero, all others stay.
 fn one_zero(bits: u64) -> u64
-    ensures { result ≡ oneZero bits }
+    ensures { result ≡ one_zero bits }
 {
     if bits == MINUS_ZERO { 0 } else { bits }
 }
 
 // The rate that a reader puts into a row, for any 64 bits.
 pub fn row_rate(bits: u64) -> Scalar
-    ensures { result ≡ rowRate bits }
+    ensures { result ≡ row_rate bits }
 {
     rate_of(one_zero(bits))
 }
@@ -59,7 +59,7 @@ pub const RATE: u16 = 3;
 
 // The payload of that rate.
 pub fn rate_payload(bits: u64) -> u64
-    ensures { (result ≡ payloadOf (rowRate bits)) × (kind_of (rowRate bits) ≡ 3) }
+    ensures { (result ≡ payload_of (row_rate bits)) × (kind_of (row_rate bits) ≡ 3) }
 {
     one_zero(bits)
 }
@@ -72,7 +72,7 @@ pub fn bits_of(x: f64) -> u64
 }
 
 fn flag_bits(b: bool) -> u64
-    ensures { result ≡ payloadOf (Flag b) }
+    ensures { result ≡ payload_of (Flag b) }
 {
     if b { 1 } else { 0 }
 }
@@ -91,7 +91,7 @@ pub fn kind(s: Scalar) -> u16
 }
 
 pub fn payload(s: Scalar) -> u64
-    ensures { result ≡ payloadOf s }
+    ensures { result ≡ payload_of s }
 {
     match s {
         Scalar::Bare => 0,
@@ -111,7 +111,7 @@ pub enum Decoded {
 }
 
 pub fn from_cells(kind: u16, payload: u64) -> Decoded
-    ensures { result ≡ decodeScalar kind payload }
+    ensures { result ≡ decode_scalar kind payload }
 {
     match kind {
         0 => if payload == 0 {
@@ -141,7 +141,7 @@ pub fn from_cells(kind: u16, payload: u64) -> Decoded
 
 // The equality of scalars, of one by value and one in a row's cells: it matches on the enum and compares a rate's bits.
 pub fn held(s: Scalar, kind: u16, bits: u64) -> bool
-    ensures { result ≡ hasKindPayload s kind bits }
+    ensures { result ≡ has_kind_payload s kind bits }
 {
     match s {
         Scalar::Bare => (kind == 0) & (bits == 0),

@@ -1,15 +1,15 @@
 // The four tests of a table of lent rows: its form (11 to 14), equal rows (15), unused rows (16), its height (17).
 ghost use Rattle.std.specs.Prelude.{◌≡◌, false, ◌-◌, ◌<◌, ◌≤◌, T, length, get_or};
-ghost use Rattle.model.specs.Limits.{maxChildren, maxRows};
+ghost use Rattle.model.specs.Limits.{max_children, max_rows};
 ghost use Rattle.model.specs.Lists.{all_below, larger};
 ghost use Rattle.model.specs.Tree.{levels};
 ghost use Rattle.model.specs.Table.{tree_of, scalar?, Lower};
 ghost use Rattle.automaton.specs.Stored.{decode};
-ghost use Rattle.automaton.specs.Check.{checkOf};
-ghost use Rattle.document.specs.Rows.{row_in, decodeRows};
+ghost use Rattle.automaton.specs.Check.{check_of};
+ghost use Rattle.document.specs.Rows.{row_in, decode_rows};
 ghost use Rattle.document.specs.Index.{probe};
-ghost use Rattle.document.specs.Check.{rowCount, counted?, known?, place?, child?, children?, scalarFor?, scalarFits?, formCheckOf, fresh?, distinctCheckOf, used?, usedCheckOf, levelsCheckOf, tableCheckOf};
-ghost use Rattle.document.specs.Marks.{Counted, AllScalars, sameAs, start_of, highestOf};
+ghost use Rattle.document.specs.Check.{row_count, counted?, known?, place?, child?, children?, scalar_for?, scalar_fits?, form_check_of, fresh?, distinct_check_of, used?, used_check_of, levels_check_of, table_check_of};
+ghost use Rattle.document.specs.Marks.{Counted, AllScalars, same_as, start_of, highest_of};
 
 use crate::fields::cells_of;
 use crate::index::{Probed, SLOTS, look_up, start_slot};
@@ -40,8 +40,8 @@ fn symbol_known(set: &[u8], rows: &[u16], i: Row) -> bool
 }
 
 fn symbols_known(set: &[u8], rows: &[u16], n: u16) -> bool
-    requires { n ≡ rowCount rows.now }
-    ensures { result ≡ all_below (rowCount rows.now) (known? (decode set.now) rows.now) }
+    requires { n ≡ row_count rows.now }
+    ensures { result ≡ all_below (row_count rows.now) (known? (decode set.now) rows.now) }
 {
     let mut i = 0;
     while i < n {
@@ -67,7 +67,7 @@ fn child_fits(rows: &[u16], i: Row, arity: u16, k: u16) -> bool
 }
 
 fn places_fit(rows: &[u16], i: Row, arity: u16) -> bool
-    ensures { result ≡ all_below maxChildren (child? rows.now i.0 arity) }
+    ensures { result ≡ all_below max_children (child? rows.now i.0 arity) }
 {
     let n = MAX_CHILDREN;
     let mut k = 0;
@@ -90,8 +90,8 @@ fn children_fit(set: &[u8], rows: &[u16], i: Row) -> bool
 }
 
 fn all_children_fit(set: &[u8], rows: &[u16], n: u16) -> bool
-    requires { n ≡ rowCount rows.now }
-    ensures { result ≡ all_below (rowCount rows.now) (children? (decode set.now) rows.now) }
+    requires { n ≡ row_count rows.now }
+    ensures { result ≡ all_below (row_count rows.now) (children? (decode set.now) rows.now) }
 {
     let mut i = 0;
     while i < n {
@@ -114,7 +114,7 @@ fn is_scalar(kind: u16, payload: u64) -> bool
 }
 
 fn fits_arity(arity: u16, kind: u16, payload: u64) -> bool
-    ensures { result ≡ scalarFor? arity kind payload }
+    ensures { result ≡ scalar_for? arity kind payload }
 {
     if arity == 0 {
         return is_scalar(kind, payload);
@@ -124,15 +124,15 @@ fn fits_arity(arity: u16, kind: u16, payload: u64) -> bool
 
 // 14 at row i.
 fn scalar_fits(set: &[u8], rows: &[u16], i: Row) -> bool
-    ensures { result ≡ scalarFits? (decode set.now) rows.now i.0 }
+    ensures { result ≡ scalar_fits? (decode set.now) rows.now i.0 }
 {
     let a = arity(set, symbol(rows, i));
     fits_arity(a, kind(rows, i), payload(rows, i))
 }
 
 fn all_scalars_fit(set: &[u8], rows: &[u16], n: u16) -> bool
-    requires { n ≡ rowCount rows.now }
-    ensures { result ≡ all_below (rowCount rows.now) (scalarFits? (decode set.now) rows.now) }
+    requires { n ≡ row_count rows.now }
+    ensures { result ≡ all_below (row_count rows.now) (scalar_fits? (decode set.now) rows.now) }
 {
     let mut i = 0;
     while i < n {
@@ -147,7 +147,7 @@ fn all_scalars_fit(set: &[u8], rows: &[u16], n: u16) -> bool
 
 // 11 to 14, or 0: the form of the rows, each by itself.
 pub(crate) fn form(set: &[u8], rows: &[u16]) -> u16
-    ensures { result ≡ formCheckOf (decode set.now) rows.now }
+    ensures { result ≡ form_check_of (decode set.now) rows.now }
 {
     if !counted(rows) {
         return 11;
@@ -168,7 +168,7 @@ pub(crate) fn form(set: &[u8], rows: &[u16]) -> u16
 // Looks for row j among the rows that the slots index.
 fn probe_row(rows: &[u16], slots: &[u16; SLOTS], j: Row) -> Probed
     requires { T (scalar? (row_in rows.now j.0).kind (row_in rows.now j.0).payload) }
-    ensures { result ≡ probe slots.now (sameAs rows.now j.0) (start_of rows.now j.0) }
+    ensures { result ≡ probe slots.now (same_as rows.now j.0) (start_of rows.now j.0) }
 {
     let f = fields_at(rows, j);
     look_up(rows, slots, start_slot(cells_of(f)), f)
@@ -177,7 +177,7 @@ fn probe_row(rows: &[u16], slots: &[u16; SLOTS], j: Row) -> Probed
 // 15: each row is looked for among the earlier ones, then entered.
 fn all_distinct(rows: &[u16], n: u16) -> bool
     requires { Counted rows.now n × AllScalars rows.now n }
-    ensures { result ≡ all_below (length (decodeRows rows.now)) (fresh? (decodeRows rows.now)) }
+    ensures { result ≡ all_below (length (decode_rows rows.now)) (fresh? (decode_rows rows.now)) }
 {
     let mut slots = [0u16; SLOTS];
     let mut j = 0;
@@ -196,7 +196,7 @@ fn all_distinct(rows: &[u16], n: u16) -> bool
 // 15, or 0.
 pub(crate) fn distinct(rows: &[u16], n: u16) -> u16
     requires { Counted rows.now n × AllScalars rows.now n }
-    ensures { result ≡ distinctCheckOf (decodeRows rows.now) }
+    ensures { result ≡ distinct_check_of (decode_rows rows.now) }
 {
     if all_distinct(rows, n) { 0 } else { 15 }
 }
@@ -204,7 +204,7 @@ pub(crate) fn distinct(rows: &[u16], n: u16) -> u16
 // 16: one pass marks the children of every row, then every row but the last must be marked.
 fn all_used(rows: &[u16], n: u16) -> bool
     requires { Counted rows.now n }
-    ensures { result ≡ all_below (length (decodeRows rows.now) - 1) (used? (decodeRows rows.now)) }
+    ensures { result ≡ all_below (length (decode_rows rows.now) - 1) (used? (decode_rows rows.now)) }
 {
     let mut used = [false; ROWS];
     let mut j = 0;
@@ -237,7 +237,7 @@ fn height_at(heights: &[u16], c: Row) -> u16
 
 // The height of row i's highest child, 0 where it has none.
 fn highest_child(rows: &[u16], heights: &[u16], i: Row) -> u16
-    ensures { result ≡ highestOf heights.now (row_in rows.now i.0).children }
+    ensures { result ≡ highest_of heights.now (row_in rows.now i.0).children }
 {
     let n = MAX_CHILDREN;
     let mut k = 0;
@@ -255,8 +255,8 @@ fn highest_child(rows: &[u16], heights: &[u16], i: Row) -> u16
 
 // The levels of the last row's tree: each row's height from those of its children, which are lower.
 fn levels_of(rows: &[u16], n: u16) -> u16
-    requires { Counted rows.now n × Lower (decodeRows rows.now) }
-    ensures { result ≡ levels (tree_of (decodeRows rows.now)) }
+    requires { Counted rows.now n × Lower (decode_rows rows.now) }
+    ensures { result ≡ levels (tree_of (decode_rows rows.now)) }
 {
     let mut heights = [0u16; ROWS];
     let mut i = 0;
@@ -271,15 +271,15 @@ fn levels_of(rows: &[u16], n: u16) -> u16
 // 16, or 0.
 pub(crate) fn used(rows: &[u16], n: u16) -> u16
     requires { Counted rows.now n }
-    ensures { result ≡ usedCheckOf (decodeRows rows.now) }
+    ensures { result ≡ used_check_of (decode_rows rows.now) }
 {
     if all_used(rows, n) { 0 } else { 16 }
 }
 
 // 17, or 0: heights need lower children only.
 pub(crate) fn low(rows: &[u16], n: u16) -> u16
-    requires { Counted rows.now n × Lower (decodeRows rows.now) }
-    ensures { result ≡ levelsCheckOf (decodeRows rows.now) }
+    requires { Counted rows.now n × Lower (decode_rows rows.now) }
+    ensures { result ≡ levels_check_of (decode_rows rows.now) }
 {
     if levels_of(rows, n) <= MAX_LEVELS {
         0
@@ -290,16 +290,16 @@ pub(crate) fn low(rows: &[u16], n: u16) -> u16
 
 // The rows of a table that passed 11.
 fn row_count(rows: &[u16]) -> u16
-    requires { rowCount rows.now ≤ maxRows }
-    ensures { result ≡ rowCount rows.now }
+    requires { row_count rows.now ≤ max_rows }
+    ensures { result ≡ row_count rows.now }
 {
     count(rows) as u16
 }
 
 // 11 to 17, or 0: each test over the whole table before the next.
 pub(crate) fn table(set: &[u8], rows: &[u16]) -> u16
-    requires { checkOf set.now ≡ 0 }
-    ensures { result ≡ tableCheckOf (decode set.now) rows.now }
+    requires { check_of set.now ≡ 0 }
+    ensures { result ≡ table_check_of (decode set.now) rows.now }
 {
     let f = form(set, rows);
     if f != 0 {

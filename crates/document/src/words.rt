@@ -1,9 +1,9 @@
 // A row's ten cells as three numbers: four cells, four, and two, in each the first lowest. So a row is compared and written at once.
 ghost use Rattle.std.specs.Prelude.{◌≡◌, [], ◌∷◌, ◌+◌, ◌*◌, ◌<◌, ◌≤◌, ◌%◌, length};
-ghost use Rattle.model.specs.Limits.{maxRows};
+ghost use Rattle.model.specs.Limits.{max_rows};
 ghost use Rattle.model.specs.Space.{put_at};
-ghost use Rattle.document.specs.Rows.{rowCells, splitCells};
-ghost use Rattle.document.specs.Words.{wordsCells, cellsAt, same_words};
+ghost use Rattle.document.specs.Rows.{row_cells, split_cells};
+ghost use Rattle.document.specs.Words.{words_cells, cells_at, same_words};
 
 use crate::rows::{ROW_CELLS, Row};
 use base::limits::MAX_ROWS;
@@ -17,14 +17,14 @@ pub(crate) const TWO_CELLS: u64 = 4294967296;
 
 // Two cells as one number.
 fn pair(x: u16, y: u16) -> u64
-    ensures { (splitCells 2 result ≡ x ∷ y ∷ []) × (result < 4294967296) }
+    ensures { (split_cells 2 result ≡ x ∷ y ∷ []) × (result < 4294967296) }
 {
     wide(x) + wide(y) * 65536
 }
 
 // Four cells as one number: a word to place a row by.
 pub fn word(x: u16, y: u16, z: u16, w: u16) -> u64
-    ensures { splitCells 4 result ≡ x ∷ y ∷ z ∷ w ∷ [] }
+    ensures { split_cells 4 result ≡ x ∷ y ∷ z ∷ w ∷ [] }
 {
     pair(x, y) + pair(z, w) * TWO_CELLS
 }
@@ -32,7 +32,7 @@ pub fn word(x: u16, y: u16, z: u16, w: u16) -> u64
 // Two cells that stand at a place.
 pub(crate) fn two(cells: &[u16], at: usize) -> u64
     requires { at + 2 ≤ length cells.now }
-    ensures { (splitCells 2 result ≡ cellsAt 2 cells.now at) × (result < 4294967296) }
+    ensures { (split_cells 2 result ≡ cells_at 2 cells.now at) × (result < 4294967296) }
 {
     pair(cells[at], cells[at + 1])
 }
@@ -40,7 +40,7 @@ pub(crate) fn two(cells: &[u16], at: usize) -> u64
 // Four cells that stand at a place.
 pub(crate) fn four(cells: &[u16], at: usize) -> u64
     requires { at + 4 ≤ length cells.now }
-    ensures { splitCells 4 result ≡ cellsAt 4 cells.now at }
+    ensures { split_cells 4 result ≡ cells_at 4 cells.now at }
 {
     word(cells[at], cells[at + 1], cells[at + 2], cells[at + 3])
 }
@@ -65,7 +65,7 @@ pub fn low_cell(x: u64) -> u16
 
 fn put_two(rows: &mut [u16], at: usize, x: u64)
     requires { at + 2 ≤ length rows.old }
-    ensures { rows.new ≡ put_at rows.old at (splitCells 2 x) }
+    ensures { rows.new ≡ put_at rows.old at (split_cells 2 x) }
 {
     rows[at] = low_cell(x);
     rows[at + 1] = low_cell(x / 65536);
@@ -73,7 +73,7 @@ fn put_two(rows: &mut [u16], at: usize, x: u64)
 
 fn put_four(rows: &mut [u16], at: usize, x: u64)
     requires { at + 4 ≤ length rows.old }
-    ensures { rows.new ≡ put_at rows.old at (splitCells 4 x) }
+    ensures { rows.new ≡ put_at rows.old at (split_cells 4 x) }
 {
     put_two(&mut *rows, at, x);
     put_two(&mut *rows, at + 2, x / TWO_CELLS);
@@ -81,8 +81,8 @@ fn put_four(rows: &mut [u16], at: usize, x: u64)
 
 // Makes the words' cells row i.
 pub(crate) fn put_words(rows: &mut [u16], i: Row, a: u64, b: u64, c: u64)
-    requires { i.0 * rowCells + rowCells ≤ length rows.old }
-    ensures { rows.new ≡ put_at rows.old (i.0 * rowCells) (wordsCells a b c) }
+    requires { i.0 * row_cells + row_cells ≤ length rows.old }
+    ensures { rows.new ≡ put_at rows.old (i.0 * row_cells) (words_cells a b c) }
 {
     let at = size(i.0) * ROW_CELLS;
     put_four(&mut *rows, at, a);

@@ -9,27 +9,27 @@ use Rattle.model.specs.Tree.{Tree, levels}
 use Rattle.model.specs.Build.{rows_of}
 use Rattle.emptiness.specs.declared.Emptiness.{Emptiness}
 use Rattle.emptiness.specs.declared.Emptiness.TheVariants.{Dead, Live, Refused}
-use Rattle.emptiness.specs.Answer.{emptinessAnswer, shape_of}
+use Rattle.emptiness.specs.Answer.{emptiness_answer, shape_of}
 
 abbrev pub answer_of : ℕ → Option Tree → Emptiness
 answer_of zero none = Dead
 answer_of zero (some w) = Live (length (rows_of w)) (levels w)
 answer_of (suc n) o = Refused (suc n)
 
-pub answer-is : (r : Emptiness) (n : ℕ) (o : Option Tree) → emptinessAnswer r ≡ unless n (shape_of o) → r ≡ answer_of n o
+pub answer_is : (r : Emptiness) (n : ℕ) (o : Option Tree) → emptiness_answer r ≡ unless n (shape_of o) → r ≡ answer_of n o
 unfolding unless
-answer-is Dead zero none e = refl
-answer-is Dead zero (some w) e = let z : ◌≡◌ {A = ℕ} 0 1 = cc in absurd (omega arith)
-answer-is Dead (suc n) o e = let z : ◌≡◌ {A = ℕ} 0 1 = cc in absurd (omega arith)
-answer-is (Live m h) zero none e = let z : ◌≡◌ {A = ℕ} 0 1 = cc in absurd (omega arith)
-answer-is (Live m h) zero (some w) e = let p : ◌≡◌ {A = ℕ × ℕ} (m, h) (length (rows_of w), levels w) = cc in ap (λ x. Live x.0 x.1) p
-answer-is (Live m h) (suc n) o e = let z : ◌≡◌ {A = ℕ} 0 1 = cc in absurd (omega arith)
-answer-is (Refused m) zero none e = let z : ◌≡◌ {A = ℕ} 0 1 = cc in absurd (omega arith)
-answer-is (Refused m) zero (some w) e = let z : ◌≡◌ {A = ℕ} 0 1 = cc in absurd (omega arith)
-answer-is (Refused m) (suc n) o e = cc
+answer_is Dead zero none e = refl
+answer_is Dead zero (some w) e = let z : ◌≡◌ {A = ℕ} 0 1 = cc in absurd (omega arith)
+answer_is Dead (suc n) o e = let z : ◌≡◌ {A = ℕ} 0 1 = cc in absurd (omega arith)
+answer_is (Live m h) zero none e = let z : ◌≡◌ {A = ℕ} 0 1 = cc in absurd (omega arith)
+answer_is (Live m h) zero (some w) e = let p : ◌≡◌ {A = ℕ × ℕ} (m, h) (length (rows_of w), levels w) = cc in ap (λ x. Live x.0 x.1) p
+answer_is (Live m h) (suc n) o e = let z : ◌≡◌ {A = ℕ} 0 1 = cc in absurd (omega arith)
+answer_is (Refused m) zero none e = let z : ◌≡◌ {A = ℕ} 0 1 = cc in absurd (omega arith)
+answer_is (Refused m) zero (some w) e = let z : ◌≡◌ {A = ℕ} 0 1 = cc in absurd (omega arith)
+answer_is (Refused m) (suc n) o e = cc
 
-pub is-answer : (r : Emptiness) (n : ℕ) (o : Option Tree) → r ≡ answer_of n o → emptinessAnswer r ≡ unless n (shape_of o)
+pub is_answer : (r : Emptiness) (n : ℕ) (o : Option Tree) → r ≡ answer_of n o → emptiness_answer r ≡ unless n (shape_of o)
 unfolding unless
-is-answer r zero none e = ap emptinessAnswer e
-is-answer r zero (some w) e = ap emptinessAnswer e
-is-answer r (suc n) o e = ap emptinessAnswer e
+is_answer r zero none e = ap emptiness_answer e
+is_answer r zero (some w) e = ap emptiness_answer e
+is_answer r (suc n) o e = ap emptiness_answer e

@@ -12,67 +12,67 @@ use Rattle.model.specs.Refusal.{demand, gives, refuses, unless}
 use Rattle.model.specs.Tree.{Tree}
 use Rattle.model.specs.Witness.{witness, apart?}
 use Rattle.automaton.specs.Stored.{decode}
-use Rattle.automaton.specs.Check.{checkOf}
-use Rattle.automaton.specs.Answer.{checkAnswer}
+use Rattle.automaton.specs.Check.{check_of}
+use Rattle.automaton.specs.Answer.{check_answer}
 use Rattle.automaton.specs.declared.Checked.{Checked}
 use Rattle.automaton.specs.declared.Checked.TheVariants as checked
-use Rattle.automaton.proofs.Verdict.{passed-zero, refused-after, passed-after, refused-some}
-use Rattle.document.specs.Rows.{rowCells}
+use Rattle.automaton.proofs.Verdict.{passed_zero, refused_after, passed_after, refused_some}
+use Rattle.document.specs.Rows.{row_cells}
 use Rattle.document.proofs.Refusals.{passed}
 use Rattle.emptiness.specs.declared.Emptiness.{Emptiness}
-use Rattle.emptiness.specs.Answer.{sampleCheckOf, witnessCheckOf, emptinessAnswer, shape_of, space_of, emptinessOf, spaceAfter}
+use Rattle.emptiness.specs.Answer.{sample_check_of, witness_check_of, emptiness_answer, shape_of, space_of, emptiness_of, space_after}
 
-refused-answer : (k m : ℕ) (o : Option (ℕ × ℕ)) → m ≡ k → 0 < m → refuses m ≡ unless k o
+refused_answer : (k m : ℕ) (o : Option (ℕ × ℕ)) → m ≡ k → 0 < m → refuses m ≡ unless k o
 unfolding unless
-refused-answer zero m o e l = let z : ⊥ = omega arith in absurd z
-refused-answer (suc k) m o e l = ap refuses e
+refused_answer zero m o e l = let z : ⊥ = omega arith in absurd z
+refused_answer (suc k) m o e l = ap refuses e
 
-given-answer : (k : ℕ) (o : Option (ℕ × ℕ)) → k ≡ 0 → gives o ≡ unless k o
+given_answer : (k : ℕ) (o : Option (ℕ × ℕ)) → k ≡ 0 → gives o ≡ unless k o
 unfolding unless
-given-answer k o e = rw e
+given_answer k o e = rw e
 
-refused-cells : (k m : ℕ) (o : Option Tree) (cells : List ℕ) → m ≡ k → 0 < m → cells ≡ space_of k o cells
-refused-cells zero m o cells e l = let z : ⊥ = omega arith in absurd z
-refused-cells (suc k) m o cells e l = refl
+refused_cells : (k m : ℕ) (o : Option Tree) (cells : List ℕ) → m ≡ k → 0 < m → cells ≡ space_of k o cells
+refused_cells zero m o cells e l = let z : ⊥ = omega arith in absurd z
+refused_cells (suc k) m o cells e l = refl
 
 above_zero : (x : ℕ) → (x ≡ 0 → ⊥) → 0 < x
 above_zero zero h = absurd (h refl)
 above_zero (suc x) h = omega arith
 
-module _ (s cells : List ℕ) (r : Checked) (er : checkAnswer r ≡ unless (checkOf s) tt) where
-  set-number : (m : ℕ) → r ≡ checked.Refused m → m ≡ witnessCheckOf s (length cells)
-  unfolding witnessCheckOf
-  set-number m e = refused-after r (checkOf s) er m (sampleCheckOf (decode s) (length cells)) e
+module _ (s cells : List ℕ) (r : Checked) (er : check_answer r ≡ unless (check_of s) tt) where
+  set_number : (m : ℕ) → r ≡ checked.Refused m → m ≡ witness_check_of s (length cells)
+  unfolding witness_check_of
+  set_number m e = refused_after r (check_of s) er m (sample_check_of (decode s) (length cells)) e
 
-  pub set-answer : (m : ℕ) → r ≡ checked.Refused m → refuses m ≡ emptinessOf s (length cells)
-  set-answer m e = refused-answer (witnessCheckOf s (length cells)) m (shape_of (witness (decode s))) (set-number m e) (refused-some r (checkOf s) er m e)
+  pub set_answer : (m : ℕ) → r ≡ checked.Refused m → refuses m ≡ emptiness_of s (length cells)
+  set_answer m e = refused_answer (witness_check_of s (length cells)) m (shape_of (witness (decode s))) (set_number m e) (refused_some r (check_of s) er m e)
 
-  pub set-space : (m : ℕ) → r ≡ checked.Refused m → cells ≡ spaceAfter s cells
-  set-space m e = refused-cells (witnessCheckOf s (length cells)) m (witness (decode s)) cells (set-number m e) (refused-some r (checkOf s) er m e)
+  pub set_space : (m : ℕ) → r ≡ checked.Refused m → cells ≡ space_after s cells
+  set_space m e = refused_cells (witness_check_of s (length cells)) m (witness (decode s)) cells (set_number m e) (refused_some r (check_of s) er m e)
 
-  module _ (eS : r ≡ checked.Passed) (x : ℕ) (ex : x ≡ sampleCheckOf (decode s) (length cells)) where
-    sample-number : x ≡ witnessCheckOf s (length cells)
-    unfolding witnessCheckOf
-    sample-number = ex ∙ passed-after r (checkOf s) er (sampleCheckOf (decode s) (length cells)) eS
+  module _ (eS : r ≡ checked.Passed) (x : ℕ) (ex : x ≡ sample_check_of (decode s) (length cells)) where
+    sample_number : x ≡ witness_check_of s (length cells)
+    unfolding witness_check_of
+    sample_number = ex ∙ passed_after r (check_of s) er (sample_check_of (decode s) (length cells)) eS
 
-    pub sample-answer : (x ≡ 0 → ⊥) → refuses x ≡ emptinessOf s (length cells)
-    sample-answer h = refused-answer (witnessCheckOf s (length cells)) x (shape_of (witness (decode s))) sample-number (above_zero x h)
+    pub sample_answer : (x ≡ 0 → ⊥) → refuses x ≡ emptiness_of s (length cells)
+    sample_answer h = refused_answer (witness_check_of s (length cells)) x (shape_of (witness (decode s))) sample_number (above_zero x h)
 
-    pub sample-space : (x ≡ 0 → ⊥) → cells ≡ spaceAfter s cells
-    sample-space h = refused-cells (witnessCheckOf s (length cells)) x (witness (decode s)) cells sample-number (above_zero x h)
+    pub sample_space : (x ≡ 0 → ⊥) → cells ≡ space_after s cells
+    sample_space h = refused_cells (witness_check_of s (length cells)) x (witness (decode s)) cells sample_number (above_zero x h)
 
     module _ (h : x ≡ 0) where
-      pub found-answer : (e : Emptiness) → emptinessAnswer e ≡ gives (shape_of (witness (decode s))) → emptinessAnswer e ≡ emptinessOf s (length cells)
-      found-answer e ee = ee ∙ given-answer (witnessCheckOf s (length cells)) (shape_of (witness (decode s))) (sym sample-number ∙ h)
+      pub found_answer : (e : Emptiness) → emptiness_answer e ≡ gives (shape_of (witness (decode s))) → emptiness_answer e ≡ emptiness_of s (length cells)
+      found_answer e ee = ee ∙ given_answer (witness_check_of s (length cells)) (shape_of (witness (decode s))) (sym sample_number ∙ h)
 
-      pub found-space : (cells' : List ℕ) → cells' ≡ space_of 0 (witness (decode s)) cells → cells' ≡ spaceAfter s cells
-      found-space cells' ec = ec ∙ ap (λ k. space_of k (witness (decode s)) cells) (sym h ∙ sample-number)
+      pub found_space : (cells' : List ℕ) → cells' ≡ space_of 0 (witness (decode s)) cells → cells' ≡ space_after s cells
+      found_space cells' ec = ec ∙ ap (λ k. space_of k (witness (decode s)) cells) (sym h ∙ sample_number)
 
       -- space for as many rows as states
-      pub roomy : (q : ℕ) → q ≡ length (decode s).states → q * rowCells ≤ length cells
-      unfolding sampleCheckOf
+      pub roomy : (q : ℕ) → q ≡ length (decode s).states → q * row_cells ≤ length cells
+      unfolding sample_check_of
       roomy q eq =
-          let l = leb-true (length (decode s).states) (length cells / rowCells) (passed (leb (length (decode s).states) (length cells / rowCells)) 42 (demand (apart? (decode s)) 41 0) (omega arith) (sym ex ∙ h)).0 in
+          let l = leb-true (length (decode s).states) (length cells / row_cells) (passed (leb (length (decode s).states) (length cells / row_cells)) 42 (demand (apart? (decode s)) 41 0) (omega arith) (sym ex ∙ h)).0 in
           omega arith
 
-pub ruleset outcome = (passed-zero, set-answer, set-space, sample-answer, sample-space, found-answer, found-space, roomy, rules)
+pub ruleset outcome = (passed_zero, set_answer, set_space, sample_answer, sample_space, found_answer, found_space, roomy, rules)

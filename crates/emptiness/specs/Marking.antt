@@ -1,13 +1,13 @@
 -- Marking with numbers: a state's mark is 0, or 1 more than the rule that marks it (document 01, section "Joining, demanding both, and the sample"). Assumes nothing.
 use Rattle.std.specs.Prelude.{◌≡◌, List, Bool, true, false, ◌||◌, not, ℕ, zero, suc, ◌<◌, ◌≤◌, T, eqb, length, get_or}
 use Rattle.std.proofs.Math.Option.{Option, none, some}
-use Rattle.model.specs.Limits.{maxStates, unused}
+use Rattle.model.specs.Limits.{max_states, unused}
 use Rattle.model.specs.Lists.{all_below}
 use Rattle.model.specs.Tree.{Tree, node, forest, levels}
 use Rattle.model.specs.Automaton.{Rule, Automaton, final?}
 use Rattle.model.specs.Order.{place}
-use Rattle.model.specs.Written.{ruleAt}
-use Rattle.model.specs.Witness.{treesIn, rounds, witness}
+use Rattle.model.specs.Written.{rule_at}
+use Rattle.model.specs.Witness.{trees_in, rounds, witness}
 use Rattle.emptiness.specs.declared.marking.Marking.{Marking}
 use Rattle.emptiness.specs.Places.{named?}
 
@@ -16,23 +16,23 @@ unfoldable pub marked? : List ℕ → ℕ → Bool
 marked? marks q = not (eqb (get_or marks q 0) 0)
 
 -- child k of a rule is marked
-unfoldable pub childMarked? : List ℕ → Rule → ℕ → Bool
-childMarked? marks r k = marked? marks (place r k)
+unfoldable pub child_marked? : List ℕ → Rule → ℕ → Bool
+child_marked? marks r k = marked? marks (place r k)
 
 -- all child states of a rule are marked
 abbrev pub ready? : List ℕ → Rule → Bool
-ready? marks r = all_below (length r.children) (childMarked? marks r)
+ready? marks r = all_below (length r.children) (child_marked? marks r)
 
 -- rule i leads to state q from states that are marked
 pub record Ready (A : Automaton) (marks : List ℕ) (q i : ℕ) : Type 0 where
   pub known : i < length A.rules
-  pub target : (ruleAt A i).target ≡ q
-  pub ready : ready? marks (ruleAt A i) ≡ true
+  pub target : (rule_at A i).target ≡ q
+  pub ready : ready? marks (rule_at A i) ≡ true
 
 -- A round in which the rules of `done` were tried: `next` has the marks of before it, and for each state that these lead to the first of them; the first n of `added` are the states that it marks.
 pub record Tried (A : Automaton) (marks : List ℕ) (done : ℕ → Bool) (next added : List ℕ) (n : ℕ) : Type 0 where
-  pub long : length next ≡ maxStates
-  pub room : length added ≡ maxStates
+  pub long : length next ≡ max_states
+  pub room : length added ≡ max_states
   pub keeps : (q : ℕ) → (get_or marks q 0 ≡ 0 → ⊥) → get_or next q 0 ≡ get_or marks q 0
   pub by : (q i : ℕ) → get_or marks q 0 ≡ 0 → get_or next q 0 ≡ suc i → Ready A marks q i
   pub first : (q i : ℕ) → Ready A marks q i → T (done i) → get_or marks q 0 ≡ 0 → (get_or next q 0 ≡ 0 → ⊥) × (get_or next q 0 ≤ suc i)
@@ -60,7 +60,7 @@ propagated? A states (suc x) j = propagated? A states x j || named? A (get_or st
 
 -- the rules that name the first n of the states were tried, from the marks as they were
 pub record Propagated (A : Automaton) (marks states : List ℕ) (n : ℕ) (next added : List ℕ) (m : ℕ) : Type 0 where
-  pub gives : length marks ≡ maxStates → ((x : ℕ) → x < n → get_or states x 0 < maxStates) → Tried A marks (propagated? A states n) next added m
+  pub gives : length marks ≡ max_states → ((x : ℕ) → x < n → get_or states x 0 < max_states) → Tried A marks (propagated? A states n) next added m
 
 -- q is the lowest final state of the first n of `added`, or 65535
 pub record LowestAdded (A : Automaton) (added : List ℕ) (n q : ℕ) : Type 0 where
@@ -72,8 +72,8 @@ pub record LowestAdded (A : Automaton) (added : List ℕ) (n q : ℕ) : Type 0 w
 pub record MadeBy (A : Automaton) (n : ℕ) (o : Option Tree) (i : ℕ) : Type 0 where
   pub known : i < length A.rules
   pub under : List Tree
-  pub marked : treesIn (rounds A n) (ruleAt A i).children ≡ some under
-  pub is : o ≡ some (node (ruleAt A i).symbol 0 0 (forest under))
+  pub marked : trees_in (rounds A n) (rule_at A i).children ≡ some under
+  pub is : o ≡ some (node (rule_at A i).symbol 0 0 (forest under))
 
 -- what a state's mark says of its tree
 abbrev pub Made : Automaton → ℕ → Option Tree → ℕ → Type 0
@@ -82,17 +82,17 @@ Made A n o (suc i) = MadeBy A n o i
 
 -- The marks are those after n rounds.
 pub record Marked (A : Automaton) (n : ℕ) (marks : List ℕ) : Type 0 where
-  pub long : length marks ≡ maxStates
+  pub long : length marks ≡ max_states
   pub each : (q : ℕ) → q < length A.states → Made A n (get_or (rounds A n) q none) (get_or marks q 0)
 
 -- The state that the witness is the tree of, the round that marks it, and the marks after that round.
 pub record Chosen (A : Automaton) (q n : ℕ) (marks : List ℕ) : Type 0 where
   pub tree : Tree
-  pub witness-is : witness A ≡ some tree
+  pub witness_is : witness A ≡ some tree
   pub state : q < length A.states
-  pub tree-of : get_or (rounds A n) q none ≡ some tree
+  pub tree_of : get_or (rounds A n) q none ≡ some tree
   pub height : levels tree ≡ n
-  pub marks-are : Marked A n marks
+  pub marks_are : Marked A n marks
 
 -- What marking finds: no state where there is no witness.
 pub record Marks (A : Automaton) (m : Marking) : Type 0 where

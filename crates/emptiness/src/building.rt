@@ -1,11 +1,11 @@
 // The witness's rows: each state's tree is added once, its children's before it, from left to right.
 ghost use Rattle.std.specs.Prelude.{◌≡◌, ◌+◌, ◌<◌, get_or};
-ghost use Rattle.model.specs.Limits.{maxChildren, maxRows, unused};
+ghost use Rattle.model.specs.Limits.{max_children, max_rows, unused};
 ghost use Rattle.model.specs.Lists.{tab};
-ghost use Rattle.model.specs.Written.{ruleAt};
+ghost use Rattle.model.specs.Written.{rule_at};
 ghost use Rattle.automaton.specs.Stored.{decode};
-ghost use Rattle.document.specs.Fields.{numbersOf, fieldsRow};
-ghost use Rattle.emptiness.specs.Building.{memoPlace, ruleRow, noted, RowPut, Builds};
+ghost use Rattle.document.specs.Fields.{numbers_of, fields_row};
+ghost use Rattle.emptiness.specs.Building.{memo_place, rule_row, noted, RowPut, Builds};
 
 use crate::marking::mark_of;
 use crate::places::STATES;
@@ -40,21 +40,21 @@ fn remember(memo: &mut [u16; STATES], q: State, row: Row)
 }
 
 fn one_more(n: u16) -> u16
-    requires { n < maxRows }
+    requires { n < max_rows }
     ensures { result ≡ n + 1 }
 {
     n + 1
 }
 
 fn place_of(set: &[u8], memo: &[u16], i: u16, k: u16) -> Row
-    ensures { result.0 ≡ memoPlace memo.now (ruleAt (decode set.now) i) k }
+    ensures { result.0 ≡ memo_place memo.now (rule_at (decode set.now) i) k }
 {
     row_of(memo, rule_child(set, i, k))
 }
 
 // The rows of rule i's child states.
 fn places_of(set: &[u8], memo: &[u16], i: u16) -> [Row; PLACES]
-    ensures { numbersOf result ≡ tab maxChildren (memoPlace memo.now (ruleAt (decode set.now) i)) }
+    ensures { numbers_of result ≡ tab max_children (memo_place memo.now (rule_at (decode set.now) i)) }
 {
     [
         place_of(set, memo, i, 0),
@@ -66,7 +66,7 @@ fn places_of(set: &[u8], memo: &[u16], i: u16) -> [Row; PLACES]
 
 // The row of rule i over the rows of its child states.
 fn fields_of(set: &[u8], memo: &[u16], i: u16) -> RowFields
-    ensures { fieldsRow result ≡ ruleRow memo.now (ruleAt (decode set.now) i) }
+    ensures { fields_row result ≡ rule_row memo.now (rule_at (decode set.now) i) }
 {
     let places = places_of(set, memo, i);
     RowFields {
@@ -87,7 +87,7 @@ fn put(
     i: u16,
     q: State,
 ) -> u16
-    ensures { RowPut (ruleAt (decode set.now) i) limit q.0 rows.old slots.old memo.old n rows.new slots.new memo.new result }
+    ensures { RowPut (rule_at (decode set.now) i) limit q.0 rows.old slots.old memo.old n rows.new slots.new memo.new result }
 {
     let f = fields_of(set, &*memo, i);
     match find_or_add(rows, slots, n, limit, f) {

@@ -8,9 +8,9 @@ ghost use Rattle.std.specs.Prelude.{◌≡◌, ◌*◌, ◌≤◌, length};
 ghost use Rattle.model.specs.Refusal.{gives};
 ghost use Rattle.model.specs.Witness.{witness as witnessOf};
 ghost use Rattle.automaton.specs.Stored.{decode};
-ghost use Rattle.automaton.specs.Check.{checkOf};
-ghost use Rattle.document.specs.Rows.{rowCells};
-ghost use Rattle.emptiness.specs.Answer.{sampleCheckOf, emptinessAnswer, shape_of, space_of, emptinessOf, spaceAfter};
+ghost use Rattle.automaton.specs.Check.{check_of};
+ghost use Rattle.document.specs.Rows.{row_cells};
+ghost use Rattle.emptiness.specs.Answer.{sample_check_of, emptiness_answer, shape_of, space_of, emptiness_of, space_after};
 
 use automaton::Checked;
 use base::limits::UNUSED;
@@ -32,8 +32,8 @@ pub enum Emptiness {
 
 // 42, then 41, or 0.
 fn sample_check(set: &[u8], states: u16, space: usize) -> u16
-    requires { (checkOf set.now ≡ 0) × (states ≡ length (decode set.now).states) }
-    ensures { result ≡ sampleCheckOf (decode set.now) space }
+    requires { (check_of set.now ≡ 0) × (states ≡ length (decode set.now).states) }
+    ensures { result ≡ sample_check_of (decode set.now) space }
 {
     if space / ROW_CELLS < size(states) {
         return 42;
@@ -46,8 +46,8 @@ fn sample_check(set: &[u8], states: u16, space: usize) -> u16
 
 // Dead, or live with the rows written to the front of the space.
 fn find(set: &[u8], states: u16, rules: u16, rows: &mut [u16]) -> Emptiness
-    requires { (checkOf set.now ≡ 0) × (states ≡ length (decode set.now).states) × (rules ≡ length (decode set.now).rules) × (states * rowCells ≤ length rows.old) }
-    ensures result_value { emptinessAnswer result ≡ gives (shape_of (witnessOf (decode set.now))) }
+    requires { (check_of set.now ≡ 0) × (states ≡ length (decode set.now).states) × (rules ≡ length (decode set.now).rules) × (states * row_cells ≤ length rows.old) }
+    ensures result_value { emptiness_answer result ≡ gives (shape_of (witnessOf (decode set.now))) }
     ensures space { rows.new ≡ space_of 0 (witnessOf (decode set.now)) rows.old }
 {
     let m = mark(set, states, rules);
@@ -67,8 +67,8 @@ fn find(set: &[u8], states: u16, rules: u16, rows: &mut [u16]) -> Emptiness
 
 // Whether a set lets in no document, or the lowest that it lets in, as rows at the front of the space.
 pub fn witness(set: &[u8], rows: &mut [u16]) -> Emptiness
-    ensures result_value { emptinessAnswer result ≡ emptinessOf set.now (length rows.old) }
-    ensures space { rows.new ≡ spaceAfter set.now rows.old }
+    ensures result_value { emptiness_answer result ≡ emptiness_of set.now (length rows.old) }
+    ensures space { rows.new ≡ space_after set.now rows.old }
 {
     match automaton::check(set) {
         Checked::Passed => {

@@ -1,9 +1,9 @@
 // Marking in rounds, from lists of the rules by child state: a round tries the rules that name a state of the round before.
 ghost use Rattle.std.specs.Prelude.{◌≡◌, map, ◌<◌, length, get_or, replicate};
-ghost use Rattle.model.specs.Limits.{maxChildren, maxStates};
-ghost use Rattle.model.specs.Written.{ruleAt};
+ghost use Rattle.model.specs.Limits.{max_children, max_states};
+ghost use Rattle.model.specs.Written.{rule_at};
 ghost use Rattle.automaton.specs.Stored.{decode};
-ghost use Rattle.automaton.specs.Check.{checkOf};
+ghost use Rattle.automaton.specs.Check.{check_of};
 ghost use Rattle.emptiness.specs.Places.{places_of, named?, Linked};
 ghost use Rattle.emptiness.specs.Marking.{marked?, ready?, this?, early?, Tried, Tries, Propagated, LowestAdded, Marks};
 
@@ -61,7 +61,7 @@ fn is_marked(marks: &[u16], q: State) -> bool
 
 // The child in place k is marked.
 fn child_marked(marks: &[u16], places: [State; PLACES], k: u16) -> bool
-    requires { k < maxChildren }
+    requires { k < max_children }
     ensures { result ≡ marked? marks.now (get_or (map (λ q. q.0) places) k 0) }
 {
     let at = size(k);
@@ -70,8 +70,8 @@ fn child_marked(marks: &[u16], places: [State; PLACES], k: u16) -> bool
 
 // All child states of rule i are marked.
 fn ready(set: &[u8], marks: &[u16], i: u16) -> bool
-    requires { (checkOf set.now ≡ 0) × (i < length (decode set.now).rules) }
-    ensures { result ≡ ready? marks.now (ruleAt (decode set.now) i) }
+    requires { (check_of set.now ≡ 0) × (i < length (decode set.now).rules) }
+    ensures { result ≡ ready? marks.now (rule_at (decode set.now) i) }
 {
     let r = rule(set, i);
     let places = r.places;
@@ -96,7 +96,7 @@ fn try_rule(
     n: u16,
     i: u16,
 ) -> u16
-    requires { (checkOf set.now ≡ 0) × (i < length (decode set.now).rules) }
+    requires { (check_of set.now ≡ 0) × (i < length (decode set.now).rules) }
     ensures { Tries (decode set.now) marks.now (this? i) next.old added.old n next.new added.new result }
 {
     let q = rule_target(set, i);
@@ -136,8 +136,8 @@ fn propagate(
     before: &[u16],
     q: State,
 ) -> u16
-    requires { (checkOf set.now ≡ 0) × Linked (decode set.now) (places_of (decode set.now)) last.now before.now }
-    ensures { q.0 < maxStates → Tries (decode set.now) marks.now (named? (decode set.now) q.0 0) next.old added.old n next.new added.new result }
+    requires { (check_of set.now ≡ 0) × Linked (decode set.now) (places_of (decode set.now)) last.now before.now }
+    ensures { q.0 < max_states → Tries (decode set.now) marks.now (named? (decode set.now) q.0 0) next.old added.old n next.new added.new result }
 {
     if q.0 >= MAX_STATES {
         return n;
@@ -154,8 +154,8 @@ fn propagate(
 
 // The first round tries every rule.
 fn first_round(set: &[u8], rules: u16) -> After
-    requires { (checkOf set.now ≡ 0) × (rules ≡ length (decode set.now).rules) }
-    ensures { Tried (decode set.now) (replicate maxStates 0) (early? (length (decode set.now).rules)) result.marks result.added result.count }
+    requires { (check_of set.now ≡ 0) × (rules ≡ length (decode set.now).rules) }
+    ensures { Tried (decode set.now) (replicate max_states 0) (early? (length (decode set.now).rules)) result.marks result.added result.count }
 {
     let marks = [0u16; STATES];
     let mut next = [0u16; STATES];
@@ -182,7 +182,7 @@ fn round(
     last: &[u16],
     before: &[u16],
 ) -> After
-    requires { (checkOf set.now ≡ 0) × Linked (decode set.now) (places_of (decode set.now)) last.now before.now }
+    requires { (check_of set.now ≡ 0) × Linked (decode set.now) (places_of (decode set.now)) last.now before.now }
     ensures { Propagated (decode set.now) marks states n result.marks result.added result.count }
 {
     let mut next = marks;
@@ -203,7 +203,7 @@ fn round(
 
 // The lowest final state of the n added ones, or UNUSED.
 fn lowest_final(set: &[u8], added: &[u16], n: u16) -> State
-    requires { checkOf set.now ≡ 0 }
+    requires { check_of set.now ≡ 0 }
     ensures { LowestAdded (decode set.now) added.now n result.0 }
 {
     let mut best = State(UNUSED);
@@ -220,7 +220,7 @@ fn lowest_final(set: &[u8], added: &[u16], n: u16) -> State
 
 // Rounds, until one marks a final state or adds nothing.
 pub(crate) fn mark(set: &[u8], states: u16, rules: u16) -> Marking
-    requires { (checkOf set.now ≡ 0) × (states ≡ length (decode set.now).states) × (rules ≡ length (decode set.now).rules) }
+    requires { (check_of set.now ≡ 0) × (states ≡ length (decode set.now).states) × (rules ≡ length (decode set.now).rules) }
     ensures { Marks (decode set.now) result }
 {
     let mut last = [0u16; STATES];

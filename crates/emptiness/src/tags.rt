@@ -3,7 +3,7 @@ ghost use Rattle.std.specs.Prelude.{◌≡◌, eqb, length};
 ghost use Rattle.std.specs.Int.Bits.{bit_and, bit_or};
 ghost use Rattle.model.specs.Witness.{apart?};
 ghost use Rattle.automaton.specs.Stored.{decode};
-ghost use Rattle.automaton.specs.Check.{checkOf};
+ghost use Rattle.automaton.specs.Check.{check_of};
 
 use automaton::{State, tags_of};
 
@@ -21,7 +21,7 @@ fn both(a: u16, b: u16) -> u16
 
 // No two states share a tag.
 pub(crate) fn all_apart(set: &[u8], states: u16) -> bool
-    requires { (checkOf set.now ≡ 0) × (states ≡ length (decode set.now).states) }
+    requires { (check_of set.now ≡ 0) × (states ≡ length (decode set.now).states) }
     ensures { result ≡ apart? (decode set.now) }
 {
     let mut seen = 0;

@@ -12,8 +12,8 @@ use lib.Seq.{drop-cons}
 use Rattle.model.specs.Lists.{any}
 use Rattle.json.specs.Seen.{entries}
 
-pub entries-cons : (p : List ℕ) (i hi : ℕ) → i < hi → hi ≤ length p → entries p i hi ≡ get_or p i 0 ∷ entries p (i + 1) hi
-entries-cons p i hi l m =
+pub entries_cons : (p : List ℕ) (i hi : ℕ) → i < hi → hi ≤ length p → entries p i hi ≡ get_or p i 0 ∷ entries p (i + 1) hi
+entries_cons p i hi l m =
     let e : hi - i ≡ suc (hi - (i + 1)) = omega (arith, l) in
     (λ k. take (e k) ((drop-cons p i 0 (omega (arith, l, m)) ∙ ap (λ n. get_or p i 0 ∷ drop n p) (sym (add-one i))) k))
 
@@ -31,13 +31,13 @@ passed_none entry p lo hi = record { rest = refl }
 module _ (entry : ℕ) (p : List ℕ) (lo i hi : ℕ) (v : Passed entry p lo i hi) where
   module _ (l : i < hi) (m : hi ≤ length p) where
     turn : (b : Bool) → eqb entry (get_or p i 0) ≡ b → any (eqb entry) (entries p lo hi) ≡ (b || any (eqb entry) (entries p (i + 1) hi))
-    turn b e = v.rest ∙ ap (any (eqb entry)) (entries-cons p i hi l m) ∙ ap (λ c. c || any (eqb entry) (entries p (i + 1) hi)) e
+    turn b e = v.rest ∙ ap (any (eqb entry)) (entries_cons p i hi l m) ∙ ap (λ c. c || any (eqb entry) (entries p (i + 1) hi)) e
 
     pub passed_here : get_or p i 0 ≡ entry → true ≡ any (eqb entry) (entries p lo hi)
     passed_here e = sym (turn true (eq-eqb entry (get_or p i 0) (sym e)))
 
-    pub passed-more : (get_or p i 0 ≡ entry → ⊥) → Passed entry p lo (i + 1) hi
-    passed-more n = record { rest = turn false (ne_eqb entry (get_or p i 0) (λ e. n (sym e))) }
+    pub passed_more : (get_or p i 0 ≡ entry → ⊥) → Passed entry p lo (i + 1) hi
+    passed_more n = record { rest = turn false (ne_eqb entry (get_or p i 0) (λ e. n (sym e))) }
 
-  pub passed-all : hi ≤ i → false ≡ any (eqb entry) (entries p lo hi)
-  passed-all l = sym (v.rest ∙ ap (any (eqb entry)) (entries_none p i hi l))
+  pub passed_all : hi ≤ i → false ≡ any (eqb entry) (entries p lo hi)
+  passed_all l = sym (v.rest ∙ ap (any (eqb entry)) (entries_none p i hi l))

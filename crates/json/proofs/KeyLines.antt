@@ -9,22 +9,22 @@ use lib.Dec.{leb}
 use lib.ListN.{length, get_or}
 use Rattle.model.specs.Lists.{any, eq_list}
 use Rattle.names.specs.Lines.{lines}
-use Rattle.names.proofs.Tests.{and-false}
-use Rattle.json.specs.Keys.{maxKeys, key?, apart?, keysFit?}
-use Rattle.json.proofs.Finding.{eq-eqList, eqList-eq}
+use Rattle.names.proofs.Tests.{and_false}
+use Rattle.json.specs.Keys.{max_keys, key?, apart?, keys_fit?}
+use Rattle.json.proofs.Finding.{eq_eq_list, eq_list_eq}
 
 none_equal : (l : List ℕ) (ls : List (List ℕ)) → ((k : ℕ) → k < length ls → l ≡ get_or ls k [] → ⊥) → any (eq_list l) ls ≡ false
 none_equal l [] h = refl
 none_equal l (x ∷ ls) h = go (eq_list l x) refl (none_equal l ls (λ k m. h (suc k) (omega (arith, m))))
   where
     go : (b : Bool) → eq_list l x ≡ b → any (eq_list l) ls ≡ false → (b || any (eq_list l) ls) ≡ false
-    go true e f = absurd (h 0 (omega arith) (eqList-eq l x e))
+    go true e f = absurd (h 0 (omega arith) (eq_list_eq l x e))
     go false e f = f
 
-one-equal : (l : List ℕ) (ls : List (List ℕ)) (k : ℕ) → k < length ls → l ≡ get_or ls k [] → any (eq_list l) ls ≡ true
-one-equal l [] k m e = let z : ⊥ = omega (arith, m) in absurd z
-one-equal l (x ∷ ls) zero m e = ap (λ b. b || any (eq_list l) ls) (eq-eqList l x e)
-one-equal l (x ∷ ls) (suc k) m e = go (eq_list l x) (one-equal l ls k (omega (arith, m)) e)
+one_equal : (l : List ℕ) (ls : List (List ℕ)) (k : ℕ) → k < length ls → l ≡ get_or ls k [] → any (eq_list l) ls ≡ true
+one_equal l [] k m e = let z : ⊥ = omega (arith, m) in absurd z
+one_equal l (x ∷ ls) zero m e = ap (λ b. b || any (eq_list l) ls) (eq_eq_list l x e)
+one_equal l (x ∷ ls) (suc k) m e = go (eq_list l x) (one_equal l ls k (omega (arith, m)) e)
   where
     go : (b : Bool) → any (eq_list l) ls ≡ true → (b || any (eq_list l) ls) ≡ true
     go true t = refl
@@ -45,27 +45,27 @@ no_key [] k m f = let z : ⊥ = omega (arith, m) in absurd z
 no_key (l ∷ ls) zero m f = ap (λ b. b && (not (any (eq_list l) ls) && apart? ls)) f
 no_key (l ∷ ls) (suc k) m f =
     ap (λ b. key? l && (not (any (eq_list l) ls) && b)) (no_key ls k (omega (arith, m)) f)
-    ∙ ap (λ b. key? l && b) (and-false (not (any (eq_list l) ls))) ∙ and-false (key? l)
+    ∙ ap (λ b. key? l && b) (and_false (not (any (eq_list l) ls))) ∙ and_false (key? l)
 
 pub twice : (ls : List (List ℕ)) (j k : ℕ) → j < k → k < length ls → get_or ls j [] ≡ get_or ls k [] → apart? ls ≡ false
 unfolding apart?
 twice [] j k h m e = let z : ⊥ = omega (arith, m) in absurd z
 twice (l ∷ ls) j zero h m e = let z : ⊥ = omega (arith, h) in absurd z
 twice (l ∷ ls) zero (suc k) h m e =
-    ap (λ b. key? l && (not b && apart? ls)) (one-equal l ls k (omega (arith, m)) e) ∙ and-false (key? l)
+    ap (λ b. key? l && (not b && apart? ls)) (one_equal l ls k (omega (arith, m)) e) ∙ and_false (key? l)
 twice (l ∷ ls) (suc j) (suc k) h m e =
     ap (λ b. key? l && (not (any (eq_list l) ls) && b)) (twice ls j k (omega (arith, h)) (omega (arith, m)) e)
-    ∙ ap (λ b. key? l && b) (and-false (not (any (eq_list l) ls))) ∙ and-false (key? l)
+    ∙ ap (λ b. key? l && b) (and_false (not (any (eq_list l) ls))) ∙ and_false (key? l)
 
 module _ (list : List ℕ) where
-  pub lines_fit : length (lines list) ≤ maxKeys → apart? (lines list) ≡ true → keysFit? list ≡ true
-  unfolding keysFit?
-  lines_fit l e = (λ i. le-leb (length (lines list)) maxKeys l i && e i)
+  pub lines_fit : length (lines list) ≤ max_keys → apart? (lines list) ≡ true → keys_fit? list ≡ true
+  unfolding keys_fit?
+  lines_fit l e = (λ i. le-leb (length (lines list)) max_keys l i && e i)
 
-  pub many-lines : maxKeys < length (lines list) → keysFit? list ≡ false
-  unfolding keysFit?
-  many-lines l = ap (λ b. b && apart? (lines list)) (lt-leb (length (lines list)) maxKeys l)
+  pub many_lines : max_keys < length (lines list) → keys_fit? list ≡ false
+  unfolding keys_fit?
+  many_lines l = ap (λ b. b && apart? (lines list)) (lt-leb (length (lines list)) max_keys l)
 
-  pub lines-unfit : apart? (lines list) ≡ false → keysFit? list ≡ false
-  unfolding keysFit?
-  lines-unfit e = ap (λ b. leb (length (lines list)) maxKeys && b) e ∙ and-false (leb (length (lines list)) maxKeys)
+  pub lines_unfit : apart? (lines list) ≡ false → keys_fit? list ≡ false
+  unfolding keys_fit?
+  lines_unfit e = ap (λ b. leb (length (lines list)) max_keys && b) e ∙ and_false (leb (length (lines list)) max_keys)

@@ -7,19 +7,19 @@ use borrow.Author.Tests.{eq-eqb, ne_eqb}
 use lib.Dec.{eqb}
 use lib.ListN.{get_or, set}
 use Rattle.document.specs.Fields.{as_row}
-use Rattle.json.specs.Signature.{keySymbol}
-use Rattle.json.specs.Seen.{firstListed, listedPart, listedEntry, listedFlags}
+use Rattle.json.specs.Signature.{key_symbol}
+use Rattle.json.specs.Seen.{first_listed, listed_part, listed_entry, listed_flags}
 use Rattle.json.specs.declared.members.KeyPart.{KeyPart}
 use Rattle.json.specs.declared.members.KeyPart.TheVariants.{Key, NoKey}
 
 -- a listed key that stood before, and one that did not, by its flag at place i
 module _ (k at next used texts level : ℕ) (pending flags : List ℕ) (i : ℕ) (is : i ≡ k) where
-  pub listed-again : get_or flags i 0 ≡ 1 → (NoKey 72 at ≡ listedPart (eqb (get_or flags k 0) 1) k at next used texts) × (pending ≡ listedEntry (eqb (get_or flags k 0) 1) pending level k) × (flags ≡ listedFlags (eqb (get_or flags k 0) 1) flags k)
-  listed-again e =
+  pub listed_again : get_or flags i 0 ≡ 1 → (NoKey 72 at ≡ listed_part (eqb (get_or flags k 0) 1) k at next used texts) × (pending ≡ listed_entry (eqb (get_or flags k 0) 1) pending level k) × (flags ≡ listed_flags (eqb (get_or flags k 0) 1) flags k)
+  listed_again e =
       let q : true ≡ eqb (get_or flags k 0) 1 = sym (eq-eqb _ 1 (ap (λ j. get_or flags j 0) (sym is) ∙ e)) in
-      (ap (λ c. listedPart c k at next used texts) q, ap (λ c. listedEntry c pending level k) q, ap (λ c. listedFlags c flags k) q)
+      (ap (λ c. listed_part c k at next used texts) q, ap (λ c. listed_entry c pending level k) q, ap (λ c. listed_flags c flags k) q)
 
-  pub listed-first : (get_or flags i 0 ≡ 1 → ⊥) → (Key (keySymbol k) (as_row 0) next used texts ≡ listedPart (eqb (get_or flags k 0) 1) k at next used texts) × (set pending level (firstListed + k) ≡ listedEntry (eqb (get_or flags k 0) 1) pending level k) × (set flags i 1 ≡ listedFlags (eqb (get_or flags k 0) 1) flags k)
-  listed-first n =
+  pub listed_first : (get_or flags i 0 ≡ 1 → ⊥) → (Key (key_symbol k) (as_row 0) next used texts ≡ listed_part (eqb (get_or flags k 0) 1) k at next used texts) × (set pending level (first_listed + k) ≡ listed_entry (eqb (get_or flags k 0) 1) pending level k) × (set flags i 1 ≡ listed_flags (eqb (get_or flags k 0) 1) flags k)
+  listed_first n =
       let q : false ≡ eqb (get_or flags k 0) 1 = sym (ne_eqb _ 1 (λ e. n (ap (λ j. get_or flags j 0) is ∙ e))) in
-      (ap (λ c. listedPart c k at next used texts) q, ap (λ c. listedEntry c pending level k) q, ap (λ j. set flags j 1) is ∙ ap (λ c. listedFlags c flags k) q)
+      (ap (λ c. listed_part c k at next used texts) q, ap (λ c. listed_entry c pending level k) q, ap (λ j. set flags j 1) is ∙ ap (λ c. listed_flags c flags k) q)

@@ -14,17 +14,17 @@ use borrow.Author.Tests.{eqb-true}
 use lib.Dec.{eqb}
 use lib.ListN.{length}
 use Rattle.model.specs.Table.{Row, Lower}
-use Rattle.model.specs.Build.{findRow}
-use Rattle.model.proofs.Build.{Found, find-ok}
-use Rattle.model.proofs.Tab.{length-tab}
-use Rattle.document.specs.Rows.{row_in, rowsBelow}
+use Rattle.model.specs.Build.{find_row}
+use Rattle.model.proofs.Build.{Found, find_ok}
+use Rattle.model.proofs.Tab.{length_tab}
+use Rattle.document.specs.Rows.{row_in, rows_below}
 use Rattle.json.specs.Signature.{other}
-use Rattle.json.specs.Grammar.{nodeRow}
-use Rattle.json.specs.State.{keyRows}
+use Rattle.json.specs.Grammar.{node_row}
+use Rattle.json.specs.State.{key_rows}
 
 -- no row below has the last one as a child
-pub over_last : (rows : List Row) → Lower rows → (r : Row) (j : ℕ) → In j r.children → j + 1 ≡ length rows → findRow r rows ≡ none
-over_last rows lower r j m e = go (findRow r rows) (find-ok r rows)
+pub over_last : (rows : List Row) → Lower rows → (r : Row) (j : ℕ) → In j r.children → j + 1 ≡ length rows → find_row r rows ≡ none
+over_last rows lower r j m e = go (find_row r rows) (find_ok r rows)
   where
     go : (o : Option ℕ) → Found r rows o → o ≡ none
     go none h = refl
@@ -42,8 +42,8 @@ module _ (used : ℕ) where
   below_none : Below []
   below_none j m = absurd (not-nil m)
 
-  pub node-below : (symbol : ℕ) {key value rest : ℕ} → (symbol ≡ other → key < used) → value < used → rest < used → (j : ℕ) → In j ((keyRows symbol key ++ value ∷ []) ++ rest ∷ []) → j < used
-  node-below symbol {key} {value} {rest} own v r = go (eqb symbol other) refl
+  pub node_below : (symbol : ℕ) {key value rest : ℕ} → (symbol ≡ other → key < used) → value < used → rest < used → (j : ℕ) → In j ((key_rows symbol key ++ value ∷ []) ++ rest ∷ []) → j < used
+  node_below symbol {key} {value} {rest} own v r = go (eqb symbol other) refl
     where
       go : (b : Bool) → eqb symbol other ≡ b → Below ((cond b (key ∷ []) [] ++ value ∷ []) ++ rest ∷ [])
       go true e = below_more (own (eqb-true symbol other e)) (below_more v (below_more r below_none))
@@ -55,12 +55,12 @@ module _ (used : ℕ) where
 value_in : (js : List ℕ) (value rest : ℕ) → In value ((js ++ value ∷ []) ++ rest ∷ [])
 value_in js value rest = Memᴰ.append_left (rest ∷ []) (Memᴰ.append_right js (here refl))
 
-pub node-new : (cells : List ℕ) (used : ℕ) → Lower (rowsBelow cells used) → (symbol key value rest : ℕ) → (eqb (value + 1) used || eqb (rest + 1) used) ≡ true → findRow (nodeRow symbol ((keyRows symbol key ++ value ∷ []) ++ rest ∷ [])) (rowsBelow cells used) ≡ none
-node-new cells used lower symbol key value rest e = go (eqb (value + 1) used) refl e
+pub node_new : (cells : List ℕ) (used : ℕ) → Lower (rows_below cells used) → (symbol key value rest : ℕ) → (eqb (value + 1) used || eqb (rest + 1) used) ≡ true → find_row (node_row symbol ((key_rows symbol key ++ value ∷ []) ++ rest ∷ [])) (rows_below cells used) ≡ none
+node_new cells used lower symbol key value rest e = go (eqb (value + 1) used) refl e
   where
-    as_many : length (rowsBelow cells used) ≡ used
-    as_many = length-tab used (row_in cells)
+    as_many : length (rows_below cells used) ≡ used
+    as_many = length_tab used (row_in cells)
 
-    go : (b : Bool) → eqb (value + 1) used ≡ b → (b || eqb (rest + 1) used) ≡ true → findRow (nodeRow symbol ((keyRows symbol key ++ value ∷ []) ++ rest ∷ [])) (rowsBelow cells used) ≡ none
-    go true f g = over_last (rowsBelow cells used) lower _ value (value_in (keyRows symbol key) value rest) (eqb-true (value + 1) used f ∙ sym as_many)
-    go false f g = over_last (rowsBelow cells used) lower _ rest (Memᴰ.append_right (keyRows symbol key ++ value ∷ []) (here refl)) (eqb-true (rest + 1) used g ∙ sym as_many)
+    go : (b : Bool) → eqb (value + 1) used ≡ b → (b || eqb (rest + 1) used) ≡ true → find_row (node_row symbol ((key_rows symbol key ++ value ∷ []) ++ rest ∷ [])) (rows_below cells used) ≡ none
+    go true f g = over_last (rows_below cells used) lower _ value (value_in (key_rows symbol key) value rest) (eqb-true (value + 1) used f ∙ sym as_many)
+    go false f g = over_last (rows_below cells used) lower _ rest (Memᴰ.append_right (key_rows symbol key ++ value ∷ []) (here refl)) (eqb-true (rest + 1) used g ∙ sym as_many)

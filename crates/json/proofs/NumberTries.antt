@@ -5,22 +5,22 @@ use mathlib.Core.Option.{Option, none, some}
 use Prim.Native.Nat.{ℕ}
 use Prim.Native.String.{String}
 use Rattle.base.specs.Text.{Got, got, fault}
-use Rattle.document.specs.Scalars.{kind_of, payloadOf}
+use Rattle.document.specs.Scalars.{kind_of, payload_of}
 use Rattle.document.specs.declared.scalar.Scalar.{Scalar}
-use Rattle.jsontext.specs.Number.{number_at, asScalar}
+use Rattle.jsontext.specs.Number.{number_at, as_scalar}
 use Rattle.json.proofs.Computing.{bytes, within}
 
 -- the kind and the payload of a row with the number at the start of a text, none where it has no form (73), and the place after it
 abbrev cells : Option Scalar → Option (ℕ × ℕ)
 cells none = none
-cells (some k) = some (kind_of k, payloadOf k)
+cells (some k) = some (kind_of k, payload_of k)
 
-abbrev asCells : Got (Option Scalar) → Got (Option (ℕ × ℕ))
-asCells (got k n) = got (cells k) n
-asCells (fault p) = fault p
+abbrev as_cells : Got (Option Scalar) → Got (Option (ℕ × ℕ))
+as_cells (got k n) = got (cells k) n
+as_cells (fault p) = fault p
 
 abbrev read : List String → List (Got (Option (ℕ × ℕ)))
-read ss = map (λ s. asCells (asScalar (number_at (bytes s) 0))) ss
+read ss = map (λ s. as_cells (as_scalar (number_at (bytes s) 0))) ss
 
 -- whole numbers without sign, fraction or exponent: below 2^64 a count, of however many digits; a number is the longest one
 counts : read ("0" ∷ "7" ∷ "10]" ∷ "1x" ∷ "1-" ∷ "9999999999999999" ∷ "18446744073709551615" ∷ "18446744073709551616" ∷ "100000000000000000000" ∷ [])

@@ -24,6 +24,6 @@ module _ (texts : List (List ℕ)) (a b : List ℕ) (A : TextsNumbered texts a) 
       omega arith
 
   -- TWO NUMBERINGS OF THE SAME TEXTS ARE ONE.
-  pub numbered-once : a ≡ b
-  numbered-once =
+  pub numbered_once : a ≡ b
+  numbered_once =
       ext_get_or 0 a b (A.as_many ∙ sym B.as_many) (λ i l. below (length texts) i (omega (arith, A.as_many)) (omega (arith, A.as_many)))

@@ -6,11 +6,11 @@ use Prim.Native.Nat.{ℕ, ◌+◌}
 use Prim.Native.String.{String}
 use lib.Dec.{ltb}
 use lib.ListN.{length, replicate}
-use Rattle.model.specs.Lists.{concatMap, tab}
+use Rattle.model.specs.Lists.{concat_map, tab}
 use Rattle.base.specs.Text.{Got, got, fault}
-use Rattle.classes.proofs.Members.{bytesWith}
-use Rattle.jsontext.specs.Strings.{stringAt}
-use Rattle.jsontext.specs.Decoded.{isText}
+use Rattle.classes.proofs.Members.{bytes_with}
+use Rattle.jsontext.specs.Strings.{string_at}
+use Rattle.jsontext.specs.Decoded.{is_text}
 use Rattle.json.proofs.Computing.{bytes, within}
 
 -- n numbers from b on
@@ -19,7 +19,7 @@ from b n = tab n (λ k. b + k)
 
 -- the string between two quotes
 abbrev quoted : List ℕ → Got (List ℕ)
-quoted bs = stringAt (34 ∷ bs ++ 34 ∷ []) 0
+quoted bs = string_at (34 ∷ bs ++ 34 ∷ []) 0
 
 abbrev decoded : Got (List ℕ) → List (List ℕ)
 decoded (got bs n) = bs ∷ []
@@ -31,12 +31,12 @@ passes i (got bs n) = true
 passes i (fault p) = ltb i p
 
 -- a byte alone that stands for itself: 20 to 7F, but for the quote and the backslash
-alone : bytesWith (λ b. isText (quoted (b ∷ [])) (b ∷ [])) ≡ 32 ∷ 33 ∷ from 35 57 ++ from 93 35
+alone : bytes_with (λ b. is_text (quoted (b ∷ [])) (b ∷ [])) ≡ 32 ∷ 33 ∷ from 35 57 ++ from 93 35
 unfolding within
 alone = refl
 
 -- the letters of an escape, each with what it stands for: " / \ b f n r t
-escapes : concatMap {B = ℕ × List ℕ} (λ b. map (λ bs. (b, bs)) (decoded (quoted (92 ∷ b ∷ [])))) (from 0 256)
+escapes : concat_map {B = ℕ × List ℕ} (λ b. map (λ bs. (b, bs)) (decoded (quoted (92 ∷ b ∷ [])))) (from 0 256)
     ≡ (34, 34 ∷ []) ∷ (47, 47 ∷ []) ∷ (92, 92 ∷ []) ∷ (98, 8 ∷ []) ∷ (102, 12 ∷ []) ∷ (110, 10 ∷ []) ∷ (114, 13 ∷ []) ∷ (116, 9 ∷ []) ∷ []
 unfolding within
 escapes = refl
@@ -69,7 +69,7 @@ both_ways = (refl, refl)
 
 -- the bytes that may come after an opening quote and these, whatever follows
 abbrev after : List ℕ → List ℕ
-after bs = bytesWith (λ b. passes (length bs + 1) (stringAt (34 ∷ bs ++ b ∷ []) 0))
+after bs = bytes_with (λ b. passes (length bs + 1) (string_at (34 ∷ bs ++ b ∷ []) 0))
 
 -- table 3-7 of the Unicode standard by its edges: the bytes that lead a sequence, those that come second after each row's first and last, and those that come later
 rows : (after [] ≡ from 32 96 ++ from 194 51) × (map (λ b. after (b ∷ [])) (194 ∷ 223 ∷ 225 ∷ 236 ∷ 238 ∷ 239 ∷ 241 ∷ 243 ∷ []) ≡ replicate 8 (from 128 64))
@@ -79,11 +79,11 @@ unfolding within
 rows = (refl, refl, refl, refl)
 
 -- half a surrogate pair, at the first byte that cannot go on: the low half first, the high half before the end, another escape, or what is no low half
-halves : map (λ s. stringAt (34 ∷ bytes s) 0) ("\\uDC00\"" ∷ "\\udfff\"" ∷ "\\ud800\"" ∷ "\\uDBFF\"" ∷ "\\ud800x" ∷ "\\ud800\\n" ∷ "\\ud800\\u0041" ∷ "\\ud800\\uE000" ∷ "\\ud800\\ud7ff" ∷ "\\ud800\\udbff" ∷ "\\ud800\\uDC0" ∷ []) ≡ map fault (4 ∷ 4 ∷ 7 ∷ 7 ∷ 7 ∷ 8 ∷ 9 ∷ 9 ∷ 10 ∷ 10 ∷ 12 ∷ [])
+halves : map (λ s. string_at (34 ∷ bytes s) 0) ("\\uDC00\"" ∷ "\\udfff\"" ∷ "\\ud800\"" ∷ "\\uDBFF\"" ∷ "\\ud800x" ∷ "\\ud800\\n" ∷ "\\ud800\\u0041" ∷ "\\ud800\\uE000" ∷ "\\ud800\\ud7ff" ∷ "\\ud800\\udbff" ∷ "\\ud800\\uDC0" ∷ []) ≡ map fault (4 ∷ 4 ∷ 7 ∷ 7 ∷ 7 ∷ 8 ∷ 9 ∷ 9 ∷ 10 ∷ 10 ∷ 12 ∷ [])
 unfolding within
 halves = refl
 
 -- strings that break off, or have what no string may: no end, an escape of another letter, too few hex digits, a control byte
-broken : map (λ bs. stringAt (34 ∷ bs) 0) ([] ∷ bytes "a" ∷ bytes "\\" ∷ bytes "\\x" ∷ bytes "\\U0041\"" ∷ bytes "\\u004" ∷ bytes "\\u004g\"" ∷ bytes "\\u\"" ∷ (97 ∷ 31 ∷ 34 ∷ []) ∷ (10 ∷ 34 ∷ []) ∷ []) ≡ map fault (1 ∷ 2 ∷ 2 ∷ 2 ∷ 2 ∷ 6 ∷ 6 ∷ 3 ∷ 2 ∷ 1 ∷ [])
+broken : map (λ bs. string_at (34 ∷ bs) 0) ([] ∷ bytes "a" ∷ bytes "\\" ∷ bytes "\\x" ∷ bytes "\\U0041\"" ∷ bytes "\\u004" ∷ bytes "\\u004g\"" ∷ bytes "\\u\"" ∷ (97 ∷ 31 ∷ 34 ∷ []) ∷ (10 ∷ 34 ∷ []) ∷ []) ≡ map fault (1 ∷ 2 ∷ 2 ∷ 2 ∷ 2 ∷ 6 ∷ 6 ∷ 3 ∷ 2 ∷ 1 ∷ [])
 unfolding within
 broken = refl

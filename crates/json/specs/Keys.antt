@@ -5,15 +5,15 @@ use Rattle.model.specs.Lists.{any, eq_list}
 use Rattle.names.specs.Lines.{lines}
 
 -- the most keys, and the most bytes of one
-abbrev pub maxKeys : ℕ
-maxKeys = 56
+abbrev pub max_keys : ℕ
+max_keys = 56
 
-abbrev pub maxKey : ℕ
-maxKey = 64
+abbrev pub max_key : ℕ
+max_key = 64
 
 -- 1 to 64 bytes
 unfoldable pub key? : List ℕ → Bool
-key? l = leb 1 (length l) && leb (length l) maxKey
+key? l = leb 1 (length l) && leb (length l) max_key
 
 -- each is a key, and none stands again behind it
 unfoldable pub apart? : List (List ℕ) → Bool
@@ -21,10 +21,10 @@ apart? [] = true
 apart? (l ∷ ls) = key? l && (not (any (eq_list l) ls) && apart? ls)
 
 -- 74: at most 56 lines, each of 1 to 64 bytes, no two equal
-unfoldable pub keysFit? : List ℕ → Bool
-keysFit? list = leb (length (lines list)) maxKeys && apart? (lines list)
+unfoldable pub keys_fit? : List ℕ → Bool
+keys_fit? list = leb (length (lines list)) max_keys && apart? (lines list)
 
 -- the first of some texts that is these bytes
-unfoldable pub findText : List ℕ → List (List ℕ) → Option ℕ
-findText bs [] = none
-findText bs (x ∷ xs) = cond (eq_list bs x) (some 0) (map suc (findText bs xs))
+unfoldable pub find_text : List ℕ → List (List ℕ) → Option ℕ
+find_text bs [] = none
+find_text bs (x ∷ xs) = cond (eq_list bs x) (some 0) (map suc (find_text bs xs))

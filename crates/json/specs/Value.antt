@@ -3,12 +3,12 @@ use Rattle.std.specs.Prelude.{List, [], ◌∷◌, ◌++◌, Bool, true, false, 
 use Rattle.std.proofs.Math.Option.{Option, none, some}
 use Rattle.model.specs.Lists.{any, eq_list}
 use Rattle.model.specs.Tree.{Tree, node, forest}
-use Rattle.document.specs.Scalars.{kind_of, payloadOf}
+use Rattle.document.specs.Scalars.{kind_of, payload_of}
 use Rattle.document.specs.declared.scalar.Scalar.{Scalar}
 use Rattle.document.specs.declared.scalar.Scalar.TheVariants.{Bare, Flag, Name}
-use Rattle.jsontext.specs.Number.{Number, numberScalar}
-use Rattle.json.specs.Signature.{end, stop, other, item, nullLeaf, flagLeaf, numberLeaf, textLeaf, keySymbol}
-use Rattle.json.specs.Keys.{findText}
+use Rattle.jsontext.specs.Number.{Number, number_scalar}
+use Rattle.json.specs.Signature.{end, stop, other, item, null_leaf, flag_leaf, number_leaf, text_leaf, key_symbol}
+use Rattle.json.specs.Keys.{find_text}
 
 -- a value: the members of an object have decoded keys
 mutual
@@ -21,7 +21,7 @@ mutual
     object : Members → Value
 
   pub data Elements : Type 0 where
-    no-element : Elements
+    no_element : Elements
     element : Value → Elements → Elements
 
   pub data Members : Type 0 where
@@ -34,76 +34,76 @@ some? none = false
 some? (some a) = true
 
 -- the scalar of a number; bare for one that has no form
-abbrev pub scalarOr : Option Scalar → Scalar
-scalarOr none = Bare
-scalarOr (some s) = s
+abbrev pub scalar_or : Option Scalar → Scalar
+scalar_or none = Bare
+scalar_or (some s) = s
 
 -- the number of a text, and the texts by number after it: a new one gets the next number
 abbrev pub numbered : List ℕ → List (List ℕ) → Option ℕ → ℕ × List (List ℕ)
 numbered bs texts (some k) = (k, texts)
 numbered bs texts none = (length texts, texts ++ bs ∷ [])
 
-abbrev pub numberText : List ℕ → List (List ℕ) → ℕ × List (List ℕ)
-numberText bs texts = numbered bs texts (findText bs texts)
+abbrev pub number_text : List ℕ → List (List ℕ) → ℕ × List (List ℕ)
+number_text bs texts = numbered bs texts (find_text bs texts)
 
-abbrev pub leafTree : ℕ → Scalar → Tree
-leafTree s k = node s (kind_of k) (payloadOf k) (forest [])
+abbrev pub leaf_tree : ℕ → Scalar → Tree
+leaf_tree s k = node s (kind_of k) (payload_of k) (forest [])
 
-abbrev pub nodeTree : ℕ → List Tree → Tree
-nodeTree s ts = node s 0 0 (forest ts)
+abbrev pub node_tree : ℕ → List Tree → Tree
+node_tree s ts = node s 0 0 (forest ts)
 
 -- a text's leaf, by its number
-abbrev pub textTree : ℕ → Tree
-textTree k = leafTree textLeaf (Name k)
+abbrev pub text_tree : ℕ → Tree
+text_tree k = leaf_tree text_leaf (Name k)
 
 -- the texts after a key: one that is listed, on some line, takes no number
-abbrev pub keyTexts : List ℕ → List (List ℕ) → Option ℕ → List (List ℕ)
-keyTexts key texts (some k) = texts
-keyTexts key texts none = (numberText key texts).1
+abbrev pub key_texts : List ℕ → List (List ℕ) → Option ℕ → List (List ℕ)
+key_texts key texts (some k) = texts
+key_texts key texts none = (number_text key texts).1
 
 -- a listed key has a symbol of its own, another is a text in front of its value
-abbrev pub memberTree : List ℕ → List (List ℕ) → Option ℕ → Tree → Tree → Tree
-memberTree key texts (some k) x rest = nodeTree (keySymbol k) (x ∷ rest ∷ [])
-memberTree key texts none x rest = nodeTree other (textTree (numberText key texts).0 ∷ x ∷ rest ∷ [])
+abbrev pub member_tree : List ℕ → List (List ℕ) → Option ℕ → Tree → Tree → Tree
+member_tree key texts (some k) x rest = node_tree (key_symbol k) (x ∷ rest ∷ [])
+member_tree key texts none x rest = node_tree other (text_tree (number_text key texts).0 ∷ x ∷ rest ∷ [])
 
 -- the tree of a value by the listed keys, after texts that have their numbers: keys and values are met in the order of the document
 unfoldable mutual
-  pub valueTree : List (List ℕ) → Value → List (List ℕ) → Tree × List (List ℕ)
-  valueTree keys null texts = (leafTree nullLeaf Bare, texts)
-  valueTree keys (boolean b) texts = (leafTree flagLeaf (Flag b), texts)
-  valueTree keys (number n) texts = (leafTree numberLeaf (scalarOr (numberScalar n)), texts)
-  valueTree keys (string bs) texts = let (k, texts') = numberText bs texts in (textTree k, texts')
-  valueTree keys (array vs) texts = elementsTree keys vs texts
-  valueTree keys (object ms) texts = membersTree keys ms texts
+  pub value_tree : List (List ℕ) → Value → List (List ℕ) → Tree × List (List ℕ)
+  value_tree keys null texts = (leaf_tree null_leaf Bare, texts)
+  value_tree keys (boolean b) texts = (leaf_tree flag_leaf (Flag b), texts)
+  value_tree keys (number n) texts = (leaf_tree number_leaf (scalar_or (number_scalar n)), texts)
+  value_tree keys (string bs) texts = let (k, texts') = number_text bs texts in (text_tree k, texts')
+  value_tree keys (array vs) texts = elements_tree keys vs texts
+  value_tree keys (object ms) texts = members_tree keys ms texts
 
-  pub elementsTree : List (List ℕ) → Elements → List (List ℕ) → Tree × List (List ℕ)
-  elementsTree keys no-element texts = (leafTree stop Bare, texts)
-  elementsTree keys (element v vs) texts =
-      let (x, texts₁) = valueTree keys v texts in
-      let (rest, texts₂) = elementsTree keys vs texts₁ in
-      (nodeTree item (x ∷ rest ∷ []), texts₂)
+  pub elements_tree : List (List ℕ) → Elements → List (List ℕ) → Tree × List (List ℕ)
+  elements_tree keys no_element texts = (leaf_tree stop Bare, texts)
+  elements_tree keys (element v vs) texts =
+      let (x, texts₁) = value_tree keys v texts in
+      let (rest, texts₂) = elements_tree keys vs texts₁ in
+      (node_tree item (x ∷ rest ∷ []), texts₂)
 
-  pub membersTree : List (List ℕ) → Members → List (List ℕ) → Tree × List (List ℕ)
-  membersTree keys no_member texts = (leafTree end Bare, texts)
-  membersTree keys (member key v ms) texts =
-      let (x, texts₁) = valueTree keys v (keyTexts key texts (findText key keys)) in
-      let (rest, texts₂) = membersTree keys ms texts₁ in
-      (memberTree key texts (findText key keys) x rest, texts₂)
+  pub members_tree : List (List ℕ) → Members → List (List ℕ) → Tree × List (List ℕ)
+  members_tree keys no_member texts = (leaf_tree end Bare, texts)
+  members_tree keys (member key v ms) texts =
+      let (x, texts₁) = value_tree keys v (key_texts key texts (find_text key keys)) in
+      let (rest, texts₂) = members_tree keys ms texts₁ in
+      (member_tree key texts (find_text key keys) x rest, texts₂)
 
 -- every number has a form (else 73), and no key stands twice in one object (else 72), after keys that stood before
 unfoldable mutual
   pub formed? : Value → Bool
   formed? null = true
   formed? (boolean b) = true
-  formed? (number n) = some? (numberScalar n)
+  formed? (number n) = some? (number_scalar n)
   formed? (string bs) = true
-  formed? (array vs) = elementsFormed? vs
-  formed? (object ms) = membersFormed? [] ms
+  formed? (array vs) = elements_formed? vs
+  formed? (object ms) = members_formed? [] ms
 
-  pub elementsFormed? : Elements → Bool
-  elementsFormed? no-element = true
-  elementsFormed? (element v vs) = formed? v && elementsFormed? vs
+  pub elements_formed? : Elements → Bool
+  elements_formed? no_element = true
+  elements_formed? (element v vs) = formed? v && elements_formed? vs
 
-  pub membersFormed? : List (List ℕ) → Members → Bool
-  membersFormed? seen no_member = true
-  membersFormed? seen (member key v ms) = not (any (eq_list key) seen) && (formed? v && membersFormed? (seen ++ key ∷ []) ms)
+  pub members_formed? : List (List ℕ) → Members → Bool
+  members_formed? seen no_member = true
+  members_formed? seen (member key v ms) = not (any (eq_list key) seen) && (formed? v && members_formed? (seen ++ key ∷ []) ms)

@@ -1,8 +1,8 @@
 // Members and elements whose rest is still to come, one at each level: a symbol, the row of a key's text and a value's row.
 ghost use Rattle.std.specs.Prelude.{◌≡◌, ◌+◌, ◌-◌, ◌*◌, ◌<◌, ◌≤◌, length};
-ghost use Rattle.json.specs.Signature.{textLeaf};
-ghost use Rattle.json.specs.Grammar.{good, closeAt};
-ghost use Rattle.json.specs.State.{builtIn, Holds, Says};
+ghost use Rattle.json.specs.Signature.{text_leaf};
+ghost use Rattle.json.specs.Grammar.{good, close_at};
+ghost use Rattle.json.specs.State.{built_in, Holds, Says};
 ghost use Rattle.json.specs.Frames.{joins, Framed, FrameSet};
 
 use crate::rows::{Part, STARTS, close, join};
@@ -45,7 +45,7 @@ fn unwind(
     requires holds { Holds text.now rows.old slots.old starts.now found.now used texts limit }
     requires read { (row.0 < used) × (0 < next) }
     requires framed { Framed frames.now used low top }
-    ensures { Says text.now rows.new slots.new starts.now found.now starts.now texts limit result (joins limit frames.now low (top - low) (good row.0 next (builtIn text.now rows.old starts.now used texts))) }
+    ensures { Says text.now rows.new slots.new starts.now found.now starts.now texts limit result (joins limit frames.now low (top - low) (good row.0 next (built_in text.now rows.old starts.now used texts))) }
 {
     let mut r = row;
     let mut p = next;
@@ -105,9 +105,9 @@ pub(crate) fn close_items(
 ) -> Part
     requires holds { Holds text.now rows.old slots.old starts.now found.now used texts limit }
     requires printed { 0 < mark }
-    requires plain { closing ≡ textLeaf → ⊥ }
+    requires plain { closing ≡ text_leaf → ⊥ }
     requires framed { Framed frames.now used low top }
-    ensures { Says text.now rows.new slots.new starts.now found.now starts.now texts limit result (joins limit frames.now low (top - low) (closeAt limit text.now mark closing at (builtIn text.now rows.old starts.now used texts))) }
+    ensures { Says text.now rows.new slots.new starts.now found.now starts.now texts limit result (joins limit frames.now low (top - low) (close_at limit text.now mark closing at (built_in text.now rows.old starts.now used texts))) }
 {
     match close(
         text,

@@ -1,15 +1,15 @@
 // The key list of a site: its lines by their places, found again by an index over them.
 ghost use Rattle.std.specs.Prelude.{◌≡◌, true, List, ℕ, ◌<◌, length, replicate};
 ghost use Rattle.base.specs.Text.{got};
-ghost use Rattle.classes.specs.Classes.{classTable};
+ghost use Rattle.classes.specs.Classes.{class_table};
 ghost use Rattle.model.specs.Lists.{eq_list};
-ghost use Rattle.document.specs.Index.{slotCount, probe};
+ghost use Rattle.document.specs.Index.{slot_count, probe};
 ghost use Rattle.names.specs.Lines.{lines};
 ghost use Rattle.names.specs.Places.{Starts, Ended};
-ghost use Rattle.jsontext.specs.Strings.{stringAt};
-ghost use Rattle.jsontext.specs.Decoded.{textSlot};
-ghost use Rattle.json.specs.Keys.{key?, keysFit?, findText};
-ghost use Rattle.json.specs.KeyTable.{key_at, Stands, LinePut, Entered, Told, KeyTable, freeIn, freeOf, key_of};
+ghost use Rattle.jsontext.specs.Strings.{string_at};
+ghost use Rattle.jsontext.specs.Decoded.{text_slot};
+ghost use Rattle.json.specs.Keys.{key?, keys_fit?, find_text};
+ghost use Rattle.json.specs.KeyTable.{key_at, Stands, LinePut, Entered, Told, KeyTable, free_in, free_of, key_of};
 ghost use Rattle.json.specs.declared.keys.KeyFound.TheVariants.{Listed};
 
 use base::numbers::{size, smaller};
@@ -73,7 +73,7 @@ fn line_slot(
     slot: u16,
 ) -> LineSlot
     requires { (n : ℕ) × Entered list.now places.now key_slots.now n }
-    ensures { freeOf result ≡ freeIn (probe key_slots.now (λ k. eq_list line.now (key_at list.now k)) slot) }
+    ensures { free_of result ≡ free_in (probe key_slots.now (λ k. eq_list line.now (key_at list.now k)) slot) }
 {
     let mut d = 0;
     while d < SLOTS {
@@ -141,8 +141,8 @@ pub(crate) fn fill_keys(
     key_slots: &mut [u16; SLOTS],
 ) -> bool
     requires zero { places.old ≡ replicate 320 0 }
-    requires empty { key_slots.old ≡ replicate slotCount 0 }
-    ensures value { result ≡ keysFit? list.now }
+    requires empty { key_slots.old ≡ replicate slot_count 0 }
+    ensures value { result ≡ keys_fit? list.now }
     ensures filled { result ≡ true → KeyTable list.now places.new key_slots.new }
 {
     let mut a = 0;
@@ -166,7 +166,7 @@ pub(crate) fn fill_keys(
 fn line_here(text: &[u8], list: &[u8], places: &[usize; KEY_PLACES], k: u16, at: usize) -> usize
     requires few { k < 56 }
     requires table { (slots : List ℕ) × KeyTable list.now places.now slots }
-    ensures { (result ≡ 0 → ⊥) → (k < length (lines list.now)) × (stringAt text.now at ≡ got (key_at list.now k) result) }
+    ensures { (result ≡ 0 → ⊥) → (k < length (lines list.now)) × (string_at text.now at ≡ got (key_at list.now k) result) }
 {
     let i = 2 * size(k);
     let e = places[i + 1];
@@ -190,7 +190,7 @@ pub(crate) fn key_here(
     at: usize,
 ) -> usize
     requires table { (slots : List ℕ) × KeyTable list.now places.now slots }
-    ensures { (result ≡ 0 → ⊥) → (k < 56) × (k < length (lines list.now)) × (stringAt text.now at ≡ got (key_at list.now k) result) }
+    ensures { (result ≡ 0 → ⊥) → (k < 56) × (k < length (lines list.now)) × (string_at text.now at ≡ got (key_at list.now k) result) }
 {
     if k >= MAX_KEYS {
         return 0;
@@ -217,8 +217,8 @@ pub(crate) fn find_key(
     at: usize,
 ) -> KeyFound
     requires table { KeyTable list.now places.now key_slots.now }
-    requires lent { classes.now ≡ classTable }
-    ensures found { (key : List ℕ) (next : ℕ) → stringAt text.now at ≡ got key next → slot ≡ textSlot key → key_of result ≡ findText key (lines list.now) }
+    requires lent { classes.now ≡ class_table }
+    ensures found { (key : List ℕ) (next : ℕ) → string_at text.now at ≡ got key next → slot ≡ text_slot key → key_of result ≡ find_text key (lines list.now) }
     ensures few { (k : ℕ) → result ≡ Listed k → k < 56 }
 {
     let mut d = 0;

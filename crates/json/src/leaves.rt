@@ -1,12 +1,12 @@
 // Values without parts: words, numbers and strings.
 ghost use Rattle.std.specs.Prelude.{◌≡◌, ◌+◌, ◌<◌, ◌^◌, length};
 ghost use Rattle.base.specs.Text.{word_at};
-ghost use Rattle.classes.specs.Classes.{classTable};
-ghost use Rattle.jsontext.specs.Strings.{stringAt};
-ghost use Rattle.jsontext.specs.Number.{number_at, asScalar};
-ghost use Rattle.json.specs.Signature.{textLeaf};
-ghost use Rattle.json.specs.Grammar.{afterWord, afterText, afterNumber};
-ghost use Rattle.json.specs.State.{builtIn, Holds, Says};
+ghost use Rattle.classes.specs.Classes.{class_table};
+ghost use Rattle.jsontext.specs.Strings.{string_at};
+ghost use Rattle.jsontext.specs.Number.{number_at, as_scalar};
+ghost use Rattle.json.specs.Signature.{text_leaf};
+ghost use Rattle.json.specs.Grammar.{after_word, after_text, after_number};
+ghost use Rattle.json.specs.State.{built_in, Holds, Says};
 
 use crate::rows::{Part, STARTS, finish, leaf, leaf_of, settle};
 use crate::texts::{TextProbed, glance, look_up, new_text, row_of, text_leaf};
@@ -42,8 +42,8 @@ pub(crate) fn word(
     requires holds { Holds text.now rows.old slots.old starts.now found.now used texts limit }
     requires fits { at + length letters.now < 2 ^ 64 }
     requires some { 0 < length letters.now }
-    requires plain { symbol ≡ textLeaf → ⊥ }
-    ensures { Says text.now rows.new slots.new starts.now found.now starts.now texts limit result (afterWord limit symbol (builtIn text.now rows.old starts.now used texts) (word_at scalar letters.now text.now at)) }
+    requires plain { symbol ≡ text_leaf → ⊥ }
+    ensures { Says text.now rows.new slots.new starts.now found.now starts.now texts limit result (after_word limit symbol (built_in text.now rows.old starts.now used texts) (word_at scalar letters.now text.now at)) }
 {
     let n = word_bytes(text, at, letters);
     if n != letters.len() {
@@ -82,8 +82,8 @@ pub(crate) fn number_leaf(
     at: usize,
 ) -> Part
     requires holds { Holds text.now rows.old slots.old starts.now found.now used texts limit }
-    requires lent { classes.now ≡ classTable }
-    ensures { Says text.now rows.new slots.new starts.now found.now starts.now texts limit result (afterNumber limit at (builtIn text.now rows.old starts.now used texts) (asScalar (number_at text.now at))) }
+    requires lent { classes.now ≡ class_table }
+    ensures { Says text.now rows.new slots.new starts.now found.now starts.now texts limit result (after_number limit at (built_in text.now rows.old starts.now used texts) (as_scalar (number_at text.now at))) }
 {
     match number(text, classes, at) {
         NumberRead::Fault(p) => Part::Refused(71, p),
@@ -125,8 +125,8 @@ pub(crate) fn string_leaf(
     at: usize,
 ) -> Part
     requires holds { Holds text.now rows.old slots.old starts.old found.old used texts limit }
-    requires lent { classes.now ≡ classTable }
-    ensures { Says text.now rows.new slots.new starts.new found.new starts.old texts limit result (afterText limit (builtIn text.now rows.old starts.old used texts) (stringAt text.now at)) }
+    requires lent { classes.now ≡ class_table }
+    ensures { Says text.now rows.new slots.new starts.new found.new starts.old texts limit result (after_text limit (built_in text.now rows.old starts.old used texts) (string_at text.now at)) }
 {
     let s = short(text, at);
     if s.end != 0 {

@@ -8,12 +8,12 @@ mod members; // members.rt: the keys of an object
 mod reader; // reader.rt: values, members and elements
 
 ghost use Rattle.std.specs.Prelude.{◌≡◌, ◌/◌, min, length};
-ghost use Rattle.model.specs.Limits.{maxRows, maxLevels};
-ghost use Rattle.classes.specs.Classes.{classTable};
-ghost use Rattle.document.specs.Rows.{rowCells};
+ghost use Rattle.model.specs.Limits.{max_rows, max_levels};
+ghost use Rattle.classes.specs.Classes.{class_table};
+ghost use Rattle.document.specs.Rows.{row_cells};
 ghost use Rattle.json.specs.KeyTable.{KeyTable};
-ghost use Rattle.json.specs.Read.{readText, settingFor, read_of, readingMap};
-ghost use Rattle.json.specs.Answer.{readAnswer, spaceAfter, Answers};
+ghost use Rattle.json.specs.Read.{read_text, setting_for, read_of, reading_map};
+ghost use Rattle.json.specs.Answer.{read_answer, space_after, Answers};
 
 use base::limits::{MAX_LEVELS, MAX_ROWS};
 use base::numbers::{size, smaller};
@@ -41,7 +41,7 @@ pub enum JsonRead {
 
 // The most rows: as many as a table has, and as fit into the space.
 fn row_limit(rows: &[u16]) -> u16
-    ensures { result ≡ min maxRows (length rows.now / rowCells) }
+    ensures { result ≡ min max_rows (length rows.now / row_cells) }
 {
     smaller(size(MAX_ROWS), count(rows)) as u16
 }
@@ -64,9 +64,9 @@ fn read_text(
     key_slots: &[u16; SLOTS],
     rows: &mut [u16],
 ) -> JsonRead
-    requires lent { classes.now ≡ classTable }
+    requires lent { classes.now ≡ class_table }
     requires table { KeyTable list.now places.now key_slots.now }
-    ensures { Answers (readText maxLevels (settingFor list.now (length rows.old)) text.now) result rows.old rows.new }
+    ensures { Answers (read_text max_levels (setting_for list.now (length rows.old)) text.now) result rows.old rows.new }
 {
     let mut cells = [0u16; CELLS];
     let mut slots = [0u16; SLOTS];
@@ -115,8 +115,8 @@ fn read_text(
 
 // Reads a text into rows by a list of keys: the list (74), then the text (64, 67, 71 to 73). A refusal writes nothing.
 pub fn read(keys: &[u8], text: &[u8], rows: &mut [u16]) -> JsonRead
-    ensures answer { readAnswer result ≡ readingMap length (read_of keys.now text.now (length rows.old)) }
-    ensures space { rows.new ≡ spaceAfter (read_of keys.now text.now (length rows.old)) rows.old }
+    ensures answer { read_answer result ≡ reading_map length (read_of keys.now text.now (length rows.old)) }
+    ensures space { rows.new ≡ space_after (read_of keys.now text.now (length rows.old)) rows.old }
 {
     let classes = class_table();
     let mut places = [0usize; KEY_PLACES];

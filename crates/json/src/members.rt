@@ -1,17 +1,17 @@
 // The keys of an object: which of them stood before, and a key's symbol or text.
 ghost use Rattle.std.specs.Prelude.{◌≡◌, List, ℕ, ◌+◌, ◌-◌, ◌<◌, ◌≤◌, ◌^◌, eqb, length, get_or, drop};
-ghost use Rattle.classes.specs.Classes.{classTable};
+ghost use Rattle.classes.specs.Classes.{class_table};
 ghost use Rattle.model.specs.Lists.{any};
 ghost use Rattle.names.specs.Lines.{lines};
 ghost use Rattle.std.proofs.Math.Option.{none};
 ghost use Rattle.base.specs.Text.{got};
-ghost use Rattle.jsontext.specs.Strings.{stringAt};
-ghost use Rattle.json.specs.Keys.{findText};
+ghost use Rattle.jsontext.specs.Strings.{string_at};
+ghost use Rattle.json.specs.Keys.{find_text};
 ghost use Rattle.json.specs.Texts.{WholeString};
 ghost use Rattle.json.specs.KeyTable.{KeyTable};
 ghost use Rattle.json.specs.Grammar.{Setting};
-ghost use Rattle.json.specs.State.{builtIn, Holds};
-ghost use Rattle.json.specs.Seen.{entries, listedPart, listedEntry, listedFlags, number_of, Seen, Flagged, key_of, key_at, KeySays};
+ghost use Rattle.json.specs.State.{built_in, Holds};
+ghost use Rattle.json.specs.Seen.{entries, listed_part, listed_entry, listed_flags, number_of, Seen, Flagged, key_of, key_at, KeySays};
 
 use crate::keys::{KEY_PLACES, KeyFound, find_key, key_here};
 use crate::rows::{OTHER, Part, STARTS};
@@ -66,9 +66,9 @@ fn listed_key(
 ) -> KeyPart
     requires few { k < 56 }
     requires bounds { level < length pending.old }
-    ensures told { result ≡ listedPart (eqb (get_or listed.old k 0) 1) k at next used texts }
-    ensures entered { pending.new ≡ listedEntry (eqb (get_or listed.old k 0) 1) pending.old level k }
-    ensures flagged { listed.new ≡ listedFlags (eqb (get_or listed.old k 0) 1) listed.old k }
+    ensures told { result ≡ listed_part (eqb (get_or listed.old k 0) 1) k at next used texts }
+    ensures entered { pending.new ≡ listed_entry (eqb (get_or listed.old k 0) 1) pending.old level k }
+    ensures flagged { listed.new ≡ listed_flags (eqb (get_or listed.old k 0) 1) listed.old k }
 {
     let i = size(k);
     if listed[i] == 1 {
@@ -110,10 +110,10 @@ fn other_key(
     next: usize,
 ) -> KeyPart
     requires holds { Holds text.now rows.old slots.old starts.old found.old used texts limit }
-    requires lent { classes.now ≡ classTable }
+    requires lent { classes.now ≡ class_table }
     requires bounds { (level < top) × (top ≤ length pending.old) }
     requires whole { WholeString text.now at slot next }
-    ensures by_index { (keys seen : List (List ℕ)) (key : List ℕ) → stringAt text.now at ≡ got key next → findText key keys ≡ none → Flagged keys listed.now seen → Seen keys text.now starts.old pending.old texts (level + 1) top seen → KeySays keys text.now rows.new slots.new starts.new found.new pending.new listed.now starts.old texts limit level top seen result (key_of (record { keys = keys; limit = limit }) level seen at key next (builtIn text.now rows.old starts.old used texts)) }
+    ensures by_index { (keys seen : List (List ℕ)) (key : List ℕ) → string_at text.now at ≡ got key next → find_text key keys ≡ none → Flagged keys listed.now seen → Seen keys text.now starts.old pending.old texts (level + 1) top seen → KeySays keys text.now rows.new slots.new starts.new found.new pending.new listed.now starts.old texts limit level top seen result (key_of (record { keys = keys; limit = limit }) level seen at key next (built_in text.now rows.old starts.old used texts)) }
     ensures kept { drop (level + 1) pending.new ≡ drop (level + 1) pending.old }
 {
     if level == 0 {
@@ -156,10 +156,10 @@ fn looked_up(
     at: usize,
 ) -> KeyPart
     requires holds { Holds text.now rows.old slots.old starts.old found.old used texts limit }
-    requires lent { classes.now ≡ classTable }
+    requires lent { classes.now ≡ class_table }
     requires bounds { (level < top) × (top ≤ length pending.old) }
     requires table { KeyTable list.now places.now key_slots.now }
-    ensures by_index { (seen : List (List ℕ)) → Flagged (lines list.now) listed.old seen → Seen (lines list.now) text.now starts.old pending.old texts (level + 1) top seen → KeySays (lines list.now) text.now rows.new slots.new starts.new found.new pending.new listed.new starts.old texts limit level top seen result (key_at (record { keys = lines list.now; limit = limit }) text.now level seen at (builtIn text.now rows.old starts.old used texts)) }
+    ensures by_index { (seen : List (List ℕ)) → Flagged (lines list.now) listed.old seen → Seen (lines list.now) text.now starts.old pending.old texts (level + 1) top seen → KeySays (lines list.now) text.now rows.new slots.new starts.new found.new pending.new listed.new starts.old texts limit level top seen result (key_at (record { keys = lines list.now; limit = limit }) text.now level seen at (built_in text.now rows.old starts.old used texts)) }
     ensures kept { drop (level + 1) pending.new ≡ drop (level + 1) pending.old }
 {
     match read(text, classes, at) {
@@ -208,10 +208,10 @@ pub(crate) fn key_at(
     guess: u16,
 ) -> KeyPart
     requires holds { Holds text.now rows.old slots.old starts.old found.old used texts limit }
-    requires lent { classes.now ≡ classTable }
+    requires lent { classes.now ≡ class_table }
     requires bounds { (level < top) × (top ≤ length pending.old) }
     requires table { KeyTable list.now places.now key_slots.now }
-    ensures by_index { (seen : List (List ℕ)) → Flagged (lines list.now) listed.old seen → Seen (lines list.now) text.now starts.old pending.old texts (level + 1) top seen → KeySays (lines list.now) text.now rows.new slots.new starts.new found.new pending.new listed.new starts.old texts limit level top seen result (key_at (record { keys = lines list.now; limit = limit }) text.now level seen at (builtIn text.now rows.old starts.old used texts)) }
+    ensures by_index { (seen : List (List ℕ)) → Flagged (lines list.now) listed.old seen → Seen (lines list.now) text.now starts.old pending.old texts (level + 1) top seen → KeySays (lines list.now) text.now rows.new slots.new starts.new found.new pending.new listed.new starts.old texts limit level top seen result (key_at (record { keys = lines list.now; limit = limit }) text.now level seen at (built_in text.now rows.old starts.old used texts)) }
     ensures kept { drop (level + 1) pending.new ≡ drop (level + 1) pending.old }
 {
     let k = line_of(guess);

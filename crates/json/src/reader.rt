@@ -1,14 +1,14 @@
 // Values, members and elements of a JSON text, each over the level that falls.
 ghost use Rattle.std.specs.Prelude.{◌≡◌, true, false, cond, ◌||◌, List, [], ℕ, ◌+◌, ◌*◌, ◌<◌, ◌≤◌, eqb, length, drop};
-ghost use Rattle.base.specs.Text.{byteAt};
-ghost use Rattle.classes.specs.Classes.{digit?, classTable};
+ghost use Rattle.base.specs.Text.{byte_at};
+ghost use Rattle.classes.specs.Classes.{digit?, class_table};
 ghost use Rattle.names.specs.Lines.{lines};
 ghost use Rattle.json.specs.KeyTable.{KeyTable};
 ghost use Rattle.json.specs.Grammar.{opens?, value};
-ghost use Rattle.json.specs.State.{builtIn, Holds, Says};
+ghost use Rattle.json.specs.State.{built_in, Holds, Says};
 ghost use Rattle.json.specs.declared.rows.Part.TheVariants.{Refused};
 ghost use Rattle.json.specs.Seen.{Seen, Flagged};
-ghost use Rattle.json.specs.Items.{mark_of, leafOf, plainAt, itemsAt};
+ghost use Rattle.json.specs.Items.{mark_of, leaf_of, plain_at, items_at};
 ghost use Rattle.json.specs.Frames.{Same};
 ghost use Rattle.json.specs.Heads.{HeadSays};
 
@@ -42,7 +42,7 @@ pub(crate) const SYMBOLS: usize = 64;
 
 // Whether a value can begin with a byte.
 fn opens(classes: &[u8; 256], b: u8) -> bool
-    requires lent { classes.now ≡ classTable }
+    requires lent { classes.now ≡ class_table }
     ensures { result ≡ opens? b }
 {
     let open = (b == b'{')
@@ -60,15 +60,15 @@ fn mark(object: bool) -> u8
 }
 
 fn closing(object: bool) -> u16
-    ensures { (result ≡ leafOf object) × (result < 2) }
+    ensures { (result ≡ leaf_of object) × (result < 2) }
 {
     if object { END } else { STOP }
 }
 
 // A value past the last level.
 fn past_last(text: &[u8], classes: &[u8; 256], at: usize) -> Part
-    requires lent { classes.now ≡ classTable }
-    ensures { result ≡ Refused (cond (opens? (byteAt text.now at)) 64 71) at }
+    requires lent { classes.now ≡ class_table }
+    ensures { result ≡ Refused (cond (opens? (byte_at text.now at)) 64 71) at }
 {
     if opens(classes, byte_at(text, at)) {
         return Part::Refused(64, at);
@@ -91,9 +91,9 @@ fn text_or_word(
     at: usize,
 ) -> Part
     requires holds { Holds text.now rows.old slots.old starts.old found.old used texts limit }
-    requires lent { classes.now ≡ classTable }
-    requires other { (eqb (byteAt text.now at) 45 || digit? (byteAt text.now at)) ≡ false }
-    ensures { Says text.now rows.new slots.new starts.new found.new starts.old texts limit result (plainAt limit text.now at (builtIn text.now rows.old starts.old used texts)) }
+    requires lent { classes.now ≡ class_table }
+    requires other { (eqb (byte_at text.now at) 45 || digit? (byte_at text.now at)) ≡ false }
+    ensures { Says text.now rows.new slots.new starts.new found.new starts.old texts limit result (plain_at limit text.now at (built_in text.now rows.old starts.old used texts)) }
 {
     let b = byte_at(text, at);
     if b == b'"' {
@@ -170,8 +170,8 @@ fn plain_value(
     at: usize,
 ) -> Part
     requires holds { Holds text.now rows.old slots.old starts.old found.old used texts limit }
-    requires lent { classes.now ≡ classTable }
-    ensures { Says text.now rows.new slots.new starts.new found.new starts.old texts limit result (plainAt limit text.now at (builtIn text.now rows.old starts.old used texts)) }
+    requires lent { classes.now ≡ class_table }
+    ensures { Says text.now rows.new slots.new starts.new found.new starts.old texts limit result (plain_at limit text.now at (built_in text.now rows.old starts.old used texts)) }
 {
     let b = byte_at(text, at);
     if (b == b'-') | is_digit(classes, b) {
@@ -217,10 +217,10 @@ fn value(
     at: usize,
 ) -> Part
     requires holds { Holds text.now rows.old slots.old starts.old found.old used texts limit }
-    requires lent { classes.now ≡ classTable }
+    requires lent { classes.now ≡ class_table }
     requires table { KeyTable list.now places.now key_slots.now }
     requires bounds { (level ≤ 256) × (level ≤ length pending.old) × (3 * level ≤ length frames.old) }
-    ensures says { Says text.now rows.new slots.new starts.new found.new starts.old texts limit result (value level (record { keys = lines list.now; limit = limit }) text.now at (builtIn text.now rows.old starts.old used texts)) }
+    ensures says { Says text.now rows.new slots.new starts.new found.new starts.old texts limit result (value level (record { keys = lines list.now; limit = limit }) text.now at (built_in text.now rows.old starts.old used texts)) }
     ensures kept { drop level pending.new ≡ drop level pending.old }
     ensures above { Same (3 * level) frames.old frames.new }
 {
@@ -298,10 +298,10 @@ fn head(
     guess: u16,
 ) -> KeyPart
     requires holds { Holds text.now rows.old slots.old starts.old found.old used texts limit }
-    requires lent { classes.now ≡ classTable }
+    requires lent { classes.now ≡ class_table }
     requires table { KeyTable list.now places.now key_slots.now }
     requires below { object ≡ true → (level < top) × (top ≤ length pending.old) }
-    ensures by_index { (seen : List (List ℕ)) → (object ≡ true → Flagged (lines list.now) listed.old seen) → (object ≡ true → Seen (lines list.now) text.now starts.old pending.old texts (level + 1) top seen) → HeadSays object (record { keys = lines list.now; limit = limit }) text.now rows.new slots.new starts.new found.new pending.new listed.new starts.old texts level top seen at (builtIn text.now rows.old starts.old used texts) result }
+    ensures by_index { (seen : List (List ℕ)) → (object ≡ true → Flagged (lines list.now) listed.old seen) → (object ≡ true → Seen (lines list.now) text.now starts.old pending.old texts (level + 1) top seen) → HeadSays object (record { keys = lines list.now; limit = limit }) text.now rows.new slots.new starts.new found.new pending.new listed.new starts.old texts level top seen at (built_in text.now rows.old starts.old used texts) result }
     ensures kept { drop (level + 1) pending.new ≡ drop (level + 1) pending.old }
 {
     if !object {
@@ -350,12 +350,12 @@ pub(crate) fn items(
     alone: bool,
 ) -> Part
     requires holds { Holds text.now rows.old slots.old starts.old found.old used texts limit }
-    requires lent { classes.now ≡ classTable }
+    requires lent { classes.now ≡ class_table }
     requires table { KeyTable list.now places.now key_slots.now }
     requires bounds { (level ≤ 256) × (level ≤ length pending.old) × (3 * level ≤ length frames.old) }
     requires below { alone ≡ false → (level < length pending.old) × (3 * level + 3 ≤ length frames.old) }
     requires single { alone ≡ true → object ≡ false }
-    ensures says { Says text.now rows.new slots.new starts.new found.new starts.old texts limit result (itemsAt alone object level (record { keys = lines list.now; limit = limit }) text.now [] at (builtIn text.now rows.old starts.old used texts)) }
+    ensures says { Says text.now rows.new slots.new starts.new found.new starts.old texts limit result (items_at alone object level (record { keys = lines list.now; limit = limit }) text.now [] at (built_in text.now rows.old starts.old used texts)) }
     ensures kept { drop (level + 1) pending.new ≡ drop (level + 1) pending.old }
     ensures above { Same (3 * level + 3) frames.old frames.new }
 {

@@ -2,13 +2,13 @@
 ghost use Rattle.std.specs.Prelude.{◌≡◌, [], ◌∷◌, ◌++◌, ◌<◌};
 ghost use Rattle.model.specs.Table as table;
 ghost use Rattle.document.specs.declared.scalar.Scalar.{Scalar};
-ghost use Rattle.document.specs.Scalars.{kind_of, payloadOf};
-ghost use Rattle.document.specs.Rows.{encodeRow};
-ghost use Rattle.document.specs.Hash.{rowHash};
+ghost use Rattle.document.specs.Scalars.{kind_of, payload_of};
+ghost use Rattle.document.specs.Rows.{encode_row};
+ghost use Rattle.document.specs.Hash.{row_hash};
 ghost use Rattle.document.specs.Words.{Words};
-ghost use Rattle.json.specs.Signature.{other, textLeaf};
-ghost use Rattle.json.specs.Grammar.{leafRow, nodeRow, finish, closeAt};
-ghost use Rattle.json.specs.State.{keyRows, builtIn, Holds, Old, Says, partAfter};
+ghost use Rattle.json.specs.Signature.{other, text_leaf};
+ghost use Rattle.json.specs.Grammar.{leaf_row, node_row, finish, close_at};
+ghost use Rattle.json.specs.State.{key_rows, built_in, Holds, Old, Says, part_after};
 
 use base::limits::{MAX_ROWS, UNUSED};
 use base::text::byte_at;
@@ -52,7 +52,7 @@ pub(crate) struct RowWords {
 
 // A row without children, by the kind and the payload of its scalar.
 pub(crate) fn leaf_of(symbol: u16, kind: u16, payload: u64) -> RowWords
-    ensures { (scalar : Scalar) → kind ≡ kind_of scalar → payload ≡ payloadOf scalar → Words (leafRow symbol scalar) result.a result.b result.c }
+    ensures { (scalar : Scalar) → kind ≡ kind_of scalar → payload ≡ payload_of scalar → Words (leaf_row symbol scalar) result.a result.b result.c }
 {
     RowWords {
         a: word(symbol, UNUSED, UNUSED, UNUSED),
@@ -63,7 +63,7 @@ pub(crate) fn leaf_of(symbol: u16, kind: u16, payload: u64) -> RowWords
 
 // A row without children.
 pub(crate) fn leaf(symbol: u16, scalar: Scalar) -> RowWords
-    ensures { Words (leafRow symbol scalar) result.a result.b result.c }
+    ensures { Words (leaf_row symbol scalar) result.a result.b result.c }
 {
     leaf_of(symbol, scalar::kind(scalar), scalar::payload(scalar))
 }
@@ -71,7 +71,7 @@ pub(crate) fn leaf(symbol: u16, scalar: Scalar) -> RowWords
 // The row of a member or an element: its value and its rest, behind the text of a key that is not listed.
 fn node(symbol: u16, key: Row, value: Row, rest: Row) -> RowWords
     requires { (key.0 < 65535) × (value.0 < 65535) × (rest.0 < 65535) }
-    ensures { Words (nodeRow symbol ((keyRows symbol key.0 ++ value.0 ∷ []) ++ rest.0 ∷ [])) result.a result.b result.c }
+    ensures { Words (node_row symbol ((key_rows symbol key.0 ++ value.0 ∷ []) ++ rest.0 ∷ [])) result.a result.b result.c }
 {
     if symbol == OTHER {
         return RowWords {
@@ -89,7 +89,7 @@ fn node(symbol: u16, key: Row, value: Row, rest: Row) -> RowWords
 
 // The hash of that row.
 fn hash_of(symbol: u16, key: Row, value: Row, rest: Row) -> u32
-    ensures { result ≡ rowHash (encodeRow (nodeRow symbol ((keyRows symbol key.0 ++ value.0 ∷ []) ++ rest.0 ∷ []))) }
+    ensures { result ≡ row_hash (encode_row (node_row symbol ((key_rows symbol key.0 ++ value.0 ∷ []) ++ rest.0 ∷ []))) }
 {
     if symbol == OTHER {
         return node_hash(symbol, key.0, value.0, rest.0);
@@ -100,7 +100,7 @@ fn hash_of(symbol: u16, key: Row, value: Row, rest: Row) -> u32
 // What becomes of a row that ends before `next`, by the builder's answer.
 fn part_after(placed: Placed, next: usize, used: u16, texts: u16) -> Part
     requires { (0 < next) × (used < 65535) }
-    ensures { result ≡ partAfter next used texts placed }
+    ensures { result ≡ part_after next used texts placed }
 {
     match placed {
         Placed::Known(i) => Part::Read(i, next, used, texts),
@@ -127,7 +127,7 @@ pub(crate) fn settle(
 ) -> Part
     requires holds { Holds text.now rows.old slots.old starts.now found.now used texts limit }
     requires behind { 0 < next }
-    ensures { (x : table.Row) → Words x a b c → Old used texts x → Says text.now rows.new slots.new starts.now found.now starts.now texts limit result (finish limit x next (builtIn text.now rows.old starts.now used texts)) }
+    ensures { (x : table.Row) → Words x a b c → Old used texts x → Says text.now rows.new slots.new starts.now found.now starts.now texts limit result (finish limit x next (built_in text.now rows.old starts.now used texts)) }
 {
     let placed = place_row(rows, slots, near, used, limit, a, b, c);
     part_after(placed, next, used, texts)
@@ -151,7 +151,7 @@ pub(crate) fn finish(
 ) -> Part
     requires holds { Holds text.now rows.old slots.old starts.now found.now used texts limit }
     requires behind { 0 < next }
-    ensures { (x : table.Row) → Words x a b c → Old used texts x → Says text.now rows.new slots.new starts.now found.now starts.now texts limit result (finish limit x next (builtIn text.now rows.old starts.now used texts)) }
+    ensures { (x : table.Row) → Words x a b c → Old used texts x → Says text.now rows.new slots.new starts.now found.now starts.now texts limit result (finish limit x next (built_in text.now rows.old starts.now used texts)) }
 {
     let row = near_row(&*rows, &*near, used, a, b, c);
     if row.0 < used {
@@ -181,10 +181,10 @@ pub(crate) fn join(
 ) -> Part
     requires holds { Holds text.now rows.old slots.old starts.now found.now used texts limit }
     requires behind { 0 < next }
-    requires plain { symbol ≡ textLeaf → ⊥ }
+    requires plain { symbol ≡ text_leaf → ⊥ }
     requires inside { (key.0 < 65535) × (value.0 < used) × (rest.0 < used) }
     requires own { symbol ≡ other → key.0 < used }
-    ensures { Says text.now rows.new slots.new starts.now found.now starts.now texts limit result (finish limit (nodeRow symbol ((keyRows symbol key.0 ++ value.0 ∷ []) ++ rest.0 ∷ [])) next (builtIn text.now rows.old starts.now used texts)) }
+    ensures { Says text.now rows.new slots.new starts.now found.now starts.now texts limit result (finish limit (node_row symbol ((key_rows symbol key.0 ++ value.0 ∷ []) ++ rest.0 ∷ [])) next (built_in text.now rows.old starts.now used texts)) }
 {
     let w = node(symbol, key, value, rest);
     if (value.0 + 1 == used) | (rest.0 + 1 == used) {
@@ -214,8 +214,8 @@ pub(crate) fn close(
 ) -> Part
     requires holds { Holds text.now rows.old slots.old starts.now found.now used texts limit }
     requires printed { 0 < mark }
-    requires plain { symbol ≡ textLeaf → ⊥ }
-    ensures { Says text.now rows.new slots.new starts.now found.now starts.now texts limit result (closeAt limit text.now mark symbol at (builtIn text.now rows.old starts.now used texts)) }
+    requires plain { symbol ≡ text_leaf → ⊥ }
+    ensures { Says text.now rows.new slots.new starts.now found.now starts.now texts limit result (close_at limit text.now mark symbol at (built_in text.now rows.old starts.now used texts)) }
 {
     if byte_at(text, at) != mark {
         return Part::Refused(71, at);

@@ -1,13 +1,13 @@
 // Texts that become leaves, numbered by first appearance after decoding: each is known by the place where it first stands, and an index finds it again.
 ghost use Rattle.std.specs.Prelude.{◌≡◌, ◌+◌, ◌<◌, length, get_or};
-ghost use Rattle.classes.specs.Classes.{classTable};
+ghost use Rattle.classes.specs.Classes.{class_table};
 ghost use Rattle.document.specs.Index.{probe};
-ghost use Rattle.jsontext.specs.Strings.{stringAt};
-ghost use Rattle.jsontext.specs.Decoded.{sameText};
+ghost use Rattle.jsontext.specs.Strings.{string_at};
+ghost use Rattle.jsontext.specs.Decoded.{same_text};
 ghost use Rattle.jsontext.specs.Shorts.{ShortAt};
-ghost use Rattle.json.specs.Grammar.{afterText};
-ghost use Rattle.json.specs.State.{builtIn, Holds, Says};
-ghost use Rattle.json.specs.Texts.{probedOf, ProbedAt};
+ghost use Rattle.json.specs.Grammar.{after_text};
+ghost use Rattle.json.specs.State.{built_in, Holds, Says};
+ghost use Rattle.json.specs.Texts.{probed_of, ProbedAt};
 ghost use Rattle.json.specs.declared.texts.TextProbed.TheVariants.{Free, Crowded};
 
 use crate::rows::{Part, STARTS, TEXTS, leaf};
@@ -61,8 +61,8 @@ pub(crate) fn look_up(
     at: usize,
 ) -> TextProbed
     requires size { length starts.now ≡ 2048 }
-    requires lent { classes.now ≡ classTable }
-    ensures { probedOf result ≡ probe found.now (λ k. sameText (stringAt text.now at) (stringAt text.now (get_or starts.now k 0))) slot }
+    requires lent { classes.now ≡ class_table }
+    ensures { probed_of result ≡ probe found.now (λ k. same_text (string_at text.now at) (string_at text.now (get_or starts.now k 0))) slot }
 {
     let mut d = 0;
     while d < SLOTS {
@@ -120,7 +120,7 @@ pub(crate) fn new_text(
     requires holds { Holds text.now rows.old slots.old starts.old found.old used texts limit }
     requires behind { 0 < next }
     requires new { ProbedAt text.now starts.old found.old at next (Free free) }
-    ensures { Says text.now rows.new slots.new starts.new found.new starts.old texts limit result (afterText limit (builtIn text.now rows.old starts.old used texts) (stringAt text.now at)) }
+    ensures { Says text.now rows.new slots.new starts.new found.new starts.old texts limit result (after_text limit (built_in text.now rows.old starts.old used texts) (string_at text.now at)) }
 {
     let w = leaf(TEXT, Scalar::Name(texts as u32));
     match add_new(
@@ -162,7 +162,7 @@ pub(crate) fn text_leaf(
     requires holds { Holds text.now rows.old slots.old starts.old found.old used texts limit }
     requires behind { 0 < next }
     requires whole { ProbedAt text.now starts.old found.old at next probed }
-    ensures { Says text.now rows.new slots.new starts.new found.new starts.old texts limit result (afterText limit (builtIn text.now rows.old starts.old used texts) (stringAt text.now at)) }
+    ensures { Says text.now rows.new slots.new starts.new found.new starts.old texts limit result (after_text limit (built_in text.now rows.old starts.old used texts) (string_at text.now at)) }
 {
     match probed {
         TextProbed::Known(k) => Part::Read(row_of(&*starts, k), next, used, texts),

@@ -7,84 +7,84 @@ use native.Mathlib.Omega.{arith}
 use lib.Bits.{bit_or, bit_xor}
 use lib.ListN.{length, take, drop, length-take, length-drop}
 use lib.Seq.{take-take, get_or-take, get_or-drop}
-use Rattle.base.specs.Text.{byteAt}
-use Rattle.base.proofs.Bytes.{class-inside}
+use Rattle.base.specs.Text.{byte_at}
+use Rattle.base.proofs.Bytes.{class_inside}
 use Rattle.jsontext.specs.Strings.{plain?}
-use Rattle.jsontext.specs.Decoded.{joinBytes}
+use Rattle.jsontext.specs.Decoded.{join_bytes}
 use Rattle.jsontext.specs.Kept.{Bytes}
 use Rattle.jsontext.specs.Scanned.{part}
 use Rattle.jsontext.specs.StringAnswers.{Plains, mark}
 use Rattle.jsontext.specs.Compared.{Alike}
-use Rattle.jsontext.proofs.Joining.{join-take, join-same, pow-256, bytes_take, bytes_drop}
-use Rattle.jsontext.proofs.PlainRuns.{plains-none, plains-more, plains-join}
-use Rattle.jsontext.proofs.Bytewise.{clear, clear-below, clear-few, front-agrees, plains-below}
-use Rattle.jsontext.proofs.Scanning.{part_none, part-snoc, part_join}
+use Rattle.jsontext.proofs.Joining.{join_take, join_same, pow_256, bytes_take, bytes_drop}
+use Rattle.jsontext.proofs.PlainRuns.{plains_none, plains_more, plains_join}
+use Rattle.jsontext.proofs.Bytewise.{clear, clear_below, clear_few, front_agrees, plains_below}
+use Rattle.jsontext.proofs.Scanning.{part_none, part_snoc, part_join}
 
-pub plain-inside : (t : List ℕ) (i b : ℕ) → b ≡ byteAt t i → plain? b ≡ true → i < length t
+pub plain_inside : (t : List ℕ) (i b : ℕ) → b ≡ byte_at t i → plain? b ≡ true → i < length t
 unfolding plain?
-plain-inside t i b e f = class-inside plain? refl t i (ap plain? (sym e) ∙ f)
+plain_inside t i b e f = class_inside plain? refl t i (ap plain? (sym e) ∙ f)
 
 module _ (s : List ℕ) (i : ℕ) (t : List ℕ) (j : ℕ) where
   -- what stands for itself at one place does so at the other
   alike_of : (n : ℕ) → Plains s i (i + n) → part s i (i + n) ≡ part t j (j + n) → j + n ≤ length t → Alike s i t j n
   alike_of n p e h = record { first = p; second = record { forward = omega arith; inside = h; each = λ k a b. go k a b }; same = e }
     where
-      at_part : (u : List ℕ) (x d : ℕ) → d < n → byteAt (part u x (x + n)) d ≡ byteAt u (x + d)
+      at_part : (u : List ℕ) (x d : ℕ) → d < n → byte_at (part u x (x + n)) d ≡ byte_at u (x + d)
       at_part u x d l = get_or-take (x + n - x) (drop x u) d 0 (omega arith) ∙ get_or-drop x u d 0
 
-      go : (k : ℕ) → j ≤ k → k < j + n → plain? (byteAt t k) ≡ true
+      go : (k : ℕ) → j ≤ k → k < j + n → plain? (byte_at t k) ≡ true
       go k a b =
           let z : j + (k - j) ≡ k = omega arith in
           let l : k - j < n = omega arith in
-          let q : byteAt s (i + (k - j)) ≡ byteAt t k = sym (at_part s i (k - j) l) ∙ ap (λ (y : List ℕ). byteAt y (k - j)) e ∙ at_part t j (k - j) l ∙ ap (byteAt t) z in
+          let q : byte_at s (i + (k - j)) ≡ byte_at t k = sym (at_part s i (k - j) l) ∙ ap (λ (y : List ℕ). byte_at y (k - j)) e ∙ at_part t j (k - j) l ∙ ap (byte_at t) z in
           ap plain? (sym q) ∙ p.each (i + (k - j)) (omega arith) (omega arith)
 
-  pub alike-none : i ≤ length s → j ≤ length t → Alike s i t j 0
-  alike-none h k =
+  pub alike_none : i ≤ length s → j ≤ length t → Alike s i t j 0
+  alike_none h k =
       let x : i ≡ i + 0 = omega arith in
       let y : j ≡ j + 0 = omega arith in
-      alike_of 0 (subst (Plains s i) x (plains-none s i h)) (ap (part s i) (sym x) ∙ part_none s i ∙ sym (part_none t j) ∙ ap (part t j) y) (omega arith)
+      alike_of 0 (subst (Plains s i) x (plains_none s i h)) (ap (part s i) (sym x) ∙ part_none s i ∙ sym (part_none t j) ∙ ap (part t j) y) (omega arith)
 
-  pub alike-join : (n m : ℕ) → Alike s i t j n → Alike s (i + n) t (j + n) m → Alike s i t j (n + m)
-  alike-join n m v w =
+  pub alike_join : (n m : ℕ) → Alike s i t j n → Alike s (i + n) t (j + n) m → Alike s i t j (n + m)
+  alike_join n m v w =
       let x : i + n + m ≡ i + (n + m) = omega arith in
       let y : j + n + m ≡ j + (n + m) = omega arith in
-      alike_of (n + m) (subst (Plains s i) x (plains-join s i (i + n) v.first (i + n + m) w.first))
+      alike_of (n + m) (subst (Plains s i) x (plains_join s i (i + n) v.first (i + n + m) w.first))
       (ap (part s i) (sym x) ∙ sym (part_join s i (i + n) (i + n + m) v.first.forward w.first.forward)
       ∙ ap₂ (λ (a b : List ℕ). a ++ b) v.same w.same
       ∙ part_join t j (j + n) (j + n + m) v.second.forward w.second.forward ∙ ap (part t j) y)
       (omega (arith, w.second.inside))
 
-  pub alike-more : (n b d : ℕ) → Alike s i t j n → b ≡ byteAt s (i + n) → plain? b ≡ true → d ≡ byteAt t (j + n) → d ≡ b → Alike s i t j (n + 1)
-  alike-more n b d v e f g q =
-      let x : i + n < length s = plain-inside s (i + n) b e f in
-      let y : j + n < length t = plain-inside t (j + n) b (sym q ∙ g) f in
+  pub alike_more : (n b d : ℕ) → Alike s i t j n → b ≡ byte_at s (i + n) → plain? b ≡ true → d ≡ byte_at t (j + n) → d ≡ b → Alike s i t j (n + 1)
+  alike_more n b d v e f g q =
+      let x : i + n < length s = plain_inside s (i + n) b e f in
+      let y : j + n < length t = plain_inside t (j + n) b (sym q ∙ g) f in
       let k : i + n + 1 ≡ i + (n + 1) = omega arith in
       let l : j + n + 1 ≡ j + (n + 1) = omega arith in
-      alike_of (n + 1) (subst (Plains s i) k (plains-more s i (i + n) v.first x (ap plain? (sym e) ∙ f)))
-      (ap (part s i) (sym k) ∙ part-snoc s i (i + n) v.first.forward x
+      alike_of (n + 1) (subst (Plains s i) k (plains_more s i (i + n) v.first x (ap plain? (sym e) ∙ f)))
+      (ap (part s i) (sym k) ∙ part_snoc s i (i + n) v.first.forward x
       ∙ ap₂ (λ (a : List ℕ) (z : ℕ). a ++ z ∷ []) v.same (sym e ∙ sym q ∙ g)
-      ∙ sym (part-snoc t j (j + n) v.second.forward y) ∙ ap (part t j) l)
+      ∙ sym (part_snoc t j (j + n) v.second.forward y) ∙ ap (part t j) l)
       (omega arith)
 
   -- words: up to the lowest bit that tells them apart or marks a byte
-  pub alike-word : (v w m : ℕ) → Bytes s → Bytes t → i + 8 ≤ length s → j + 8 ≤ length t → v ≡ joinBytes (take 8 (drop i s)) → w ≡ joinBytes (take 8 (drop j t))
-      → m ≡ joinBytes (map mark (take 8 (drop i s))) → Alike s i t j (clear (bit_or (bit_xor v w) m))
-  alike-word v w m b d h k e f g =
+  pub alike_word : (v w m : ℕ) → Bytes s → Bytes t → i + 8 ≤ length s → j + 8 ≤ length t → v ≡ join_bytes (take 8 (drop i s)) → w ≡ join_bytes (take 8 (drop j t))
+      → m ≡ join_bytes (map mark (take 8 (drop i s))) → Alike s i t j (clear (bit_or (bit_xor v w) m))
+  alike_word v w m b d h k e f g =
       let z = clear (bit_or (bit_xor v w) m) in
-      let few : z ≤ 8 = clear-few (bit_or (bit_xor v w) m) in
-      let (agree, none) = front-agrees v w m (8 * z) (clear-below (bit_or (bit_xor v w) m)) in
-      let fronts : joinBytes (take z (drop i s)) ≡ joinBytes (take z (drop j t)) =
-      front s i v b e z few ∙ ap (λ (p : ℕ). v % p) (sym (pow-256 z)) ∙ agree ∙ ap (λ (p : ℕ). w % p) (pow-256 z) ∙ sym (front t j w d f z few) in
+      let few : z ≤ 8 = clear_few (bit_or (bit_xor v w) m) in
+      let (agree, none) = front_agrees v w m (8 * z) (clear_below (bit_or (bit_xor v w) m)) in
+      let fronts : join_bytes (take z (drop i s)) ≡ join_bytes (take z (drop j t)) =
+      front s i v b e z few ∙ ap (λ (p : ℕ). v % p) (sym (pow_256 z)) ∙ agree ∙ ap (λ (p : ℕ). w % p) (pow_256 z) ∙ sym (front t j w d f z few) in
       let same : take z (drop i s) ≡ take z (drop j t) =
-      join-same (take z (drop i s)) (take z (drop j t)) (bytes_take z (drop i s) (bytes_drop i s b)) (bytes_take z (drop j t) (bytes_drop j t d))
+      join_same (take z (drop i s)) (take z (drop j t)) (bytes_take z (drop i s) (bytes_drop i s b)) (bytes_take z (drop j t) (bytes_drop j t d))
       (omega (arith, length-take z (drop i s), length-drop i s, length-take z (drop j t), length-drop j t)) fronts in
       let x : i + z - i ≡ z = omega arith in
       let y : z ≡ j + z - j = omega arith in
-      alike_of z (plains-below s i m h g z few none)
+      alike_of z (plains_below s i m h g z few none)
       (ap (λ (n : ℕ). take n (drop i s)) x ∙ same ∙ ap (λ (n : ℕ). take n (drop j t)) y)
       (omega arith)
     where
-      front : (u : List ℕ) (a n : ℕ) → Bytes u → n ≡ joinBytes (take 8 (drop a u)) → (z : ℕ) → z ≤ 8 → joinBytes (take z (drop a u)) ≡ n % 256 ^ z
+      front : (u : List ℕ) (a n : ℕ) → Bytes u → n ≡ join_bytes (take 8 (drop a u)) → (z : ℕ) → z ≤ 8 → join_bytes (take z (drop a u)) ≡ n % 256 ^ z
       front u a n c q z l =
-          ap joinBytes (sym (take-take z 8 (drop a u) l)) ∙ join-take z (take 8 (drop a u)) (bytes_take 8 (drop a u) (bytes_drop a u c)) ∙ ap (λ (k : ℕ). k % 256 ^ z) (sym q)
+          ap join_bytes (sym (take-take z 8 (drop a u) l)) ∙ join_take z (take 8 (drop a u)) (bytes_take 8 (drop a u) (bytes_drop a u c)) ∙ ap (λ (k : ℕ). k % 256 ^ z) (sym q)

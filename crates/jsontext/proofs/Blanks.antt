@@ -6,19 +6,19 @@ use Prim.Native.Nat.{ℕ, ◌+◌, ◌-◌, ◌<◌, ◌≤◌}
 use native.Mathlib.Omega.{arith}
 use borrow.Author.Tests.{ne_eqb}
 use lib.ListN.{length}
-use Rattle.base.specs.Text.{byteAt}
-use Rattle.base.proofs.Leading.{Led, led-none, led-more, led-stop, led-all}
+use Rattle.base.specs.Text.{byte_at}
+use Rattle.base.proofs.Leading.{Led, led_none, led_more, led_stop, led_all}
 use Rattle.classes.specs.Classes.{space?}
-use Rattle.jsontext.specs.Spaces.{spaceEnd}
+use Rattle.jsontext.specs.Spaces.{space_end}
 
 -- no byte above 32 is a space
-pub blank-above : (b : ℕ) → 32 < b → space? b ≡ false
+pub blank_above : (b : ℕ) → 32 < b → space? b ≡ false
 unfolding space?
-blank-above b h = rw (ne_eqb b 9 (λ e. omega arith), ne_eqb b 10 (λ e. omega arith), ne_eqb b 13 (λ e. omega arith), ne_eqb b 32 (λ e. omega arith))
+blank_above b h = rw (ne_eqb b 9 (λ e. omega arith), ne_eqb b 10 (λ e. omega arith), ne_eqb b 13 (λ e. omega arith), ne_eqb b 32 (λ e. omega arith))
 
 -- whether a space stands k places behind i
 abbrev blank? : List ℕ → ℕ → ℕ → Bool
-blank? t i k = space? (byteAt t (i + k))
+blank? t i k = space? (byte_at t (i + k))
 
 -- spaces stand from place `at` up to place i
 pub record Blank (t : List ℕ) (at i : ℕ) : Type 0 where
@@ -27,22 +27,22 @@ pub record Blank (t : List ℕ) (at i : ℕ) : Type 0 where
 
 module _ (t : List ℕ) (at : ℕ) where
   pub blank_none : Blank t at at
-  blank_none = let z : at - at ≡ 0 = omega arith in record { behind = omega arith; led = rw z (led-none _ _) }
+  blank_none = let z : at - at ≡ 0 = omega arith in record { behind = omega arith; led = rw z (led_none _ _) }
 
   module _ (i : ℕ) (v : Blank t at i) where
     -- the place in question, counted from the first
-    here : space? (byteAt t i) ≡ blank? t at (i - at)
-    here = let e : i ≡ at + (i - at) = omega (arith, v.behind) in ap (λ (n : ℕ). space? (byteAt t n)) e
+    here : space? (byte_at t i) ≡ blank? t at (i - at)
+    here = let e : i ≡ at + (i - at) = omega (arith, v.behind) in ap (λ (n : ℕ). space? (byte_at t n)) e
 
-    pub blank-more : i < length t → space? (byteAt t i) ≡ true → Blank t at (i + 1)
-    blank-more h e =
+    pub blank_more : i < length t → space? (byte_at t i) ≡ true → Blank t at (i + 1)
+    blank_more h e =
         let n : i + 1 - at ≡ i - at + 1 = omega (arith, v.behind) in
-        record { behind = omega (arith, v.behind); led = rw n (led-more _ _ _ v.led (omega (arith, v.behind)) (sym here ∙ e)) }
+        record { behind = omega (arith, v.behind); led = rw n (led_more _ _ _ v.led (omega (arith, v.behind)) (sym here ∙ e)) }
 
-    pub blank-stop : i < length t → space? (byteAt t i) ≡ false → i ≡ spaceEnd t at
-    unfolding spaceEnd
-    blank-stop h e = let n = led-stop _ _ _ v.led (omega (arith, v.behind)) (sym here ∙ e) in omega (arith, v.behind)
+    pub blank_stop : i < length t → space? (byte_at t i) ≡ false → i ≡ space_end t at
+    unfolding space_end
+    blank_stop h e = let n = led_stop _ _ _ v.led (omega (arith, v.behind)) (sym here ∙ e) in omega (arith, v.behind)
 
-    pub blank-all : length t ≤ i → i ≡ spaceEnd t at
-    unfolding spaceEnd
-    blank-all h = let n = led-all _ _ _ v.led (omega arith) in omega (arith, v.behind)
+    pub blank_all : length t ≤ i → i ≡ space_end t at
+    unfolding space_end
+    blank_all h = let n = led_all _ _ _ v.led (omega arith) in omega (arith, v.behind)

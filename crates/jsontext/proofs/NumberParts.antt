@@ -7,8 +7,8 @@ use Prim.Native.Nat.{ℕ, ◌-◌}
 use native.Mathlib.Omega.{arith}
 use Rattle.base.specs.Text.{Got, got, fault}
 use Rattle.document.specs.declared.scalar.Scalar.{Scalar}
-use Rattle.jsontext.specs.Number.{Digits, Number, someDigits, whole_at, exponentAt, plainNumber, afterFraction, fractionAt, afterWhole, asScalar}
-use Rattle.jsontext.specs.NumberAnswer.{carried, carriedAt}
+use Rattle.jsontext.specs.Number.{Digits, Number, some_digits, whole_at, exponent_at, plain_number, after_fraction, fraction_at, after_whole, as_scalar}
+use Rattle.jsontext.specs.NumberAnswer.{carried, carried_at}
 use Rattle.jsontext.specs.declared.number.DigitRun.{DigitRun}
 use Rattle.jsontext.specs.declared.number.DigitsRead.{DigitsRead}
 use Rattle.jsontext.specs.declared.number.DigitsRead.TheVariants.{Digits as Run, Fault as NoDigits}
@@ -19,28 +19,28 @@ pub record Found (g : Got Digits) (r : DigitRun) (n : ℕ) : Type 0 where
   pub is : g ≡ got digits n
   pub held : r ≡ carried digits
 
-pub found : (g : Got Digits) (r : DigitRun) (n : ℕ) (a : DigitsRead) → a ≡ Run r n → a ≡ carriedAt g → Found g r n
+pub found : (g : Got Digits) (r : DigitRun) (n : ℕ) (a : DigitsRead) → a ≡ Run r n → a ≡ carried_at g → Found g r n
 found (got d m) r n a given is = let p : r ≡ carried d = cc in let q : n ≡ m = cc in record { digits = d; is = ap (got d) (sym q); held = p }
 found (fault p) r n a given is = let z : ◌≡◌ {A = ℕ} 0 1 = cc in absurd (omega arith)
 
-pub not_found : (g : Got Digits) (p : ℕ) (a : DigitsRead) → a ≡ NoDigits p → a ≡ carriedAt g → g ≡ fault p
+pub not_found : (g : Got Digits) (p : ℕ) (a : DigitsRead) → a ≡ NoDigits p → a ≡ carried_at g → g ≡ fault p
 not_found (got d n) p a given is = let z : ◌≡◌ {A = ℕ} 0 1 = cc in absurd (omega arith)
 not_found (fault q) p a given is = let e : q ≡ p = cc in ap fault e
 
 -- behind the whole part, and behind a point after the whole part d: what the digits read there lead to
 module _ (t : List ℕ) (s : Bool) where
-  pub whole-read : (i : ℕ) (r : DigitRun) (n : ℕ) (f : Found (whole_at t i) r n) → asScalar (fractionAt t s f.digits n) ≡ asScalar (afterWhole t s (whole_at t i))
-  whole-read i r n f = ap (λ (g : Got Digits). asScalar (afterWhole t s g)) (sym f.is)
+  pub whole_read : (i : ℕ) (r : DigitRun) (n : ℕ) (f : Found (whole_at t i) r n) → as_scalar (fraction_at t s f.digits n) ≡ as_scalar (after_whole t s (whole_at t i))
+  whole_read i r n f = ap (λ (g : Got Digits). as_scalar (after_whole t s g)) (sym f.is)
 
-  pub whole-faults : (g : Got Digits) (p : ℕ) → g ≡ fault p → fault p ≡ asScalar (afterWhole t s g)
-  whole-faults g p e = ap (λ (x : Got Digits). asScalar (afterWhole t s x)) (sym e)
+  pub whole_faults : (g : Got Digits) (p : ℕ) → g ≡ fault p → fault p ≡ as_scalar (after_whole t s g)
+  whole_faults g p e = ap (λ (x : Got Digits). as_scalar (after_whole t s x)) (sym e)
 
-  pub fraction-read : (d : Digits) (i : ℕ) (whole all : DigitRun) (n : ℕ) → whole ≡ carried d → (f : Found (someDigits t d i) all n)
-      → (x : Got (Option Scalar)) → x ≡ asScalar (exponentAt t (plainNumber s f.digits (all.count - whole.count) true) n) → (m : Got Number) → m ≡ afterFraction t s d (someDigits t d i) → x ≡ asScalar m
-  fraction-read d i whole all n held f x answer m is =
+  pub fraction_read : (d : Digits) (i : ℕ) (whole all : DigitRun) (n : ℕ) → whole ≡ carried d → (f : Found (some_digits t d i) all n)
+      → (x : Got (Option Scalar)) → x ≡ as_scalar (exponent_at t (plain_number s f.digits (all.count - whole.count) true) n) → (m : Got Number) → m ≡ after_fraction t s d (some_digits t d i) → x ≡ as_scalar m
+  fraction_read d i whole all n held f x answer m is =
       let w : whole.count ≡ d.count = ap (λ (r : DigitRun). r.count) held in
       let a : all.count ≡ f.digits.count = ap (λ (r : DigitRun). r.count) f.held in
-      (rw (w, a) at answer) ∙ ap asScalar (ap (afterFraction t s d) (sym f.is) ∙ sym is)
+      (rw (w, a) at answer) ∙ ap as_scalar (ap (after_fraction t s d) (sym f.is) ∙ sym is)
 
-  pub fraction-faults : (d : Digits) (g : Got Digits) (p : ℕ) → g ≡ fault p → fault p ≡ asScalar (afterFraction t s d g)
-  fraction-faults d g p e = ap (λ (x : Got Digits). asScalar (afterFraction t s d x)) (sym e)
+  pub fraction_faults : (d : Digits) (g : Got Digits) (p : ℕ) → g ≡ fault p → fault p ≡ as_scalar (after_fraction t s d g)
+  fraction_faults d g p e = ap (λ (x : Got Digits). as_scalar (after_fraction t s d x)) (sym e)

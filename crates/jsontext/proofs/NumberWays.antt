@@ -6,19 +6,19 @@ use Prim.Native.Nat.{ℕ, ◌+◌, ◌-◌}
 use borrow.Author.Tests.{eq-eqb, ne_eqb}
 use lib.Dec.{eqb}
 use lib.ListN.{length}
-use Rattle.base.specs.Text.{byteAt, got, fault}
+use Rattle.base.specs.Text.{byte_at, got, fault}
 use Rattle.classes.specs.Classes.{digit?}
-use Rattle.jsontext.specs.Number.{Digits, Number, digitsOf, noDigits, digitsFrom, someDigits, whole_at, signEnd, withExponent, exponentAt, plainNumber, afterFraction, fractionAt, afterWhole, number_at}
+use Rattle.jsontext.specs.Number.{Digits, Number, digits_of, no_digits, digits_from, some_digits, whole_at, sign_end, with_exponent, exponent_at, plain_number, after_fraction, fraction_at, after_whole, number_at}
 
 -- digits from i on
 module _ (t : List ℕ) (d : Digits) (i : ℕ) where
-  pub some-digits : digit? (byteAt t i) ≡ true → digitsFrom (length t - i) t d i ≡ someDigits t d i
-  unfolding someDigits
-  some-digits e = rw e
+  pub some_digits_lem : digit? (byte_at t i) ≡ true → digits_from (length t - i) t d i ≡ some_digits t d i
+  unfolding some_digits
+  some_digits_lem e = rw e
 
-  pub none-there : digit? (byteAt t i) ≡ false → fault i ≡ someDigits t d i
-  unfolding someDigits
-  none-there e = rw e
+  pub none_there : digit? (byte_at t i) ≡ false → fault i ≡ some_digits t d i
+  unfolding some_digits
+  none_there e = rw e
 
 -- `+` or `-`; `e` or `E`
 abbrev pub sign? : ℕ → Bool
@@ -28,64 +28,64 @@ abbrev pub exponent? : ℕ → Bool
 exponent? b = eqb b 101 || eqb b 69
 
 -- b being the byte at i
-module _ (t : List ℕ) (i b : ℕ) (here : b ≡ byteAt t i) where
-  is : (n : ℕ) → b ≡ n → eqb (byteAt t i) n ≡ true
+module _ (t : List ℕ) (i b : ℕ) (here : b ≡ byte_at t i) where
+  is : (n : ℕ) → b ≡ n → eqb (byte_at t i) n ≡ true
   is n e = eq-eqb _ _ (sym here ∙ e)
 
-  is-not : (n : ℕ) → (b ≡ n → ⊥) → eqb (byteAt t i) n ≡ false
-  is-not n h = ne_eqb _ _ (λ e. h (here ∙ e))
+  is_not : (n : ℕ) → (b ≡ n → ⊥) → eqb (byte_at t i) n ≡ false
+  is_not n h = ne_eqb _ _ (λ e. h (here ∙ e))
 
   -- the whole part
-  pub whole-digits : (b ≡ 48 → ⊥) → someDigits t noDigits i ≡ whole_at t i
+  pub whole_digits : (b ≡ 48 → ⊥) → some_digits t no_digits i ≡ whole_at t i
   unfolding whole_at
-  whole-digits h = rw (is-not 48 h)
+  whole_digits h = rw (is_not 48 h)
 
   module _ (zero-digit : b ≡ 48) where
-    pub whole-more : digit? (byteAt t (i + 1)) ≡ true → fault (i + 1) ≡ whole_at t i
+    pub whole_more : digit? (byte_at t (i + 1)) ≡ true → fault (i + 1) ≡ whole_at t i
     unfolding whole_at
-    whole-more e = rw (is 48 zero-digit, e)
+    whole_more e = rw (is 48 zero-digit, e)
 
-    pub whole-zero : digit? (byteAt t (i + 1)) ≡ false → got (digitsOf 0 1) (i + 1) ≡ whole_at t i
+    pub whole_zero : digit? (byte_at t (i + 1)) ≡ false → got (digits_of 0 1) (i + 1) ≡ whole_at t i
     unfolding whole_at
-    whole-zero e = rw (is 48 zero-digit, e)
+    whole_zero e = rw (is 48 zero-digit, e)
 
   -- a sign
-  pub sign-there : sign? b ≡ true → i + 1 ≡ signEnd t i
-  unfolding signEnd
-  sign-there e = rw (← here, e)
+  pub sign_there : sign? b ≡ true → i + 1 ≡ sign_end t i
+  unfolding sign_end
+  sign_there e = rw (← here, e)
 
-  pub sign-not : sign? b ≡ false → i ≡ signEnd t i
-  unfolding signEnd
-  sign-not e = rw (← here, e)
+  pub sign_not : sign? b ≡ false → i ≡ sign_end t i
+  unfolding sign_end
+  sign_not e = rw (← here, e)
 
   -- an exponent, behind the digits of m
   module _ (m : Number) where
-    letter : (r : Bool) → exponent? b ≡ r → exponent? (byteAt t i) ≡ r
+    letter : (r : Bool) → exponent? b ≡ r → exponent? (byte_at t i) ≡ r
     letter r e = ap exponent? (sym here) ∙ e
 
-    pub exponent-there : exponent? b ≡ true → exponentAt t m i ≡ withExponent m (someDigits t noDigits (signEnd t (i + 1)))
-    unfolding exponentAt
-    exponent-there e = rw (exponentAt, letter true e)
+    pub exponent_there : exponent? b ≡ true → exponent_at t m i ≡ with_exponent m (some_digits t no_digits (sign_end t (i + 1)))
+    unfolding exponent_at
+    exponent_there e = rw (exponent_at, letter true e)
 
-    pub exponent-none : exponent? b ≡ false → exponentAt t m i ≡ got m i
-    unfolding exponentAt
-    exponent-none e = rw (exponentAt, letter false e)
+    pub exponent_none : exponent? b ≡ false → exponent_at t m i ≡ got m i
+    unfolding exponent_at
+    exponent_none e = rw (exponent_at, letter false e)
 
   -- a fraction, behind the whole part d
   module _ (s : Bool) (d : Digits) where
-    pub fraction-none : (b ≡ 46 → ⊥) → fractionAt t s d i ≡ exponentAt t (plainNumber s d 0 false) i
-    unfolding fractionAt
-    fraction-none h = rw (fractionAt, is-not 46 h)
+    pub fraction_none : (b ≡ 46 → ⊥) → fraction_at t s d i ≡ exponent_at t (plain_number s d 0 false) i
+    unfolding fraction_at
+    fraction_none h = rw (fraction_at, is_not 46 h)
 
-    pub fraction-there : b ≡ 46 → fractionAt t s d i ≡ afterFraction t s d (someDigits t d (i + 1))
-    unfolding fractionAt
-    fraction-there e = rw (fractionAt, is 46 e)
+    pub fraction_there : b ≡ 46 → fraction_at t s d i ≡ after_fraction t s d (some_digits t d (i + 1))
+    unfolding fraction_at
+    fraction_there e = rw (fraction_at, is 46 e)
 
   -- the whole number
-  pub number-negative : b ≡ 45 → number_at t i ≡ afterWhole t true (whole_at t (i + 1))
+  pub number_negative : b ≡ 45 → number_at t i ≡ after_whole t true (whole_at t (i + 1))
   unfolding number_at
-  number-negative e = rw (number_at, is 45 e)
+  number_negative e = rw (number_at, is 45 e)
 
-  pub number-plain : (b ≡ 45 → ⊥) → number_at t i ≡ afterWhole t false (whole_at t i)
+  pub number_plain : (b ≡ 45 → ⊥) → number_at t i ≡ after_whole t false (whole_at t i)
   unfolding number_at
-  number-plain h = rw (number_at, is-not 45 h)
+  number_plain h = rw (number_at, is_not 45 h)

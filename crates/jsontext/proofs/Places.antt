@@ -10,23 +10,23 @@ use borrow.Author.Tests.{leb-true, leb-false, le-leb, lt-leb, lt-ltb, eq-eqb}
 use lib.Dec.{eqb, leb, ltb}
 use lib.ListN.{length}
 use Rattle.model.specs.Lists.{any}
-use Rattle.base.specs.Text.{byteAt, Got, got, fault}
+use Rattle.base.specs.Text.{byte_at, Got, got, fault}
 use Rattle.jsontext.specs.Utf8.{between}
 
 pub never : {A : Type 0} → true ≡ false → A
 never e = let z : ◌≡◌ {A = ℕ} 0 1 = cc in absurd (omega arith)
 
 -- a byte that passes a test stands inside, unless 0 passes it
-pub stands : (t : List ℕ) (i : ℕ) (p : ℕ → Bool) → p 0 ≡ false → p (byteAt t i) ≡ true → i < length t
+pub stands : (t : List ℕ) (i : ℕ) (p : ℕ → Bool) → p 0 ≡ false → p (byte_at t i) ≡ true → i < length t
 stands [] i p none e = never (sym e ∙ none)
 stands (x ∷ xs) zero p none e = omega arith
 stands (x ∷ xs) (suc i) p none e = let k = stands xs i p none e in omega arith
 
-pub stands-above : (t : List ℕ) (i : ℕ) → 0 < byteAt t i → i < length t
-stands-above t i h = stands t i (ltb 0) refl (lt-ltb 0 (byteAt t i) h)
+pub stands_above : (t : List ℕ) (i : ℕ) → 0 < byte_at t i → i < length t
+stands_above t i h = stands t i (ltb 0) refl (lt-ltb 0 (byte_at t i) h)
 
-pub stands-as : (t : List ℕ) (i b : ℕ) → eqb 0 b ≡ false → byteAt t i ≡ b → i < length t
-stands-as t i b other e = stands t i (λ x. eqb x b) other (eq-eqb _ _ e)
+pub stands_as : (t : List ℕ) (i b : ℕ) → eqb 0 b ≡ false → byte_at t i ≡ b → i < length t
+stands_as t i b other e = stands t i (λ x. eqb x b) other (eq-eqb _ _ e)
 
 pub both : (a b : Bool) → (a && b) ≡ true → (a ≡ true) × (b ≡ true)
 both true b e = (refl, e)
@@ -47,24 +47,24 @@ none_of p none (there {x = y} {xs = xs} h) = none_of p (neither (p y) (any p xs)
 
 -- a test between two bounds
 module _ (lo hi b : ℕ) where
-  pub in-range : between lo hi b ≡ true → (lo ≤ b) × (b ≤ hi)
-  in-range e = let (p, q) = both (leb lo b) (leb b hi) e in (leb-true lo b p, leb-true b hi q)
+  pub in_range : between lo hi b ≡ true → (lo ≤ b) × (b ≤ hi)
+  in_range e = let (p, q) = both (leb lo b) (leb b hi) e in (leb-true lo b p, leb-true b hi q)
 
-  pub range-in : lo ≤ b → b ≤ hi → between lo hi b ≡ true
-  range-in p q = rw (le-leb lo b p, le-leb b hi q)
+  pub range_in : lo ≤ b → b ≤ hi → between lo hi b ≡ true
+  range_in p q = rw (le-leb lo b p, le-leb b hi q)
 
-  pub range-below : b < lo → between lo hi b ≡ false
-  range-below p = rw (lt-leb lo b p)
+  pub range_below : b < lo → between lo hi b ≡ false
+  range_below p = rw (lt-leb lo b p)
 
-  pub range-above : hi < b → between lo hi b ≡ false
-  range-above q = go (leb lo b)
+  pub range_above : hi < b → between lo hi b ≡ false
+  range_above q = go (leb lo b)
     where
       go : (a : Bool) → (a && leb b hi) ≡ false
       go true = lt-leb b hi q
       go false = refl
 
-  pub past-range : between lo hi b ≡ false → lo ≤ b → hi < b
-  past-range e p = leb-false b hi (rw (le-leb lo b p) at e)
+  pub past_range : between lo hi b ≡ false → lo ≤ b → hi < b
+  past_range e p = leb-false b hi (rw (le-leb lo b p) at e)
 
 -- what was read, with the place after it, is as P says
 pub data Reads {A : Type 0} (P : A → ℕ → Type 0) : Got A → Type 0 where

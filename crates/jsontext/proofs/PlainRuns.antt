@@ -8,8 +8,8 @@ use lib.Dec.{ltb}
 use native.Mathlib.Omega.{arith}
 use lib.ListN.{length}
 use borrow.Author.Tests.{ltb-true, ltb-false}
-use Rattle.document.proofs.Refusals.{true-and}
-use Rattle.base.specs.Text.{byteAt}
+use Rattle.document.proofs.Refusals.{true_and}
+use Rattle.base.specs.Text.{byte_at}
 use Rattle.jsontext.specs.Strings.{plain?}
 use Rattle.jsontext.specs.StringAnswers.{Plains}
 
@@ -21,36 +21,36 @@ below_or_not k i = go (ltb k i) refl
     go false e = inr (ltb-false k i e)
 
 module _ (t : List ℕ) (at : ℕ) where
-  pub plains-none : at ≤ length t → Plains t at at
-  plains-none h = record { forward = omega arith; inside = h; each = λ k a b. absurd (omega arith) }
+  pub plains_none : at ≤ length t → Plains t at at
+  plains_none h = record { forward = omega arith; inside = h; each = λ k a b. absurd (omega arith) }
 
   module _ (i : ℕ) (v : Plains t at i) where
-    pub plains-join : (n : ℕ) → Plains t i n → Plains t at n
-    plains-join n w = record { forward = omega (arith, v.forward, w.forward); inside = w.inside; each = λ k a b. go k a b (below_or_not k i) }
+    pub plains_join : (n : ℕ) → Plains t i n → Plains t at n
+    plains_join n w = record { forward = omega (arith, v.forward, w.forward); inside = w.inside; each = λ k a b. go k a b (below_or_not k i) }
       where
-        go : (k : ℕ) → at ≤ k → k < n → (k < i) ⊎ (i ≤ k) → plain? (byteAt t k) ≡ true
+        go : (k : ℕ) → at ≤ k → k < n → (k < i) ⊎ (i ≤ k) → plain? (byte_at t k) ≡ true
         go k a b (inl h) = v.each k a h
         go k a b (inr h) = w.each k h b
 
-    pub plains-more : i < length t → plain? (byteAt t i) ≡ true → Plains t at (i + 1)
-    plains-more h e =
-        plains-join (i + 1)
-        (record { forward = omega arith; inside = omega arith; each = λ k a b. let z : i ≡ k = omega arith in subst (λ (x : ℕ). plain? (byteAt t x) ≡ true) z e })
+    pub plains_more : i < length t → plain? (byte_at t i) ≡ true → Plains t at (i + 1)
+    plains_more h e =
+        plains_join (i + 1)
+        (record { forward = omega arith; inside = omega arith; each = λ k a b. let z : i ≡ k = omega arith in subst (λ (x : ℕ). plain? (byte_at t x) ≡ true) z e })
 
 -- fewer of them
-pub plains-fewer : (t : List ℕ) (i n e : ℕ) → i ≤ n → n ≤ e → Plains t i e → Plains t i n
-plains-fewer t i n e h l v = record { forward = h; inside = omega (arith, v.inside); each = λ k a b. v.each k a (omega arith) }
+pub plains_fewer : (t : List ℕ) (i n e : ℕ) → i ≤ n → n ≤ e → Plains t i e → Plains t i n
+plains_fewer t i n e h l v = record { forward = h; inside = omega (arith, v.inside); each = λ k a b. v.each k a (omega arith) }
 
 -- a block so far, where all its bytes passed
 pub block_none : (t : List ℕ) (at : ℕ) → at ≤ length t → true ≡ true → Plains t at (at + 0)
-block_none t at h = λ _. let z : at ≡ at + 0 = omega arith in subst (Plains t at) z (plains-none t at h)
+block_none t at h = λ _. let z : at ≡ at + 0 = omega arith in subst (Plains t at) z (plains_none t at h)
 
 module _ (t : List ℕ) (at k : ℕ) (all : Bool) (v : all ≡ true → Plains t at (at + k)) where
-  pub block_more : (p : Bool) → at + k < length t → p ≡ plain? (byteAt t (at + k)) → (all && p) ≡ true → Plains t at (at + (k + 1))
+  pub block_more : (p : Bool) → at + k < length t → p ≡ plain? (byte_at t (at + k)) → (all && p) ≡ true → Plains t at (at + (k + 1))
   block_more p h e a =
-      let (x, y) = true-and all p a in
+      let (x, y) = true_and all p a in
       let z : at + k + 1 ≡ at + (k + 1) = omega arith in
-      subst (Plains t at) z (plains-more t at (at + k) (v x) h (sym e ∙ y))
+      subst (Plains t at) z (plains_more t at (at + k) (v x) h (sym e ∙ y))
 
-  pub block-all : k ≡ 64 → all ≡ true → Plains t at (at + 64)
-  block-all z a = subst (λ (n : ℕ). Plains t at (at + n)) z (v a)
+  pub block_all : k ≡ 64 → all ≡ true → Plains t at (at + 64)
+  block_all z a = subst (λ (n : ℕ). Plains t at (at + n)) z (v a)

@@ -14,11 +14,11 @@ use lib.Ieee.Back.{round_whole}
 use lib.Ieee.Scale.{round_same}
 use borrow.Author.Tests.{ne_eqb}
 use Rattle.jsontext.specs.Number.{quotient, signed, rate}
-use Rattle.jsontext.specs.Rate.{nearestRate}
+use Rattle.jsontext.specs.Rate.{nearest_rate}
 
 -- powers of ten rise, each by a factor of ten
-pub power-more : (k : ℕ) → 10 ^ (k + 1) ≡ 10 ^ k * 10
-power-more k = rw add-one (pow-suc 10 k)
+pub power_more : (k : ℕ) → 10 ^ (k + 1) ≡ 10 ^ k * 10
+power_more k = rw add-one (pow-suc 10 k)
 
 pub power_below : (k n : ℕ) → k ≤ n → 10 ^ k ≤ 10 ^ n
 power_below k n h = pow-le-pow_right {n = 10} (omega arith) {i = k} {j = n} h
@@ -33,8 +33,8 @@ unfolding of_int
 exact n h = round_whole binary64 false n h
 
 -- of two floats that are whole numbers the quotient is the fraction of the numbers, rounded once
-not-zero : (n u p w : ℕ) → 0 < p → 0 < w → n * u * 1 ≡ p * w → n ≡ 0 → ⊥
-not-zero n u p w P W e z =
+not_zero : (n u p w : ℕ) → 0 < p → 0 < w → n * u * 1 ≡ p * w → n ≡ 0 → ⊥
+not_zero n u p w P W e z =
     let k : 0 < p * w = mul-pos P W in
     let q : n * u * 1 ≡ 0 = ap (λ (x : ℕ). x * u * 1) z ∙ ap (λ (x : ℕ). x * 1) (zero-mul u) in
     omega arith
@@ -48,31 +48,31 @@ divided (fin s m e) (inf t) d p P a b = absurd b
 divided (fin true m e) (fin t n g) d p P a b = absurd (true≢false a.0)
 divided (fin false m e) (fin true n g) d p P a b = absurd (true≢false b.0)
 divided (fin false m e) (fin false n g) d p P a b =
-    let z : n ≡ 0 → ⊥ = not-zero n (up g) p (down g) P (down_pos g) b.1 in
+    let z : n ≡ 0 → ⊥ = not_zero n (up g) p (down g) P (down_pos g) b.1 in
     rw (ne_eqb n 0 z)
     (round_same binary64 false (m * up e * down g) (n * up g * down e) d p below P same)
   where
-    m-is : m * up e ≡ d * down e
-    m-is = sym (mul-one (m * up e)) ∙ a.1
+    m_is : m * up e ≡ d * down e
+    m_is = sym (mul-one (m * up e)) ∙ a.1
 
-    n-is : n * up g ≡ p * down g
-    n-is = sym (mul-one (n * up g)) ∙ b.1
+    n_is : n * up g ≡ p * down g
+    n_is = sym (mul-one (n * up g)) ∙ b.1
 
     below : 0 < n * up g * down e
-    below = subst (λ (x : ℕ). 0 < x * down e) (sym n-is) (mul-pos (mul-pos P (down_pos g)) (down_pos e))
+    below = subst (λ (x : ℕ). 0 < x * down e) (sym n_is) (mul-pos (mul-pos P (down_pos g)) (down_pos e))
 
     same : m * up e * down g * p ≡ d * (n * up g * down e)
     same =
-        ap (λ (x : ℕ). x * down g * p) m-is
+        ap (λ (x : ℕ). x * down g * p) m_is
         ∙ (simp (mul_assoc, mul_comm, mul_left_comm))
-        ∙ sym (ap (λ (x : ℕ). d * (x * down e)) n-is)
+        ∙ sym (ap (λ (x : ℕ). d * (x * down e)) n_is)
 
-pub quotient-nearest : (d p : ℕ) → d ≤ 2 ^ 53 → 0 < p → p ≤ 2 ^ 53 → quotient d p ≡ round binary64 false d p
-quotient-nearest d p a b c = divided (of_int binary64 (pos d)) (of_int binary64 (pos p)) d p b (exact d a) (exact p c)
+pub quotient_nearest : (d p : ℕ) → d ≤ 2 ^ 53 → 0 < p → p ≤ 2 ^ 53 → quotient d p ≡ round binary64 false d p
+quotient_nearest d p a b c = divided (of_int binary64 (pos d)) (of_int binary64 (pos p)) d p b (exact d a) (exact p c)
 
 -- The rate is the number's own fraction, rounded once to the nearest f64, with the sign put on afterwards.
-pub rate-nearest : (negative : Bool) (digits places : ℕ) → digits < 10 ^ 15 → places ≤ 15 → rate negative digits places ≡ nearestRate negative digits places
-unfolding rate nearestRate
-rate-nearest negative digits places d k =
+pub rate_nearest : (negative : Bool) (digits places : ℕ) → digits < 10 ^ 15 → places ≤ 15 → rate negative digits places ≡ nearest_rate negative digits places
+unfolding rate nearest_rate
+rate_nearest negative digits places d k =
     let few : 10 ^ places ≤ 10 ^ 15 = power_below places 15 k in
-    ap (signed negative) (quotient-nearest digits (10 ^ places) (omega arith) (one-le-pow places 10 (omega arith)) (omega arith))
+    ap (signed negative) (quotient_nearest digits (10 ^ places) (omega arith) (one-le-pow places 10 (omega arith)) (omega arith))

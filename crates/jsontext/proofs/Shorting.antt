@@ -10,10 +10,10 @@ use borrow.Author.Tests.{eqb-false, ltb-false}
 use lib.Dec.{eqb, ltb}
 use lib.ListN.{length, take, drop}
 use lib.Seq.{get_or-take, get_or-drop}
-use Rattle.base.specs.Text.{byteAt, got}
+use Rattle.base.specs.Text.{byte_at, got}
 use Rattle.base.proofs.Bytes.{byte_inside}
-use Rattle.jsontext.specs.Strings.{plain?, stringAt}
-use Rattle.jsontext.specs.Decoded.{joinBytes}
+use Rattle.jsontext.specs.Strings.{plain?, string_at}
+use Rattle.jsontext.specs.Decoded.{join_bytes}
 use Rattle.jsontext.specs.Scanned.{part}
 use Rattle.jsontext.specs.StringAnswers.{Plains}
 use Rattle.jsontext.specs.Kept.{Bytes}
@@ -23,7 +23,7 @@ use Rattle.jsontext.proofs.Places.{neither}
 use Rattle.jsontext.proofs.Joining.{word_cut}
 use Rattle.jsontext.proofs.PlainRuns.{below_or_not}
 use Rattle.jsontext.proofs.Keeping.{part_length}
-use Rattle.jsontext.proofs.Quoting.{quoted-inner, quoted-end, quoted-string, bytes-agree}
+use Rattle.jsontext.proofs.Quoting.{quoted_inner, quoted_end, quoted_string, bytes_agree}
 
 -- ---- the string that it is
 module _ (t : List ℕ) (at slot end : ℕ) (v : ShortAt t at slot end) where
@@ -36,7 +36,7 @@ module _ (t : List ℕ) (at slot end : ℕ) (v : ShortAt t at slot end) where
   inside : end < length t
   inside = byte_inside t end 34 (sym v.closes) (omega arith)
 
-  inner : (k : ℕ) → k < length key → byteAt key k ≡ byteAt t (at + 1 + k)
+  inner : (k : ℕ) → k < length key → byte_at key k ≡ byte_at t (at + 1 + k)
   inner k h = get_or-take (end - (at + 1)) (drop (at + 1) t) k 0 (omega (arith, size)) ∙ get_or-drop (at + 1) t k 0
 
   plain : Plains key 0 (length key)
@@ -47,38 +47,38 @@ module _ (t : List ℕ) (at slot end : ℕ) (v : ShortAt t at slot end) where
         each = λ k a b. ap plain? (inner k b) ∙ v.plain.each (at + 1 + k) (omega arith) (omega (arith, size));
       }
 
-  between : (k : ℕ) → k < length key + 2 → byteAt t (at + k) ≡ byteAt (quoted key) k
-  between zero h = let z : at + 0 ≡ at = omega arith in ap (byteAt t) z ∙ v.opens
+  between : (k : ℕ) → k < length key + 2 → byte_at t (at + k) ≡ byte_at (quoted key) k
+  between zero h = let z : at + 0 ≡ at = omega arith in ap (byte_at t) z ∙ v.opens
   between (suc k) h = ⊎_elim front back (below_or_not k (length key))
     where
-      front : k < length key → byteAt t (at + suc k) ≡ byteAt (quoted key) (suc k)
+      front : k < length key → byte_at t (at + suc k) ≡ byte_at (quoted key) (suc k)
       front l =
           let z : at + suc k ≡ at + 1 + k = omega arith in
-          ap (byteAt t) z ∙ sym (inner k l) ∙ sym (quoted-inner key k l) ∙ ap (byteAt (quoted key)) (add-one k)
+          ap (byte_at t) z ∙ sym (inner k l) ∙ sym (quoted_inner key k l) ∙ ap (byte_at (quoted key)) (add-one k)
 
-      back : length key ≤ k → byteAt t (at + suc k) ≡ byteAt (quoted key) (suc k)
+      back : length key ≤ k → byte_at t (at + suc k) ≡ byte_at (quoted key) (suc k)
       back l =
           let y : at + suc k ≡ end = omega (arith, size, v.plain.forward) in
           let z : length key + 1 ≡ suc k = omega arith in
-          ap (byteAt t) y ∙ v.closes ∙ sym (quoted-end key) ∙ ap (byteAt (quoted key)) z
+          ap (byte_at t) y ∙ v.closes ∙ sym (quoted_end key) ∙ ap (byte_at (quoted key)) z
 
-  again : (j : ℕ) → SameBytes t at j (end + 1 - at) → stringAt t j ≡ got key (j + (end + 1 - at))
+  again : (j : ℕ) → SameBytes t at j (end + 1 - at) → string_at t j ≡ got key (j + (end + 1 - at))
   again j s =
       let n : end + 1 - at ≡ length key + 2 = omega (arith, size, v.plain.forward) in
-      quoted-string t key j plain (omega (arith, s.inside)) (λ k h. s.same k (omega arith) ∙ between k h) (end + 1 - at) n
+      quoted_string t key j plain (omega (arith, s.inside)) (λ k h. s.same k (omega arith) ∙ between k h) (end + 1 - at) n
 
-pub short-string : (t : List ℕ) (at slot end : ℕ) → ShortAt t at slot end → stringAt t at ≡ got (part t (at + 1) end) (end + 1)
-short-string t at slot end v =
+pub short_string : (t : List ℕ) (at slot end : ℕ) → ShortAt t at slot end → string_at t at ≡ got (part t (at + 1) end) (end + 1)
+short_string t at slot end v =
     let z : at + (end + 1 - at) ≡ end + 1 = omega (arith, v.plain.forward) in
     again t at slot end v at (record { inside = omega (arith, inside t at slot end v); same = λ k h. refl }) ∙ ap (got (part t (at + 1) end)) z
 
-pub short-again : (t : List ℕ) (at slot end j : ℕ) → ShortAt t at slot end → SameBytes t at j (end + 1 - at) → stringAt t j ≡ got (part t (at + 1) end) (j + (end + 1 - at))
-short-again t at slot end j v s = again t at slot end v j s
+pub short_again : (t : List ℕ) (at slot end j : ℕ) → ShortAt t at slot end → SameBytes t at j (end + 1 - at) → string_at t j ≡ got (part t (at + 1) end) (j + (end + 1 - at))
+short_again t at slot end j v s = again t at slot end v j s
 
 -- ---- the same bytes at two places, by their words
 -- what the tests say
-pub both-inside : (l i j n : ℕ) → 16 ≤ l → (((ltb (l - 16) i || ltb (l - 16) j) || eqb n 0) || ltb 16 n) ≡ false → (i + 16 ≤ l) × (j + 16 ≤ l) × (0 < n) × (n ≤ 16)
-both-inside l i j n h e =
+pub both_inside : (l i j n : ℕ) → 16 ≤ l → (((ltb (l - 16) i || ltb (l - 16) j) || eqb n 0) || ltb 16 n) ≡ false → (i + 16 ≤ l) × (j + 16 ≤ l) × (0 < n) × (n ≤ 16)
+both_inside l i j n h e =
     let (f, few) = neither ((ltb (l - 16) i || ltb (l - 16) j) || eqb n 0) (ltb 16 n) e in
     let (g, some) = neither (ltb (l - 16) i || ltb (l - 16) j) (eqb n 0) f in
     let (first, second) = neither (ltb (l - 16) i) (ltb (l - 16) j) g in
@@ -87,27 +87,27 @@ both-inside l i j n h e =
     let c = eqb-false n 0 some in
     (omega (arith, a), omega (arith, b), omega (arith, c), ltb-false 16 n few)
 
-module _ (t : List ℕ) (b : Bytes t) (i j n : ℕ) (first : i + 16 ≤ length t) (second : j + 16 ≤ length t) (v w : ℕ) (e : v ≡ joinBytes (take 8 (drop i t))) (f : w ≡ joinBytes (take 8 (drop j t))) where
-  pub same-few : n < 8 → v * 2 ^ (64 - 8 * n) % 2 ^ 64 ≡ w * 2 ^ (64 - 8 * n) % 2 ^ 64 → SameBytes t i j n
-  same-few h s =
+module _ (t : List ℕ) (b : Bytes t) (i j n : ℕ) (first : i + 16 ≤ length t) (second : j + 16 ≤ length t) (v w : ℕ) (e : v ≡ join_bytes (take 8 (drop i t))) (f : w ≡ join_bytes (take 8 (drop j t))) where
+  pub same_few : n < 8 → v * 2 ^ (64 - 8 * n) % 2 ^ 64 ≡ w * 2 ^ (64 - 8 * n) % 2 ^ 64 → SameBytes t i j n
+  same_few h s =
       record {
         inside = omega arith;
-        same = bytes-agree t t b b n j i (omega arith) (omega arith) (sym (word_cut t b j n w (omega arith) f) ∙ ap (λ (k : ℕ). k / 2 ^ (64 - 8 * n)) (sym s) ∙ word_cut t b i n v (omega arith) e);
+        same = bytes_agree t t b b n j i (omega arith) (omega arith) (sym (word_cut t b j n w (omega arith) f) ∙ ap (λ (k : ℕ). k / 2 ^ (64 - 8 * n)) (sym s) ∙ word_cut t b i n v (omega arith) e);
       }
 
-  pub same-many : (x y : ℕ) → 8 ≤ n → n ≤ 16 → v ≡ w → x ≡ joinBytes (take 8 (drop (i + n - 8) t)) → y ≡ joinBytes (take 8 (drop (j + n - 8) t)) → x ≡ y → SameBytes t i j n
-  same-many x y h l s p q r =
+  pub same_many : (x y : ℕ) → 8 ≤ n → n ≤ 16 → v ≡ w → x ≡ join_bytes (take 8 (drop (i + n - 8) t)) → y ≡ join_bytes (take 8 (drop (j + n - 8) t)) → x ≡ y → SameBytes t i j n
+  same_many x y h l s p q r =
       record {
         inside = omega arith;
-        same = λ k o. ⊎_elim (bytes-agree t t b b 8 j i (omega arith) (omega arith) (sym f ∙ sym s ∙ e) k) (behind k o) (below_or_not k 8);
+        same = λ k o. ⊎_elim (bytes_agree t t b b 8 j i (omega arith) (omega arith) (sym f ∙ sym s ∙ e) k) (behind k o) (below_or_not k 8);
       }
     where
       -- counted from the last eight on
       from : (a k : ℕ) → 8 ≤ k → k < n → a + k ≡ a + n - 8 + (k - (n - 8))
       from a k m o = omega arith
 
-      behind : (k : ℕ) → k < n → 8 ≤ k → byteAt t (j + k) ≡ byteAt t (i + k)
+      behind : (k : ℕ) → k < n → 8 ≤ k → byte_at t (j + k) ≡ byte_at t (i + k)
       behind k o m =
-          ap (byteAt t) (from j k m o)
-          ∙ bytes-agree t t b b 8 (j + n - 8) (i + n - 8) (omega arith) (omega arith) (sym q ∙ sym r ∙ p) (k - (n - 8)) (omega arith)
-          ∙ ap (byteAt t) (sym (from i k m o))
+          ap (byte_at t) (from j k m o)
+          ∙ bytes_agree t t b b 8 (j + n - 8) (i + n - 8) (omega arith) (omega arith) (sym q ∙ sym r ∙ p) (k - (n - 8)) (omega arith)
+          ∙ ap (byte_at t) (sym (from i k m o))

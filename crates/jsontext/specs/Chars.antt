@@ -2,7 +2,7 @@
 use Rattle.std.specs.Prelude.{◌≡◌, true, List, ℕ, ◌+◌, ◌≤◌, ◌<◌, T, length}
 use Rattle.jsontext.specs.Strings.{bad, piece_at}
 use Rattle.jsontext.specs.Productions.{CharAt}
-use Rattle.jsontext.specs.Decoded.{joinBytes}
+use Rattle.jsontext.specs.Decoded.{join_bytes}
 use Rattle.jsontext.specs.Kept.{Bytes}
 use Rattle.jsontext.specs.StringAnswers.{Ahead}
 use Rattle.jsontext.specs.declared.chars.CharRead.{CharRead}
@@ -12,7 +12,7 @@ use Rattle.jsontext.specs.declared.chars.CharRead.TheVariants.{Char, Broken}
 pub record Joined (bs : List ℕ) (w m : ℕ) : Type 0 where
   pub bytes : Bytes bs
   pub count : m ≡ length bs
-  pub joined : w ≡ joinBytes bs
+  pub joined : w ≡ join_bytes bs
 
 -- from i up to n stands a char, and its m bytes are joined into w
 pub record Character (t : List ℕ) (i w m n : ℕ) : Type 0 where

@@ -5,16 +5,16 @@ use Rattle.model.specs.Lists.{eq_list}
 use Rattle.base.specs.Text.{Got, got, fault}
 
 -- a number from bytes, the first lowest
-abbrev pub joinBytes : List ℕ → ℕ
-joinBytes [] = 0
-joinBytes (b ∷ bs) = b + 256 * joinBytes bs
+abbrev pub join_bytes : List ℕ → ℕ
+join_bytes [] = 0
+join_bytes (b ∷ bs) = b + 256 * join_bytes bs
 
 -- the first eight bytes, and the last eight, where zeros stand ahead of fewer
-abbrev pub firstEight : List ℕ → ℕ
-firstEight bs = joinBytes (take 8 bs)
+abbrev pub first_eight : List ℕ → ℕ
+first_eight bs = join_bytes (take 8 bs)
 
-abbrev pub lastEight : List ℕ → ℕ
-lastEight bs = joinBytes (drop (length bs) (replicate 8 0 ++ bs))
+abbrev pub last_eight : List ℕ → ℕ
+last_eight bs = join_bytes (drop (length bs) (replicate 8 0 ++ bs))
 
 -- a hash of n, a and z: n and each half of a and of z times a prime of its own; nothing but speed rests on it
 abbrev pub hashed : ℕ → ℕ → ℕ → ℕ
@@ -24,20 +24,20 @@ hashed n a z =
     (n * 374761393)
 
 -- the slot, of 2,048, where a text is looked for first, by how many bytes it has, its first eight and its last eight: bits of the hash on which all of these work
-unfoldable pub textSlot : List ℕ → ℕ
-textSlot bs = hashed (length bs % 2 ^ 32) (firstEight bs) (lastEight bs) % 2 ^ 32 / 2 ^ 21
+unfoldable pub text_slot : List ℕ → ℕ
+text_slot bs = hashed (length bs % 2 ^ 32) (first_eight bs) (last_eight bs) % 2 ^ 32 / 2 ^ 21
 
 -- a string's slot and the place after it
-abbrev pub asSlot : Got (List ℕ) → Got ℕ
-asSlot (got bs n) = got (textSlot bs) n
-asSlot (fault p) = fault p
+abbrev pub as_slot : Got (List ℕ) → Got ℕ
+as_slot (got bs n) = got (text_slot bs) n
+as_slot (fault p) = fault p
 
 -- a string is these bytes after decoding
-abbrev pub isText : Got (List ℕ) → List ℕ → Bool
-isText (got bs n) line = eq_list bs line
-isText (fault p) line = false
+abbrev pub is_text : Got (List ℕ) → List ℕ → Bool
+is_text (got bs n) line = eq_list bs line
+is_text (fault p) line = false
 
 -- two strings are the same after decoding
-abbrev pub sameText : Got (List ℕ) → Got (List ℕ) → Bool
-sameText (got x m) g = isText g x
-sameText (fault p) g = false
+abbrev pub same_text : Got (List ℕ) → Got (List ℕ) → Bool
+same_text (got x m) g = is_text g x
+same_text (fault p) g = false

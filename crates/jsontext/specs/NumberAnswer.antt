@@ -1,12 +1,12 @@
 -- What the number scanner's answers stand for. Assumes nothing.
 use Rattle.std.specs.Prelude.{◌≡◌, true, false, List, ℕ, ◌+◌, ◌-◌, ◌*◌, ◌^◌, ◌<◌, ◌≤◌, min, T, ltb, length}
 use Rattle.std.proofs.Math.Option.{Option, none, some}
-use Rattle.base.specs.Text.{byteAt, Got, got, fault}
+use Rattle.base.specs.Text.{byte_at, Got, got, fault}
 use Rattle.classes.specs.Classes.{digit?}
 use Rattle.document.specs.declared.scalar.Scalar.{Scalar}
 use Rattle.document.specs.declared.scalar.Scalar.TheVariants.{Count}
-use Rattle.document.specs.Scalars.{rowRate}
-use Rattle.jsontext.specs.Number.{Digits, digitsOf, digitsFrom, fractionAt, number_at}
+use Rattle.document.specs.Scalars.{row_rate}
+use Rattle.jsontext.specs.Number.{Digits, digits_of, digits_from, fraction_at, number_at}
 use Rattle.jsontext.specs.declared.digits.ShortRun.{ShortRun}
 use Rattle.jsontext.specs.declared.number.DigitRun.{DigitRun}
 use Rattle.jsontext.specs.declared.number.DigitsRead.{DigitsRead}
@@ -33,9 +33,9 @@ BoundedFrom n (Run r i) = Bounded r i × (n ≤ r.count)
 BoundedFrom n (NoDigits p) = T true
 
 -- digits at a place as they are answered
-abbrev pub carriedAt : Got Digits → DigitsRead
-carriedAt (got d n) = Run (carried d) n
-carriedAt (fault p) = NoDigits p
+abbrev pub carried_at : Got Digits → DigitsRead
+carried_at (got d n) = Run (carried d) n
+carried_at (fault p) = NoDigits p
 
 -- What was taken for digits after others, which come to `before`, from place `at` up to place i, comes to v.
 pub record Within (before at last v i : ℕ) : Type 0 where
@@ -45,13 +45,13 @@ pub record Within (before at last v i : ℕ) : Type 0 where
 
 -- It is digits, so the digits from `at` on are they and those from i on.
 pub record Summed (t : List ℕ) (before at v i : ℕ) : Type 0 where
-  pub first : at < i → digit? (byteAt t at) ≡ true
-  pub same : (n : ℕ) → digitsFrom (length t - i) t (digitsOf v (n + (i - at))) i ≡ digitsFrom (length t - at) t (digitsOf before n) at
+  pub first : at < i → digit? (byte_at t at) ≡ true
+  pub same : (n : ℕ) → digits_from (length t - i) t (digits_of v (n + (i - at))) i ≡ digits_from (length t - at) t (digits_of before n) at
 
 -- Digits were read from place `at` up to the first byte that is none, or up to place `last`.
 pub record FewRead (t : List ℕ) (before at last : ℕ) (r : ShortRun) : Type 0 where
   pub summed : Summed t before at r.value r.end
-  pub stops : r.end < last → digit? (byteAt t r.end) ≡ false
+  pub stops : r.end < last → digit? (byte_at t r.end) ≡ false
 
 -- What was taken for the digits of a whole part at place `at`: at most 18, before the last bytes of the text.
 pub record ShortWhole (t : List ℕ) (at : ℕ) (r : ShortRun) : Type 0 where
@@ -62,11 +62,11 @@ pub record ShortWhole (t : List ℕ) (at : ℕ) (r : ShortRun) : Type 0 where
 
 -- The number at a place has no sign, and these digits are its whole part.
 abbrev pub Begins : List ℕ → ℕ → ShortRun → Type 0
-Begins t at r = number_at t at ≡ fractionAt t false (digitsOf r.value (r.end - at)) r.end
+Begins t at r = number_at t at ≡ fraction_at t false (digits_of r.value (r.end - at)) r.end
 
 -- a number: its scalar, or none where it is outside the forms that become one
 abbrev pub number_of : NumberRead → Got (Option Scalar)
 number_of (Counted v n) = got (some (Count v)) n
-number_of (Rated bits n) = got (some (rowRate bits)) n
+number_of (Rated bits n) = got (some (row_rate bits)) n
 number_of (Outside n) = got none n
 number_of (Fault p) = fault p

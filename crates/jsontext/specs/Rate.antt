@@ -5,5 +5,5 @@ use Rattle.std.specs.Float.Ieee.{round}
 use Rattle.jsontext.specs.Number.{signed}
 
 -- the digits over the power of ten, rounded once, then the sign: what `rate` comes to (proofs/Rates)
-unfoldable pub nearestRate : Bool → ℕ → ℕ → Float
-nearestRate negative digits places = signed negative (round binary64 false digits (10 ^ places))
+unfoldable pub nearest_rate : Bool → ℕ → ℕ → Float
+nearest_rate negative digits places = signed negative (round binary64 false digits (10 ^ places))

@@ -1,6 +1,6 @@
 -- A string read up to a place. Assumes nothing.
 use Rattle.std.specs.Prelude.{◌≡◌, List, ℕ, ◌+◌, ◌-◌, ◌≤◌, length, take, drop}
-use Rattle.jsontext.specs.Strings.{withFront, stringFrom, stringAt}
+use Rattle.jsontext.specs.Strings.{with_front, string_from, string_at}
 
 -- the bytes from i up to n
 abbrev pub part : List ℕ → ℕ → ℕ → List ℕ
@@ -11,4 +11,4 @@ pub record Scanned (t : List ℕ) (at i : ℕ) (front : List ℕ) : Type 0 where
   pub fuel : ℕ
   pub enough : length t ≤ i + fuel
   pub inside : i ≤ length t
-  pub string : stringAt t at ≡ withFront front (stringFrom fuel t i)
+  pub string : string_at t at ≡ with_front front (string_from fuel t i)

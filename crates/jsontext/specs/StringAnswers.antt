@@ -1,7 +1,7 @@
 -- What the answers of the functions on strings stand for. Assumes nothing.
 use Rattle.std.specs.Prelude.{◌≡◌, true, false, cond, List, ℕ, ◌+◌, ◌≤◌, ◌<◌, T, length}
-use Rattle.base.specs.Text.{byteAt, Got, got, fault}
-use Rattle.jsontext.specs.Utf8.{Stretch, up_to, brokenAt}
+use Rattle.base.specs.Text.{byte_at, Got, got, fault}
+use Rattle.jsontext.specs.Utf8.{Stretch, up_to, broken_at}
 use Rattle.jsontext.specs.Strings.{Piece, closed, raw, code, bad, plain?}
 use Rattle.jsontext.specs.declared.utf8.StretchRead.{StretchRead}
 use Rattle.jsontext.specs.declared.utf8.StretchRead.TheVariants.{UpTo, BrokenAt}
@@ -12,13 +12,13 @@ use Rattle.jsontext.specs.declared.pieces.StringPiece.TheVariants.{Closed, Raw, 
 use Rattle.jsontext.specs.declared.strings.StringRead.{StringRead}
 use Rattle.jsontext.specs.declared.strings.StringRead.TheVariants.{Whole, Fault as NoWhole}
 
-abbrev pub stretchOf : StretchRead → Stretch
-stretchOf (UpTo n) = up_to n
-stretchOf (BrokenAt p) = brokenAt p
+abbrev pub stretch_of : StretchRead → Stretch
+stretch_of (UpTo n) = up_to n
+stretch_of (BrokenAt p) = broken_at p
 
-abbrev pub hexOf : HexRead → Got ℕ
-hexOf (Number v n) = got v n
-hexOf (NoNumber p) = fault p
+abbrev pub hex_of : HexRead → Got ℕ
+hex_of (Number v n) = got v n
+hex_of (NoNumber p) = fault p
 
 abbrev pub piece_of : StringPiece → Piece
 piece_of Closed = closed
@@ -56,7 +56,7 @@ slot_of (NoWhole p) = fault p
 pub record Plains (t : List ℕ) (i n : ℕ) : Type 0 where
   pub forward : i ≤ n
   pub inside : n ≤ length t
-  pub each : (k : ℕ) → i ≤ k → k < n → plain? (byteAt t k) ≡ true
+  pub each : (k : ℕ) → i ≤ k → k < n → plain? (byte_at t k) ≡ true
 
 -- the highest bit of a byte, where the byte does not stand for itself
 abbrev pub mark : ℕ → ℕ

@@ -1,6 +1,6 @@
 -- UTF-8: the well-formed byte sequences of the Unicode standard, table 3-7, and the bytes of a code point. Assumes nothing.
 use Rattle.std.specs.Prelude.{List, [], ◌∷◌, Bool, true, false, ◌&&◌, cond, ℕ, ◌+◌, ◌/◌, ◌%◌, leb, ltb}
-use Rattle.base.specs.Text.{byteAt}
+use Rattle.base.specs.Text.{byte_at}
 
 -- a byte from lo to hi
 abbrev pub between : ℕ → ℕ → ℕ → Bool
@@ -9,7 +9,7 @@ between lo hi b = leb lo b && leb b hi
 -- a stretch of bytes: up to a place, or broken at the first byte that does not belong to it
 pub data Stretch : Type 0 where
   up_to : ℕ → Stretch
-  brokenAt : ℕ → Stretch
+  broken_at : ℕ → Stretch
 
 -- a row of the table: what its first byte is, and each that follows
 pub record Sequence : Type 0 where
@@ -37,20 +37,20 @@ sequences =
     ∷ []
 
 -- bytes at i that pass the tests in turn
-unfoldable pub passAt : List (ℕ → Bool) → List ℕ → ℕ → Stretch
-passAt [] t i = up_to i
-passAt (p ∷ ps) t i = elim (p (byteAt t i)) [ true ↦ passAt ps t (i + 1) | false ↦ brokenAt i ]
+unfoldable pub pass_at : List (ℕ → Bool) → List ℕ → ℕ → Stretch
+pass_at [] t i = up_to i
+pass_at (p ∷ ps) t i = elim (p (byte_at t i)) [ true ↦ pass_at ps t (i + 1) | false ↦ broken_at i ]
 
 -- the row of the first of these that the byte at i begins
-unfoldable pub sequenceIn : List Sequence → List ℕ → ℕ → Stretch
-unfolding passAt
-sequenceIn [] t i = brokenAt i
-sequenceIn (s ∷ ss) t i = elim (s.lead (byteAt t i)) [ true ↦ passAt s.more t (i + 1) | false ↦ sequenceIn ss t i ]
+unfoldable pub sequence_in : List Sequence → List ℕ → ℕ → Stretch
+unfolding pass_at
+sequence_in [] t i = broken_at i
+sequence_in (s ∷ ss) t i = elim (s.lead (byte_at t i)) [ true ↦ pass_at s.more t (i + 1) | false ↦ sequence_in ss t i ]
 
 -- the well-formed sequence of two bytes or more at i
-unfoldable pub sequenceAt : List ℕ → ℕ → Stretch
-unfolding sequenceIn
-sequenceAt t i = sequenceIn sequences t i
+unfoldable pub sequence_at : List ℕ → ℕ → Stretch
+unfolding sequence_in
+sequence_at t i = sequence_in sequences t i
 
 -- the bytes of a code point (below 2^21, so that the last remainder changes nothing)
 unfoldable pub utf8 : ℕ → List ℕ

@@ -1,7 +1,7 @@
 // A character of a string, decoded: its UTF-8 bytes, whether they stand in the text or come from an escape.
 ghost use Rattle.std.specs.Prelude.{◌≡◌};
-ghost use Rattle.classes.specs.Classes.{classTable};
-ghost use Rattle.base.specs.Text.{byteAt};
+ghost use Rattle.classes.specs.Classes.{class_table};
+ghost use Rattle.base.specs.Text.{byte_at};
 ghost use Rattle.jsontext.specs.Utf8.{utf8};
 ghost use Rattle.jsontext.specs.Chars.{Joined, CharSays, CharInside};
 
@@ -52,8 +52,8 @@ fn pack(c: u32) -> Packed
 
 // The character at a place where no closing quote stands.
 pub(crate) fn char_at(text: &[u8], classes: &[u8; 256], at: usize) -> CharRead
-    requires open { byteAt text.now at ≡ 34 → ⊥ }
-    ensures char_says { classes.now ≡ classTable → CharSays text.now at result }
+    requires open { byte_at text.now at ≡ 34 → ⊥ }
+    ensures char_says { classes.now ≡ class_table → CharSays text.now at result }
     ensures inside { CharInside text.now at result }
 {
     match piece_at(text, classes, at) {

@@ -1,8 +1,8 @@
 // Strings compared after decoding: with each other, and with given bytes. Bytes that stand for themselves are compared where they stand, other characters one by one.
 ghost use Rattle.std.specs.Prelude.{◌≡◌, [], ◌+◌, ◌≤◌, length};
-ghost use Rattle.classes.specs.Classes.{classTable};
-ghost use Rattle.jsontext.specs.Strings.{stringAt};
-ghost use Rattle.jsontext.specs.Decoded.{sameText, isText};
+ghost use Rattle.classes.specs.Classes.{class_table};
+ghost use Rattle.jsontext.specs.Strings.{string_at};
+ghost use Rattle.jsontext.specs.Decoded.{same_text, is_text};
 ghost use Rattle.jsontext.specs.Scanned.{Scanned};
 ghost use Rattle.jsontext.specs.Compared.{Alike};
 
@@ -62,7 +62,7 @@ fn alike(s: &[u8], i: usize, t: &[u8], j: usize) -> usize
 // Whether the strings at two places, which have their quotes, are the same.
 fn same_quoted(text: &[u8], classes: &[u8; 256], a: usize, b: usize) -> bool
     requires { Scanned text.now a (a + 1) [] × Scanned text.now b (b + 1) [] }
-    ensures { classes.now ≡ classTable → result ≡ sameText (stringAt text.now a) (stringAt text.now b) }
+    ensures { classes.now ≡ class_table → result ≡ same_text (string_at text.now a) (string_at text.now b) }
 {
     let mut i = a + 1;
     let mut j = b + 1;
@@ -98,7 +98,7 @@ fn same_quoted(text: &[u8], classes: &[u8; 256], a: usize, b: usize) -> bool
 
 // Whether the strings at two places are the same after decoding; a string that is not whole is the same as none.
 pub fn same(text: &[u8], classes: &[u8; 256], a: usize, b: usize) -> bool
-    ensures { classes.now ≡ classTable → result ≡ sameText (stringAt text.now a) (stringAt text.now b) }
+    ensures { classes.now ≡ class_table → result ≡ same_text (string_at text.now a) (string_at text.now b) }
 {
     if byte_at(text, a) != b'"' {
         return false;
@@ -111,7 +111,7 @@ pub fn same(text: &[u8], classes: &[u8; 256], a: usize, b: usize) -> bool
 
 // Whether the string at a place is these bytes after decoding; a string that is not whole is none.
 pub fn is_text(text: &[u8], classes: &[u8; 256], at: usize, bytes: &[u8]) -> bool
-    ensures { classes.now ≡ classTable → result ≡ isText (stringAt text.now at) bytes.now }
+    ensures { classes.now ≡ class_table → result ≡ is_text (string_at text.now at) bytes.now }
 {
     if byte_at(text, at) != b'"' {
         return false;

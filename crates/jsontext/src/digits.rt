@@ -1,6 +1,6 @@
 // Digits that fit into 64 bits whatever they are, so that no sum has to be tried: those of nearly all numbers.
 ghost use Rattle.std.specs.Prelude.{◌≡◌, true, ℕ, ◌+◌, ◌-◌, ◌≤◌, length};
-ghost use Rattle.classes.specs.Classes.{digit?, classTable};
+ghost use Rattle.classes.specs.Classes.{digit?, class_table};
 ghost use Rattle.jsontext.specs.NumberAnswer.{Short, Within, FewRead};
 
 use classes::is_digit;
@@ -34,7 +34,7 @@ pub(crate) fn few_digits(
     requires order { (at ≤ last) × (last ≤ length text.now) }
     requires fitting { (n : ℕ) × Short before n × (n + last ≤ at + 19) }
     ensures within { Within before at last result.value result.end }
-    ensures few_read { classes.now ≡ classTable → FewRead text.now before at last result }
+    ensures few_read { classes.now ≡ class_table → FewRead text.now before at last result }
 {
     let mut v = before;
     let mut i = at;

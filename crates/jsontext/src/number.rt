@@ -1,9 +1,9 @@
 // A JSON number at a place of a text, and the scalar that it becomes.
 ghost use Rattle.std.specs.Prelude.{◌≡◌, true, ◌+◌, ◌-◌, ◌/◌, ◌<◌, ◌≤◌, ◌^◌, ltb, length};
-ghost use Rattle.base.specs.Text.{byteAt, got};
-ghost use Rattle.classes.specs.Classes.{digit?, classTable};
-ghost use Rattle.jsontext.specs.Number.{Digits, Number, noDigits, withDigit, digitsFrom, someDigits, whole_at, signEnd, withExponent, plainNumber, exponentAt, fractionAt, afterWhole, number_at, numberScalar, asScalar};
-ghost use Rattle.jsontext.specs.NumberAnswer.{Short, ShortWhole, Begins, carried, carriedAt, Bounded, BoundedFrom, number_of};
+ghost use Rattle.base.specs.Text.{byte_at, got};
+ghost use Rattle.classes.specs.Classes.{digit?, class_table};
+ghost use Rattle.jsontext.specs.Number.{Digits, Number, no_digits, with_digit, digits_from, some_digits, whole_at, sign_end, with_exponent, plain_number, exponent_at, fraction_at, after_whole, number_at, number_scalar, as_scalar};
+ghost use Rattle.jsontext.specs.NumberAnswer.{Short, ShortWhole, Begins, carried, carried_at, Bounded, BoundedFrom, number_of};
 
 use crate::digits::{FITTING, ShortRun, digit_value, few_digits};
 use crate::rate::rate;
@@ -59,7 +59,7 @@ fn with_digit(digits: DigitRun, b: u8) -> DigitRun
     requires { Short digits.value digits.count × (digits.count < 2 ^ 64 - 1) }
     ensures counted { result.count ≡ digits.count + 1 }
     ensures short { Short result.value result.count }
-    ensures held { digit? b ≡ true → (d : Digits) → digits ≡ carried d → result ≡ carried (withDigit d b) }
+    ensures held { digit? b ≡ true → (d : Digits) → digits ≡ carried d → result ≡ carried (with_digit d b) }
 {
     let x = digit_value(b);
     let count = digits.count + 1;
@@ -80,7 +80,7 @@ fn with_digit(digits: DigitRun, b: u8) -> DigitRun
 // The digits at a place, after others.
 fn digits(text: &[u8], classes: &[u8; 256], before: DigitRun, at: usize) -> DigitsRead
     requires { Bounded before at }
-    ensures value { classes.now ≡ classTable → ((d : Digits) → before ≡ carried d → result ≡ carriedAt (digitsFrom (length text.now - at) text.now d at)) }
+    ensures value { classes.now ≡ class_table → ((d : Digits) → before ≡ carried d → result ≡ carried_at (digits_from (length text.now - at) text.now d at)) }
     ensures bounds { BoundedFrom before.count result }
 {
     let mut run = before;
@@ -99,7 +99,7 @@ fn digits(text: &[u8], classes: &[u8; 256], before: DigitRun, at: usize) -> Digi
 // The same, where there is one digit or more.
 fn some_digits(text: &[u8], classes: &[u8; 256], before: DigitRun, at: usize) -> DigitsRead
     requires { Bounded before at }
-    ensures value { classes.now ≡ classTable → ((d : Digits) → before ≡ carried d → result ≡ carriedAt (someDigits text.now d at)) }
+    ensures value { classes.now ≡ class_table → ((d : Digits) → before ≡ carried d → result ≡ carried_at (some_digits text.now d at)) }
     ensures bounds { BoundedFrom before.count result }
 {
     if is_digit(classes, byte_at(text, at)) {
@@ -110,7 +110,7 @@ fn some_digits(text: &[u8], classes: &[u8; 256], before: DigitRun, at: usize) ->
 
 // The whole part: 0 with no digit after it, or digits that begin with another.
 fn whole_part(text: &[u8], classes: &[u8; 256], at: usize) -> DigitsRead
-    ensures value { classes.now ≡ classTable → result ≡ carriedAt (whole_at text.now at) }
+    ensures value { classes.now ≡ class_table → result ≡ carried_at (whole_at text.now at) }
     ensures bounds { BoundedFrom 0 result }
 {
     if byte_at(text, at) != b'0' {
@@ -140,7 +140,7 @@ fn whole_part(text: &[u8], classes: &[u8; 256], at: usize) -> DigitsRead
 
 // The place after a sign, where there is one.
 fn sign_end(text: &[u8], at: usize) -> usize
-    ensures { result ≡ signEnd text.now at }
+    ensures { result ≡ sign_end text.now at }
 {
     let b = byte_at(text, at);
     if (b == b'+') | (b == b'-') {
@@ -159,7 +159,7 @@ fn as_scalar(
     next: usize,
 ) -> NumberRead
     requires { Short digits.value digits.count × (places ≤ digits.count) }
-    ensures { (d : Digits) → digits ≡ carried d → number_of result ≡ got (numberScalar (plainNumber negative d places fraction)) next }
+    ensures { (d : Digits) → digits ≡ carried d → number_of result ≡ got (number_scalar (plain_number negative d places fraction)) next }
 {
     if !negative & !fraction & digits.fits {
         return NumberRead::Counted(digits.value, next);
@@ -172,7 +172,7 @@ fn as_scalar(
 
 // The exponent's sign and digits. A number that has one becomes no scalar.
 fn exponent(text: &[u8], classes: &[u8; 256], at: usize) -> NumberRead
-    ensures { classes.now ≡ classTable → ((m : Number) → number_of result ≡ asScalar (withExponent m (someDigits text.now noDigits (signEnd text.now at)))) }
+    ensures { classes.now ≡ class_table → ((m : Number) → number_of result ≡ as_scalar (with_exponent m (some_digits text.now no_digits (sign_end text.now at)))) }
 {
     let first = sign_end(text, at);
     match some_digits(
@@ -201,7 +201,7 @@ fn behind_digits(
     at: usize,
 ) -> NumberRead
     requires { Short digits.value digits.count × (places ≤ digits.count) }
-    ensures { classes.now ≡ classTable → ((d : Digits) → digits ≡ carried d → number_of result ≡ asScalar (exponentAt text.now (plainNumber negative d places fraction) at)) }
+    ensures { classes.now ≡ class_table → ((d : Digits) → digits ≡ carried d → number_of result ≡ as_scalar (exponent_at text.now (plain_number negative d places fraction) at)) }
 {
     let b = byte_at(text, at);
     if (b == b'e') | (b == b'E') {
@@ -219,7 +219,7 @@ fn behind_whole(
     at: usize,
 ) -> NumberRead
     requires { Bounded whole at }
-    ensures { classes.now ≡ classTable → ((d : Digits) → whole ≡ carried d → number_of result ≡ asScalar (fractionAt text.now negative d at)) }
+    ensures { classes.now ≡ class_table → ((d : Digits) → whole ≡ carried d → number_of result ≡ as_scalar (fraction_at text.now negative d at)) }
 {
     if byte_at(text, at) != b'.' {
         return behind_digits(text, classes, negative, whole, 0, false, at);
@@ -235,7 +235,7 @@ fn behind_whole(
 
 // Behind the sign.
 fn behind_sign(text: &[u8], classes: &[u8; 256], negative: bool, at: usize) -> NumberRead
-    ensures { classes.now ≡ classTable → number_of result ≡ asScalar (afterWhole text.now negative (whole_at text.now at)) }
+    ensures { classes.now ≡ class_table → number_of result ≡ as_scalar (after_whole text.now negative (whole_at text.now at)) }
 {
     match whole_part(text, classes, at) {
         DigitsRead::Digits(whole, next) => behind_whole(text, classes, negative, whole, next),
@@ -245,7 +245,7 @@ fn behind_sign(text: &[u8], classes: &[u8; 256], negative: bool, at: usize) -> N
 
 // The number at a place, however long it is.
 fn any_number(text: &[u8], classes: &[u8; 256], at: usize) -> NumberRead
-    ensures { classes.now ≡ classTable → number_of result ≡ asScalar (number_at text.now at) }
+    ensures { classes.now ≡ class_table → number_of result ≡ as_scalar (number_at text.now at) }
 {
     if byte_at(text, at) == b'-' {
         return behind_sign(text, classes, true, at + 1);
@@ -256,7 +256,7 @@ fn any_number(text: &[u8], classes: &[u8; 256], at: usize) -> NumberRead
 // The whole part at a place, without sign and with at most 18 digits, before the last bytes of the text; place 0 for any other.
 fn short_whole(text: &[u8], classes: &[u8; 256], at: usize) -> ShortRun
     ensures placed { (result.end ≡ 0 → ⊥) → ShortWhole text.now at result }
-    ensures begins { classes.now ≡ classTable → (result.end ≡ 0 → ⊥) → Begins text.now at result }
+    ensures begins { classes.now ≡ class_table → (result.end ≡ 0 → ⊥) → Begins text.now at result }
 {
     let none = ShortRun { value: 0, end: 0 };
     if text.len() < FITTING {
@@ -280,7 +280,7 @@ fn short_whole(text: &[u8], classes: &[u8; 256], at: usize) -> ShortRun
 // The number at a place, whose whole part is short and has a point behind it: in the short way where all its digits are before place at + 19.
 fn short_fraction(text: &[u8], classes: &[u8; 256], at: usize, whole: ShortRun) -> NumberRead
     requires { ShortWhole text.now at whole }
-    ensures { classes.now ≡ classTable → Begins text.now at whole → byteAt text.now whole.end ≡ 46 → number_of result ≡ asScalar (number_at text.now at) }
+    ensures { classes.now ≡ class_table → Begins text.now at whole → byte_at text.now whole.end ≡ 46 → number_of result ≡ as_scalar (number_at text.now at) }
 {
     let first = whole.end + 1;
     let last = at + FITTING;
@@ -300,7 +300,7 @@ fn short_fraction(text: &[u8], classes: &[u8; 256], at: usize, whole: ShortRun) 
 
 // The number at a place, the longest one, as a scalar. A short one is read in a shorter way.
 pub fn number(text: &[u8], classes: &[u8; 256], at: usize) -> NumberRead
-    ensures { classes.now ≡ classTable → number_of result ≡ asScalar (number_at text.now at) }
+    ensures { classes.now ≡ class_table → number_of result ≡ as_scalar (number_at text.now at) }
 {
     let run = short_whole(text, classes, at);
     let next = run.end;

@@ -1,8 +1,8 @@
 // What stands at a place of a string, behind its opening quote: the closing quote, bytes that stand for themselves, an escape, or a byte that no rule allows.
 ghost use Rattle.std.specs.Prelude.{◌≡◌, true, ◌<◌, ◌≤◌, length};
-ghost use Rattle.classes.specs.Classes.{eitherHexDigit?, classTable};
-ghost use Rattle.jsontext.specs.Strings.{simple, hexValue, hexFrom, dee?, low?, firstUnit, secondUnit, pair_at, unicodeAt, escapeAt, piece_at};
-ghost use Rattle.jsontext.specs.StringAnswers.{hexOf, piece_of, HexInside, EscapeInside, PieceInside};
+ghost use Rattle.classes.specs.Classes.{either_hex_digit?, class_table};
+ghost use Rattle.jsontext.specs.Strings.{simple, hex_value, hex_from, dee?, low?, first_unit, second_unit, pair_at, unicode_at, escape_at, piece_at};
+ghost use Rattle.jsontext.specs.StringAnswers.{hex_of, piece_of, HexInside, EscapeInside, PieceInside};
 
 use crate::utf8::{StretchRead, sequence, within};
 use base::text::byte_at;
@@ -30,7 +30,7 @@ pub(crate) enum StringPiece {
 // The value of a hex digit of either case; below 16 for every byte.
 fn hex_value(b: u8) -> u32
     ensures few { result < 16 }
-    ensures value { eitherHexDigit? b ≡ true → result ≡ hexValue b }
+    ensures value { either_hex_digit? b ≡ true → result ≡ hex_value b }
 {
     ((b % 16 + b / 64 * 9) % 16) as u32
 }
@@ -38,7 +38,7 @@ fn hex_value(b: u8) -> u32
 // Four hex digits.
 fn hex(text: &[u8], classes: &[u8; 256], at: usize) -> HexRead
     requires { at ≤ length text.now }
-    ensures result_value { classes.now ≡ classTable → hexOf result ≡ hexFrom 4 text.now 0 at }
+    ensures result_value { classes.now ≡ class_table → hex_of result ≡ hex_from 4 text.now 0 at }
     ensures inside { HexInside text.now at result }
 {
     let mut v: u32 = 0;
@@ -75,7 +75,7 @@ fn is_low(b: u8) -> bool
 // The digits of a first `\u`, which are no low surrogate's.
 fn first_unit(text: &[u8], classes: &[u8; 256], at: usize) -> HexRead
     requires { at ≤ length text.now }
-    ensures result_value { classes.now ≡ classTable → hexOf result ≡ firstUnit text.now at }
+    ensures result_value { classes.now ≡ class_table → hex_of result ≡ first_unit text.now at }
     ensures inside { HexInside text.now at result }
 {
     if !is_dee(byte_at(text, at)) {
@@ -90,7 +90,7 @@ fn first_unit(text: &[u8], classes: &[u8; 256], at: usize) -> HexRead
 // The digits of a second `\u`, which are a low surrogate's.
 fn second_unit(text: &[u8], classes: &[u8; 256], at: usize) -> HexRead
     requires { at ≤ length text.now }
-    ensures result_value { classes.now ≡ classTable → hexOf result ≡ secondUnit text.now at }
+    ensures result_value { classes.now ≡ class_table → hex_of result ≡ second_unit text.now at }
     ensures inside { HexInside text.now at result }
 {
     if !is_dee(byte_at(text, at)) {
@@ -105,7 +105,7 @@ fn second_unit(text: &[u8], classes: &[u8; 256], at: usize) -> HexRead
 // What follows a high surrogate.
 fn pair(text: &[u8], classes: &[u8; 256], v: u32, at: usize) -> StringPiece
     requires { at ≤ length text.now }
-    ensures result_value { classes.now ≡ classTable → piece_of result ≡ pair_at text.now v at }
+    ensures result_value { classes.now ≡ class_table → piece_of result ≡ pair_at text.now v at }
     ensures inside { EscapeInside text.now at result }
 {
     if byte_at(text, at) != b'\\' {
@@ -123,7 +123,7 @@ fn pair(text: &[u8], classes: &[u8; 256], v: u32, at: usize) -> StringPiece
 // What follows `\u`.
 fn unicode(text: &[u8], classes: &[u8; 256], at: usize) -> StringPiece
     requires { at ≤ length text.now }
-    ensures result_value { classes.now ≡ classTable → piece_of result ≡ unicodeAt text.now at }
+    ensures result_value { classes.now ≡ class_table → piece_of result ≡ unicode_at text.now at }
     ensures inside { EscapeInside text.now at result }
 {
     match first_unit(text, classes, at) {
@@ -157,7 +157,7 @@ fn simple(b: u8) -> u32
 // What follows a backslash.
 fn escape(text: &[u8], classes: &[u8; 256], at: usize) -> StringPiece
     requires { at ≤ length text.now }
-    ensures result_value { classes.now ≡ classTable → piece_of result ≡ escapeAt text.now at }
+    ensures result_value { classes.now ≡ class_table → piece_of result ≡ escape_at text.now at }
     ensures inside { EscapeInside text.now at result }
 {
     let b = byte_at(text, at);
@@ -173,7 +173,7 @@ fn escape(text: &[u8], classes: &[u8; 256], at: usize) -> StringPiece
 
 // What stands at a place.
 pub(crate) fn piece_at(text: &[u8], classes: &[u8; 256], at: usize) -> StringPiece
-    ensures result_value { classes.now ≡ classTable → piece_of result ≡ piece_at text.now at }
+    ensures result_value { classes.now ≡ class_table → piece_of result ≡ piece_at text.now at }
     ensures inside { PieceInside text.now at result }
 {
     if at >= text.len() {

@@ -1,7 +1,7 @@
 // Bytes that stand for themselves, one after the other: most of most strings. They are tried eight at once.
 ghost use Rattle.std.specs.Prelude.{◌≡◌, true, List, map, ℕ, ◌+◌, ◌≤◌, length, take, drop};
 ghost use Rattle.jsontext.specs.Strings.{plain?};
-ghost use Rattle.jsontext.specs.Decoded.{joinBytes};
+ghost use Rattle.jsontext.specs.Decoded.{join_bytes};
 ghost use Rattle.jsontext.specs.StringAnswers.{Plains, mark};
 ghost use Rattle.jsontext.specs.Kept.{Bytes};
 
@@ -33,7 +33,7 @@ pub(crate) fn is_plain(b: u8) -> bool
 
 // The highest bit of each byte that does not stand for itself. No sum goes over into the next byte: its highest bit says whether the byte is 32 or more, is no quote, is no backslash.
 pub(crate) fn marks(w: u64) -> u64
-    ensures { (xs : List ℕ) → length xs ≡ 8 → Bytes xs → w ≡ joinBytes xs → result ≡ joinBytes (map mark xs) }
+    ensures { (xs : List ℕ) → length xs ≡ 8 → Bytes xs → w ≡ join_bytes xs → result ≡ join_bytes (map mark xs) }
 {
     let low = w & LOW;
     let above = low + FROM_BLANK;
@@ -45,7 +45,7 @@ pub(crate) fn marks(w: u64) -> u64
 // The marks of the eight bytes at a place.
 pub(crate) fn word_marks(text: &[u8], i: usize) -> u64
     requires { i + 8 ≤ length text.now }
-    ensures { result ≡ joinBytes (map mark (take 8 (drop i text.now))) }
+    ensures { result ≡ join_bytes (map mark (take 8 (drop i text.now))) }
 {
     marks(word(text, i))
 }

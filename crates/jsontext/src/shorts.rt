@@ -1,6 +1,6 @@
 // Short strings whose bytes all stand for themselves, as most are: read without a loop, and compared in one or two words.
 ghost use Rattle.std.specs.Prelude.{◌≡◌, true, ◌+◌};
-ghost use Rattle.base.specs.Text.{byteAt};
+ghost use Rattle.base.specs.Text.{byte_at};
 ghost use Rattle.jsontext.specs.StringAnswers.{Plains};
 ghost use Rattle.jsontext.specs.Shorts.{ShortAt, SameBytes};
 
@@ -30,7 +30,7 @@ fn no_short() -> ShortString
 
 // The string at a place, of which the bytes up to a quote stand for themselves.
 fn short_to(text: &[u8], at: usize, end: usize) -> ShortString
-    requires { (byteAt text.now at ≡ 34) × Plains text.now (at + 1) end }
+    requires { (byte_at text.now at ≡ 34) × Plains text.now (at + 1) end }
     ensures { (result.end ≡ 0 → ⊥) → ShortAt text.now at result.slot result.end }
 {
     if byte_at(text, end) != b'"' {

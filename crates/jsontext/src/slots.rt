@@ -1,6 +1,6 @@
 // The slot where a text is looked for first: a hash of how many bytes it has, its first eight and its last eight.
 ghost use Rattle.std.specs.Prelude.{◌≡◌, List, [], ◌++◌, ℕ, ◌%◌, ◌^◌, ◌<◌, ◌≤◌, length, take};
-ghost use Rattle.jsontext.specs.Decoded.{joinBytes, lastEight, textSlot};
+ghost use Rattle.jsontext.specs.Decoded.{join_bytes, last_eight, text_slot};
 ghost use Rattle.jsontext.specs.Scanned.{part};
 ghost use Rattle.jsontext.specs.Kept.{Bytes, Keeps};
 
@@ -41,7 +41,7 @@ fn low(x: u64) -> u32
 // n bytes more, of which the first eight are given, and the last eight of all.
 fn keep(k: Kept, n: usize, front: u64, last: u64) -> Kept
     requires { k.few ≤ 8 }
-    ensures by_index { (bs xs : List ℕ) → Keeps bs k → Bytes xs → n ≡ length xs → front ≡ joinBytes (take 8 xs) → last ≡ lastEight (bs ++ xs) → Keeps (bs ++ xs) result }
+    ensures by_index { (bs xs : List ℕ) → Keeps bs k → Bytes xs → n ≡ length xs → front ≡ join_bytes (take 8 xs) → last ≡ last_eight (bs ++ xs) → Keeps (bs ++ xs) result }
     ensures few { result.few ≤ 8 }
 {
     let few = k.few;
@@ -66,7 +66,7 @@ fn keep(k: Kept, n: usize, front: u64, last: u64) -> Kept
 // A few bytes more, joined.
 pub(crate) fn keep_few(k: Kept, w: u64, n: usize) -> Kept
     requires { (k.few ≤ 8) × (0 < n) × (n < 8) }
-    ensures by_index { (bs xs : List ℕ) → Keeps bs k → Bytes xs → n ≡ length xs → w ≡ joinBytes xs → Keeps (bs ++ xs) result }
+    ensures by_index { (bs xs : List ℕ) → Keeps bs k → Bytes xs → n ≡ length xs → w ≡ join_bytes xs → Keeps (bs ++ xs) result }
     ensures few { result.few ≤ 8 }
 {
     let last = k.last;
@@ -91,7 +91,7 @@ pub(crate) fn keep_part(k: Kept, text: &[u8], at: usize, end: usize) -> Kept
 
 // The slot of the bytes of which this is kept.
 pub(crate) fn kept_slot(k: Kept) -> u16
-    ensures { (bs : List ℕ) → Keeps bs k → result ≡ textSlot bs }
+    ensures { (bs : List ℕ) → Keeps bs k → result ≡ text_slot bs }
 {
     let first = k.first;
     let last = k.last;
@@ -103,7 +103,7 @@ pub(crate) fn kept_slot(k: Kept) -> u16
 
 // The slot of bytes that are at hand.
 pub fn slot_of(bytes: &[u8]) -> u16
-    ensures { result ≡ textSlot bytes.now }
+    ensures { result ≡ text_slot bytes.now }
 {
     kept_slot(keep_part(keep_none(), bytes, 0, bytes.len()))
 }

@@ -1,7 +1,7 @@
 // White space between the parts of a JSON text.
 ghost use Rattle.std.specs.Prelude.{◌≡◌};
-ghost use Rattle.classes.specs.Classes.{classTable};
-ghost use Rattle.jsontext.specs.Spaces.{spaceEnd};
+ghost use Rattle.classes.specs.Classes.{class_table};
+ghost use Rattle.jsontext.specs.Spaces.{space_end};
 
 use classes::is_space;
 
@@ -10,7 +10,7 @@ const BLANK: u8 = 32;
 
 // The first place from one on where no space stands.
 pub fn space_end(text: &[u8], classes: &[u8; 256], at: usize) -> usize
-    ensures { classes.now ≡ classTable → result ≡ spaceEnd text.now at }
+    ensures { classes.now ≡ class_table → result ≡ space_end text.now at }
 {
     let mut i = at;
     while i < text.len() {

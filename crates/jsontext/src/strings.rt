@@ -1,9 +1,9 @@
 // A string at a place, from its opening quote on: the slot of its decoded bytes and the place after it, or the first byte that has no legal continuation.
 ghost use Rattle.std.specs.Prelude.{◌≡◌, [], ◌+◌};
-ghost use Rattle.classes.specs.Classes.{classTable};
-ghost use Rattle.base.specs.Text.{byteAt};
-ghost use Rattle.jsontext.specs.Strings.{stringAt};
-ghost use Rattle.jsontext.specs.Decoded.{asSlot};
+ghost use Rattle.classes.specs.Classes.{class_table};
+ghost use Rattle.base.specs.Text.{byte_at};
+ghost use Rattle.jsontext.specs.Strings.{string_at};
+ghost use Rattle.jsontext.specs.Decoded.{as_slot};
 ghost use Rattle.jsontext.specs.Scanned.{Scanned};
 ghost use Rattle.jsontext.specs.StringAnswers.{Plains, slot_of};
 
@@ -21,9 +21,9 @@ pub enum StringRead {
 
 // The string at a place, whose bytes up to another stand for themselves; there stands no closing quote.
 fn read_on(text: &[u8], classes: &[u8; 256], at: usize, from: usize) -> StringRead
-    requires open { byteAt text.now from ≡ 34 → ⊥ }
+    requires open { byte_at text.now from ≡ 34 → ⊥ }
     requires behind { Scanned text.now at (at + 1) [] × Plains text.now (at + 1) from }
-    ensures { classes.now ≡ classTable → slot_of result ≡ asSlot (stringAt text.now at) }
+    ensures { classes.now ≡ class_table → slot_of result ≡ as_slot (string_at text.now at) }
 {
     let mut k = keep_part(keep_none(), text, at + 1, from);
     let mut i = from;
@@ -45,7 +45,7 @@ fn read_on(text: &[u8], classes: &[u8; 256], at: usize, from: usize) -> StringRe
 
 // The string at a place.
 pub fn read(text: &[u8], classes: &[u8; 256], at: usize) -> StringRead
-    ensures { classes.now ≡ classTable → slot_of result ≡ asSlot (stringAt text.now at) }
+    ensures { classes.now ≡ class_table → slot_of result ≡ as_slot (string_at text.now at) }
 {
     if byte_at(text, at) != b'"' {
         return StringRead::Fault(at);

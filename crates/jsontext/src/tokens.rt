@@ -1,7 +1,7 @@
 // A short string that is known beforehand, compared with the text in one or two words, its quotes included.
 ghost use Rattle.std.specs.Prelude.{◌≡◌, true, List, ℕ, ◌+◌, ◌≤◌, length, take};
 ghost use Rattle.base.specs.Text.{got};
-ghost use Rattle.jsontext.specs.Strings.{stringAt};
+ghost use Rattle.jsontext.specs.Strings.{string_at};
 ghost use Rattle.jsontext.specs.StringAnswers.{Plains};
 ghost use Rattle.jsontext.specs.Tokens.{quoted, TokenOf};
 
@@ -81,7 +81,7 @@ pub fn token_of(bytes: &[u8]) -> Token
 
 // Whether the string at a place is written as the token. False also near the end of the text, where the longest cannot be read: the string is then to be read in another way.
 pub fn has_token(text: &[u8], at: usize, first: u64, last: u64, n: usize) -> bool
-    ensures { result ≡ true → (key : List ℕ) → TokenOf key first last n → stringAt text.now at ≡ got key (at + n) }
+    ensures { result ≡ true → (key : List ℕ) → TokenOf key first last n → string_at text.now at ≡ got key (at + n) }
 {
     if text.len() < LONGEST {
         return false;

@@ -1,8 +1,8 @@
 // UTF-8: the well-formed sequence of two bytes or more at a place.
 ghost use Rattle.std.specs.Prelude.{◌≡◌, ◌≤◌, replicate};
-ghost use Rattle.jsontext.specs.Utf8.{between, tail, passAt, sequenceAt};
+ghost use Rattle.jsontext.specs.Utf8.{between, tail, pass_at, sequence_at};
 ghost use Rattle.jsontext.specs.Lead.{follows, lowest, highest};
-ghost use Rattle.jsontext.specs.StringAnswers.{stretchOf};
+ghost use Rattle.jsontext.specs.StringAnswers.{stretch_of};
 
 use base::text::byte_at;
 
@@ -63,7 +63,7 @@ fn highest(b: u8) -> u8
 
 // So many bytes from 80 to BF.
 fn tails(text: &[u8], at: usize, count: usize) -> StretchRead
-    ensures { stretchOf result ≡ passAt (replicate count tail) text.now at }
+    ensures { stretch_of result ≡ pass_at (replicate count tail) text.now at }
 {
     let mut i = at;
     let mut left = count;
@@ -79,7 +79,7 @@ fn tails(text: &[u8], at: usize, count: usize) -> StretchRead
 
 // The sequence whose lead byte stands at a place.
 pub(crate) fn sequence(text: &[u8], at: usize) -> StretchRead
-    ensures { stretchOf result ≡ sequenceAt text.now at }
+    ensures { stretch_of result ≡ sequence_at text.now at }
 {
     let b = byte_at(text, at);
     let n = follows(b);

@@ -1,6 +1,6 @@
 // Eight bytes at once, in a number, the first lowest.
 ghost use Rattle.std.specs.Prelude.{◌≡◌, ◌+◌, ◌<◌, ◌≤◌, length, take, drop};
-ghost use Rattle.jsontext.specs.Decoded.{joinBytes};
+ghost use Rattle.jsontext.specs.Decoded.{join_bytes};
 
 // The bytes in a word.
 pub(crate) const WORD: usize = 8;
@@ -15,7 +15,7 @@ pub(crate) fn wide(b: u8) -> u64
 // The eight bytes at a place.
 pub(crate) fn word(bytes: &[u8], i: usize) -> u64
     requires { i + 8 ≤ length bytes.now }
-    ensures { result ≡ joinBytes (take 8 (drop i bytes.now)) }
+    ensures { result ≡ join_bytes (take 8 (drop i bytes.now)) }
 {
     wide(bytes[i])
         + wide(bytes[i + 1]) * 256
@@ -30,7 +30,7 @@ pub(crate) fn word(bytes: &[u8], i: usize) -> u64
 // All of fewer than eight bytes.
 fn short_word(bytes: &[u8]) -> u64
     requires { length bytes.now < 8 }
-    ensures { result ≡ joinBytes bytes.now }
+    ensures { result ≡ join_bytes bytes.now }
 {
     let mut w: u64 = 0;
     let mut i = bytes.len();
@@ -44,7 +44,7 @@ fn short_word(bytes: &[u8]) -> u64
 // The n bytes at a place, one to seven: most often eight can be read, and the others are shifted out.
 pub(crate) fn few_bytes(bytes: &[u8], at: usize, n: usize) -> u64
     requires { (0 < n) × (n < 8) × (at + n ≤ length bytes.now) }
-    ensures { result ≡ joinBytes (take n (drop at bytes.now)) }
+    ensures { result ≡ join_bytes (take n (drop at bytes.now)) }
 {
     if bytes.len() - at >= WORD {
         let others = 64 - 8 * n;

@@ -1,7 +1,7 @@
 // A string that is written just as it is: the quote, bytes that all stand for themselves, the quote. Where the bytes are known beforehand, nothing is scanned.
 ghost use Rattle.std.specs.Prelude.{◌≡◌, true, ◌+◌, ◌<◌, ◌≤◌, length, take};
 ghost use Rattle.base.specs.Text.{got};
-ghost use Rattle.jsontext.specs.Strings.{stringAt};
+ghost use Rattle.jsontext.specs.Strings.{string_at};
 ghost use Rattle.jsontext.specs.Compared.{Alike};
 
 use crate::plain::{is_plain, word_marks};
@@ -72,7 +72,7 @@ fn same_part(text: &[u8], i: usize, bytes: &[u8], n: usize) -> bool
 
 // Whether the string at a place is the first n of these bytes, written just as they are. Where it is not, the string may still be these bytes, of which some are escaped or do not stand for themselves: it is then to be read.
 pub fn written(text: &[u8], at: usize, bytes: &[u8], n: usize) -> bool
-    ensures { result ≡ true → stringAt text.now at ≡ got (take n bytes.now) (at + n + 2) }
+    ensures { result ≡ true → string_at text.now at ≡ got (take n bytes.now) (at + n + 2) }
 {
     if n > bytes.len() {
         return false;

@@ -6,28 +6,28 @@ use Prim.Native.Nat.{ℕ, ◌+◌, ◌<◌, ◌≤◌}
 use native.Mathlib.Omega.{arith}
 use lib.ListN.{length, get_or, length-append, get_or-append}
 use Rattle.model.specs.Lists.{any}
-use Rattle.model.specs.Annotation.{eqAnnotation}
-use Rattle.model.proofs.Tab.{tab-at, length-tab}
-use Rattle.automaton.proofs.Parts.{tab-same}
-use Rattle.membership.specs.Cells.{annotationIn, annotationsIn}
-use Rattle.membership.specs.Entries.{Entry, annotationsOf, entryIn, entriesIn, addEntry, addEntries}
-use Rattle.membership.specs.Search.{noAnnotation}
+use Rattle.model.specs.Annotation.{eq_annotation}
+use Rattle.model.proofs.Tab.{tab_at, length_tab}
+use Rattle.automaton.proofs.Parts.{tab_same}
+use Rattle.membership.specs.Cells.{annotation_in, annotations_in}
+use Rattle.membership.specs.Entries.{Entry, annotations_of, entry_in, entries_in, add_entry, add_entries}
+use Rattle.membership.specs.Search.{no_annotation}
 
-abbrev pub noEntry : Entry
-noEntry = record { annotation = noAnnotation; rule = 0; children = [] }
+abbrev pub no_entry : Entry
+no_entry = record { annotation = no_annotation; rule = 0; children = [] }
 
-pub add-append : (xs ys known : List Entry) → addEntries known (xs ++ ys) ≡ addEntries (addEntries known xs) ys
-unfolding addEntries
-add-append [] ys known = refl
-add-append (x ∷ xs) ys known = add-append xs ys (addEntry known x)
+pub add_append : (xs ys known : List Entry) → add_entries known (xs ++ ys) ≡ add_entries (add_entries known xs) ys
+unfolding add_entries
+add_append [] ys known = refl
+add_append (x ∷ xs) ys known = add_append xs ys (add_entry known x)
 
-pub add_nothing : (known : List Entry) → addEntries known [] ≡ known
-unfolding addEntries
+pub add_nothing : (known : List Entry) → add_entries known [] ≡ known
+unfolding add_entries
 add_nothing known = refl
 
-pub add-single : (known : List Entry) (e : Entry) → addEntries known (e ∷ []) ≡ addEntry known e
-unfolding addEntries
-add-single known e = refl
+pub add_single : (known : List Entry) (e : Entry) → add_entries known (e ∷ []) ≡ add_entry known e
+unfolding add_entries
+add_single known e = refl
 
 -- l' begins with l
 pub record Ext (l l' : List Entry) : Type 0 where
@@ -40,54 +40,54 @@ ext_same l = record { rest = []; is = sym (append-nil l) }
 pub ext_trans : (l k m : List Entry) → Ext l k → Ext k m → Ext l m
 ext_trans l k m x y = record { rest = x.rest ++ y.rest; is = y.is ∙ ap (λ z. z ++ y.rest) x.is ∙ append_assoc l x.rest y.rest }
 
-pub ext-length : (l k : List Entry) → Ext l k → length l ≤ length k
-ext-length l k x = rw (x.is, length-append) (omega arith)
+pub ext_length : (l k : List Entry) → Ext l k → length l ≤ length k
+ext_length l k x = rw (x.is, length-append) (omega arith)
 
-pub ext-at : (l k : List Entry) (j : ℕ) → Ext l k → j < length l → get_or k j noEntry ≡ get_or l j noEntry
-ext-at l k j x h = rw x.is (get_or-append l x.rest noEntry j h)
+pub ext_at : (l k : List Entry) (j : ℕ) → Ext l k → j < length l → get_or k j no_entry ≡ get_or l j no_entry
+ext_at l k j x h = rw x.is (get_or-append l x.rest no_entry j h)
 
-ext_entry : (known : List Entry) (e : Entry) → Ext known (addEntry known e)
-unfolding addEntry
-ext_entry known e = go (any (eqAnnotation e.annotation) (annotationsOf known))
+ext_entry : (known : List Entry) (e : Entry) → Ext known (add_entry known e)
+unfolding add_entry
+ext_entry known e = go (any (eq_annotation e.annotation) (annotations_of known))
   where
     go : (b : Bool) → Ext known (cond b known (known ++ e ∷ []))
     go true = ext_same known
     go false = record { rest = e ∷ []; is = refl }
 
-pub ext-entries : (xs known : List Entry) → Ext known (addEntries known xs)
-unfolding addEntries
-ext-entries [] known = ext_same known
-ext-entries (x ∷ xs) known = ext_trans known (addEntry known x) (addEntries (addEntry known x) xs) (ext_entry known x) (ext-entries xs (addEntry known x))
+pub ext_entries : (xs known : List Entry) → Ext known (add_entries known xs)
+unfolding add_entries
+ext_entries [] known = ext_same known
+ext_entries (x ∷ xs) known = ext_trans known (add_entry known x) (add_entries (add_entry known x) xs) (ext_entry known x) (ext_entries xs (add_entry known x))
 
 -- the entries of a work space
 module _ (tags : ℕ) where
-  pub length-entries : (work : List ℕ) (n : ℕ) → length (entriesIn tags work n) ≡ n
-  unfolding entriesIn
-  length-entries work n = length-tab n (entryIn tags work)
+  pub length_entries : (work : List ℕ) (n : ℕ) → length (entries_in tags work n) ≡ n
+  unfolding entries_in
+  length_entries work n = length_tab n (entry_in tags work)
 
-  pub entry_at : (work : List ℕ) (n j : ℕ) → j < n → get_or (entriesIn tags work n) j noEntry ≡ entryIn tags work j
-  unfolding entriesIn
-  entry_at work n j l = tab-at noEntry n (entryIn tags work) j l
+  pub entry_at : (work : List ℕ) (n j : ℕ) → j < n → get_or (entries_in tags work n) j no_entry ≡ entry_in tags work j
+  unfolding entries_in
+  entry_at work n j l = tab_at no_entry n (entry_in tags work) j l
 
-  pub annotation-at : (work : List ℕ) (n j : ℕ) → j < n → get_or (annotationsIn tags work n) j noAnnotation ≡ annotationIn tags work j
-  unfolding annotationsIn
-  annotation-at work n j l = tab-at noAnnotation n (annotationIn tags work) j l
+  pub annotation_at_lem : (work : List ℕ) (n j : ℕ) → j < n → get_or (annotations_in tags work n) j no_annotation ≡ annotation_in tags work j
+  unfolding annotations_in
+  annotation_at_lem work n j l = tab_at no_annotation n (annotation_in tags work) j l
 
-  pub length-annotations : (work : List ℕ) (n : ℕ) → length (annotationsIn tags work n) ≡ n
-  unfolding annotationsIn
-  length-annotations work n = length-tab n (annotationIn tags work)
+  pub length_annotations : (work : List ℕ) (n : ℕ) → length (annotations_in tags work n) ≡ n
+  unfolding annotations_in
+  length_annotations work n = length_tab n (annotation_in tags work)
 
   -- two work spaces whose entries both begin a list hold the same front
-  module _ (work work' : List ℕ) (n m : ℕ) (list : List Entry) (x : Ext (entriesIn tags work n) list) (x' : Ext (entriesIn tags work' m) list) where
-    pub same-entry : (j : ℕ) → j < n → j < m → entryIn tags work' j ≡ entryIn tags work j
-    same-entry j l l' =
-        let e = length-entries work n in
-        let e' = length-entries work' m in
+  module _ (work work' : List ℕ) (n m : ℕ) (list : List Entry) (x : Ext (entries_in tags work n) list) (x' : Ext (entries_in tags work' m) list) where
+    pub same_entry : (j : ℕ) → j < n → j < m → entry_in tags work' j ≡ entry_in tags work j
+    same_entry j l l' =
+        let e = length_entries work n in
+        let e' = length_entries work' m in
         sym (entry_at work' m j l')
-        ∙ sym (ext-at (entriesIn tags work' m) list j x' (omega arith))
-        ∙ ext-at (entriesIn tags work n) list j x (omega arith)
+        ∙ sym (ext_at (entries_in tags work' m) list j x' (omega arith))
+        ∙ ext_at (entries_in tags work n) list j x (omega arith)
         ∙ entry_at work n j l
 
-    pub same-annotations : (base : ℕ) → base ≤ n → base ≤ m → annotationsIn tags work' base ≡ annotationsIn tags work base
-    unfolding annotationsIn
-    same-annotations base l l' = tab-same base (annotationIn tags work') (annotationIn tags work) (λ j h. ap (λ (e : Entry). e.annotation) (same-entry j (omega arith) (omega arith)))
+    pub same_annotations : (base : ℕ) → base ≤ n → base ≤ m → annotations_in tags work' base ≡ annotations_in tags work base
+    unfolding annotations_in
+    same_annotations base l l' = tab_same base (annotation_in tags work') (annotation_in tags work) (λ j h. ap (λ (e : Entry). e.annotation) (same_entry j (omega arith) (omega arith)))

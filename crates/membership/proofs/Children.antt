@@ -9,18 +9,18 @@ use lib.Seq.{get_or-set_same, get_or-set_other, ext_get_or}
 use Rattle.model.specs.Lists.{only}
 use Rattle.model.specs.Annotation.{Memory, Annotation, joined}
 use Rattle.membership.specs.Entries.{Entry}
-use Rattle.membership.specs.Search.{noAnnotation, choosable?, arityIn, lowIn, highIn, stateAsked, leaving, chosen, found, Alike}
-use Rattle.membership.proofs.Spans.{concatMap-same}
+use Rattle.membership.specs.Search.{no_annotation, choosable?, arity_in, low_in, high_in, state_asked, leaving, chosen, found, Alike}
+use Rattle.membership.proofs.Spans.{concat_map_same}
 
 pub alike_same : (p q : ℕ) (c : List ℕ) → Alike p q c c
 alike_same p q c = record { as_long = refl; below = λ k l. refl; above = λ k l. refl }
 
-pub alike-trans : (p q : ℕ) (c d e : List ℕ) → Alike p q c d → Alike p q d e → Alike p q c e
-alike-trans p q c d e a b = record { as_long = b.as_long ∙ a.as_long; below = λ k l. b.below k l ∙ a.below k l; above = λ k l. b.above k l ∙ a.above k l }
+pub alike_trans : (p q : ℕ) (c d e : List ℕ) → Alike p q c d → Alike p q d e → Alike p q c e
+alike_trans p q c d e a b = record { as_long = b.as_long ∙ a.as_long; below = λ k l. b.below k l ∙ a.below k l; above = λ k l. b.above k l ∙ a.above k l }
 
 -- after a choice at place p, and what the places after it left
-pub alike-more : (p q x : ℕ) (c d e : List ℕ) → p < q → Alike p q c d → Alike (suc p) q (set d p x) e → Alike p q c e
-alike-more p q x c d e l a b =
+pub alike_more : (p q x : ℕ) (c d e : List ℕ) → p < q → Alike p q c d → Alike (suc p) q (set d p x) e → Alike p q c e
+alike_more p q x c d e l a b =
     record {
       as_long = b.as_long ∙ length-set d p x ∙ a.as_long;
       below = λ k m. b.below k (omega arith) ∙ get_or-set_other d p k x 0 (λ z. omega arith) ∙ a.below k m;
@@ -52,19 +52,19 @@ alike_all q c d a = ext_get_or 0 d c a.as_long (λ k l. go k (dec_lt k q))
     go k (no l) = a.above k (omega (arith, l))
 
 module _ (known : List Annotation) (plan asked : List ℕ) (own : Memory) where
-  pub found_alike : (left : ℕ) (m : Memory) (c d : List ℕ) → left ≤ arityIn plan → Alike (arityIn plan - left) (arityIn plan) c d → found known plan asked own left m d ≡ found known plan asked own left m c
+  pub found_alike : (left : ℕ) (m : Memory) (c d : List ℕ) → left ≤ arity_in plan → Alike (arity_in plan - left) (arity_in plan) c d → found known plan asked own left m d ≡ found known plan asked own left m c
   unfolding found
-  found_alike zero m c d l a = ap (leaving plan asked own m) (alike_all (arityIn plan) c d (subst (λ z. Alike z (arityIn plan) c d) (let e : arityIn plan - 0 ≡ arityIn plan = omega arith in e) a))
-  found_alike (suc left) m c d l a = concatMap-same (step d) (step c) (lowIn plan p) (highIn plan p - lowIn plan p) (λ j _ _. one j (λ x. found_alike left x (set c p j) (set d p j)))
+  found_alike zero m c d l a = ap (leaving plan asked own m) (alike_all (arity_in plan) c d (subst (λ z. Alike z (arity_in plan) c d) (let e : arity_in plan - 0 ≡ arity_in plan = omega arith in e) a))
+  found_alike (suc left) m c d l a = concat_map_same (step d) (step c) (low_in plan p) (high_in plan p - low_in plan p) (λ j _ _. one j (λ x. found_alike left x (set c p j) (set d p j)))
     where
       p : ℕ
-      p = arityIn plan - suc left
+      p = arity_in plan - suc left
 
       step : List ℕ → ℕ → List Entry
-      step c = chosen known p (stateAsked asked p) (λ x c. found known plan asked own left x c) m c
+      step c = chosen known p (state_asked asked p) (λ x c. found known plan asked own left x c) m c
 
-      one : (j : ℕ) → ((x : Memory) → left ≤ arityIn plan → Alike (arityIn plan - left) (arityIn plan) (set c p j) (set d p j) → found known plan asked own left x (set d p j) ≡ found known plan asked own left x (set c p j)) → step d j ≡ step c j
+      one : (j : ℕ) → ((x : Memory) → left ≤ arity_in plan → Alike (arity_in plan - left) (arity_in plan) (set c p j) (set d p j) → found known plan asked own left x (set d p j) ≡ found known plan asked own left x (set c p j)) → step d j ≡ step c j
       one j rest =
-          let e : suc p ≡ arityIn plan - left = omega arith in
-          ap (only (choosable? (stateAsked asked p) m (get_or known j noAnnotation)))
-          (rest (joined m (get_or known j noAnnotation).memory) (omega arith) (subst (λ z. Alike z (arityIn plan) (set c p j) (set d p j)) e (alike_set p (arityIn plan) j c d (omega arith) a)))
+          let e : suc p ≡ arity_in plan - left = omega arith in
+          ap (only (choosable? (state_asked asked p) m (get_or known j no_annotation)))
+          (rest (joined m (get_or known j no_annotation).memory) (omega arith) (subst (λ z. Alike z (arity_in plan) (set c p j) (set d p j)) e (alike_set p (arity_in plan) j c d (omega arith) a)))

@@ -12,13 +12,13 @@ use borrow.Author.Tests.{eq-eqb, ne_eqb, le-leb, lt-leb}
 use lib.Dec.{eqb}
 use lib.ListN.{length, get_or, set, replicate, length-set, get_or-eq_default}
 use lib.Seq.{get_or-set_same, get_or-set_other}
-use Rattle.model.specs.Limits.{maxSteps}
+use Rattle.model.specs.Limits.{max_steps}
 use Rattle.model.specs.Lists.{tab}
 use Rattle.model.specs.Automaton.{bit?}
-use Rattle.model.proofs.Tab.{tab-at}
-use Rattle.automaton.proofs.Parts.{tab-same}
+use Rattle.model.proofs.Tab.{tab_at}
+use Rattle.automaton.proofs.Parts.{tab_same}
 use Rattle.document.specs.Check.{place_in}
-use Rattle.membership.specs.Cells.{annotationCells, roomOf, memoryOf, Short, without}
+use Rattle.membership.specs.Cells.{annotation_cells, room_of, memory_of, Short, without}
 use Rattle.membership.specs.Plan.{Planned}
 
 -- a list filled from the front, place by place: what each place holds is a function of its number
@@ -43,24 +43,24 @@ module _ (n : ℕ) (f : ℕ → ℕ) (width : ℕ) (out : List ℕ) where
 -- a memory made from the bits of a mask: `f k b` stands at place k, b being bit k, and nothing yet at the places from k on
 pub record Masking (mask : ℕ) (f : ℕ → Bool → ℕ) (tags : ℕ) (out : List ℕ) (rest k : ℕ) : Type 0 where
   pub filled : Filled tags (λ j. f j (bit? mask j)) 16 out k
-  pub rest-is : rest ≡ mask / 2 ^ k
+  pub rest_is : rest ≡ mask / 2 ^ k
   pub empty : (j : ℕ) → k ≤ j → get_or out j 0 ≡ 0
 
 module _ (mask : ℕ) (f : ℕ → Bool → ℕ) (tags : ℕ) (out : List ℕ) where
-  pub masking-none : tags ≤ 16 → length out ≡ 16 → ((j : ℕ) → get_or out j 0 ≡ 0) → Masking mask f tags out mask 0
-  masking-none h e z = record { filled = filled_none tags (λ j. f j (bit? mask j)) 16 out h e; rest-is = sym (div-one mask); empty = λ j _. z j }
+  pub masking_none : tags ≤ 16 → length out ≡ 16 → ((j : ℕ) → get_or out j 0 ≡ 0) → Masking mask f tags out mask 0
+  masking_none h e z = record { filled = filled_none tags (λ j. f j (bit? mask j)) 16 out h e; rest_is = sym (div-one mask); empty = λ j _. z j }
 
-  pub masking-more : (rest k v : ℕ) → Masking mask f tags out rest k → k < tags → v ≡ f k (eqb (rest % 2) 1) → Masking mask f tags (set out k v) (rest / 2) (k + 1)
-  masking-more rest k v h l e =
+  pub masking_more : (rest k v : ℕ) → Masking mask f tags out rest k → k < tags → v ≡ f k (eqb (rest % 2) 1) → Masking mask f tags (set out k v) (rest / 2) (k + 1)
+  masking_more rest k v h l e =
       record {
-        filled = filled_more tags (λ j. f j (bit? mask j)) 16 out k v h.filled l (e ∙ ap (λ z. f k (eqb (z % 2) 1)) h.rest-is);
-        rest-is = ap (λ z. z / 2) h.rest-is ∙ div-div-eq-div-mul mask (2 ^ k) 2 ∙ ap (λ z. mask / z) (sym (pow-suc 2 k) ∙ ap (λ z. 2 ^ z) (sym (add-one k)));
+        filled = filled_more tags (λ j. f j (bit? mask j)) 16 out k v h.filled l (e ∙ ap (λ z. f k (eqb (z % 2) 1)) h.rest_is);
+        rest_is = ap (λ z. z / 2) h.rest_is ∙ div-div-eq-div-mul mask (2 ^ k) 2 ∙ ap (λ z. mask / z) (sym (pow-suc 2 k) ∙ ap (λ z. 2 ^ z) (sym (add-one k)));
         empty = λ j m. get_or-set_other out k j v 0 (λ q. omega arith) ∙ h.empty j (omega arith);
       }
 
-  pub masking-all : (rest k : ℕ) → Masking mask f tags out rest k → tags ≤ k → (memoryOf tags out ≡ tab tags (λ j. f j (bit? mask j))) × Short tags out
-  unfolding memoryOf
-  masking-all rest k h l = (tab-same tags (λ j. get_or out j 0) (λ j. f j (bit? mask j)) (λ j m. h.filled.done j (omega arith)), λ j m _. h.empty j (let i = h.filled.inside in omega arith))
+  pub masking_all : (rest k : ℕ) → Masking mask f tags out rest k → tags ≤ k → (memory_of tags out ≡ tab tags (λ j. f j (bit? mask j))) × Short tags out
+  unfolding memory_of
+  masking_all rest k h l = (tab_same tags (λ j. get_or out j 0) (λ j. f j (bit? mask j)) (λ j m. h.filled.done j (omega arith)), λ j m _. h.empty j (let i = h.filled.inside in omega arith))
 
 -- the row at each tag of the mask; and a memory without them
 abbrev pub field_own : ℕ → ℕ → Bool → ℕ
@@ -70,36 +70,36 @@ abbrev pub kept_at : List ℕ → ℕ → Bool → ℕ
 kept_at memory k b = cond b 0 (get_or memory k 0)
 
 module _ (mask tags : ℕ) (memory : List ℕ) where
-  without_is : without tags mask (memoryOf tags memory) ≡ tab tags (λ k. kept_at memory k (bit? mask k))
-  unfolding memoryOf
+  without_is : without tags mask (memory_of tags memory) ≡ tab tags (λ k. kept_at memory k (bit? mask k))
+  unfolding memory_of
   without_is =
-      tab-same tags (λ k. cond (bit? mask k) 0 (get_or (tab tags (λ j. get_or memory j 0)) k 0)) (λ k. kept_at memory k (bit? mask k)) (λ k l. ap (cond (bit? mask k) 0) (tab-at 0 tags (λ j. get_or memory j 0) k l))
+      tab_same tags (λ k. cond (bit? mask k) 0 (get_or (tab tags (λ j. get_or memory j 0)) k 0)) (λ k. kept_at memory k (bit? mask k)) (λ k l. ap (cond (bit? mask k) 0) (tab_at 0 tags (λ j. get_or memory j 0) k l))
 
-  pub kept-all : (out : List ℕ) (rest k : ℕ) → Masking mask (kept_at memory) tags out rest k → tags ≤ k → (memoryOf tags out ≡ without tags mask (memoryOf tags memory)) × Short tags out
-  kept-all out rest k h l = let (e, short) = masking-all mask (kept_at memory) tags out rest k h l in (e ∙ sym without_is, short)
+  pub kept_all : (out : List ℕ) (rest k : ℕ) → Masking mask (kept_at memory) tags out rest k → tags ≤ k → (memory_of tags out ≡ without tags mask (memory_of tags memory)) × Short tags out
+  kept_all out rest k h l = let (e, short) = masking_all mask (kept_at memory) tags out rest k h l in (e ∙ sym without_is, short)
 
   -- without a tag in the mask nothing is dropped
-  pub nothing-dropped : mask ≡ 0 → memoryOf tags memory ≡ without tags mask (memoryOf tags memory)
-  unfolding memoryOf
-  nothing-dropped e =
-      tab-same tags (λ k. get_or memory k 0) (λ k. kept_at memory k (bit? mask k)) (λ k l. ap (λ z. cond (eqb (z % 2) 1) 0 (get_or memory k 0)) (sym (zero-div (2 ^ k)) ∙ ap (λ z. z / 2 ^ k) (sym e)))
+  pub nothing_dropped : mask ≡ 0 → memory_of tags memory ≡ without tags mask (memory_of tags memory)
+  unfolding memory_of
+  nothing_dropped e =
+      tab_same tags (λ k. get_or memory k 0) (λ k. kept_at memory k (bit? mask k)) (λ k l. ap (λ z. cond (eqb (z % 2) 1) 0 (get_or memory k 0)) (sym (zero-div (2 ^ k)) ∙ ap (λ z. z / 2 ^ k) (sym e)))
       ∙ sym without_is
 
 -- the memory of a mask without tags
-pub own-nothing : (row tags : ℕ) (out : List ℕ) (mask : ℕ) → mask ≡ 0 → ((k : ℕ) → get_or out k 0 ≡ 0) → (memoryOf tags out ≡ tab tags (λ k. field_own row k (bit? mask k))) × Short tags out
-unfolding memoryOf
-own-nothing row tags out mask e h = (tab-same tags (λ k. get_or out k 0) (λ k. field_own row k (bit? mask k)) (λ k l. h k ∙ sym (ap (λ z. cond (bit? z k) (suc row) 0) e ∙ ap (λ z. cond (eqb (z % 2) 1) (suc row) 0) (zero-div (2 ^ k)))), λ k _ _. h k)
+pub own_nothing : (row tags : ℕ) (out : List ℕ) (mask : ℕ) → mask ≡ 0 → ((k : ℕ) → get_or out k 0 ≡ 0) → (memory_of tags out ≡ tab tags (λ k. field_own row k (bit? mask k))) × Short tags out
+unfolding memory_of
+own_nothing row tags out mask e h = (tab_same tags (λ k. get_or out k 0) (λ k. field_own row k (bit? mask k)) (λ k l. h k ∙ sym (ap (λ z. cond (bit? z k) (suc row) 0) e ∙ ap (λ z. cond (eqb (z % 2) 1) (suc row) 0) (zero-div (2 ^ k)))), λ k _ _. h k)
 
-pub bit-set : (mask x y : ℕ) → mask % 2 ≡ 1 → x ≡ cond (eqb (mask % 2) 1) x y
-bit-set mask x y e = sym (ap (λ b. cond b x y) (eq-eqb (mask % 2) 1 e))
+pub bit_set : (mask x y : ℕ) → mask % 2 ≡ 1 → x ≡ cond (eqb (mask % 2) 1) x y
+bit_set mask x y e = sym (ap (λ b. cond b x y) (eq-eqb (mask % 2) 1 e))
 
-pub bit-clear : (mask x y : ℕ) → (mask % 2 ≡ 1 → ⊥) → y ≡ cond (eqb (mask % 2) 1) x y
-bit-clear mask x y h = sym (ap (λ b. cond b x y) (ne_eqb (mask % 2) 1 h))
+pub bit_clear : (mask x y : ℕ) → (mask % 2 ≡ 1 → ⊥) → y ≡ cond (eqb (mask % 2) 1) x y
+bit_clear mask x y h = sym (ap (λ b. cond b x y) (ne_eqb (mask % 2) 1 h))
 
-pub own-bit : (mask row : ℕ) → mask % 2 ≡ 1 → row + 1 ≡ cond (eqb (mask % 2) 1) (suc row) 0
-own-bit mask row e = add-one row ∙ bit-set mask (suc row) 0 e
+pub own_bit : (mask row : ℕ) → mask % 2 ≡ 1 → row + 1 ≡ cond (eqb (mask % 2) 1) (suc row) 0
+own_bit mask row e = add-one row ∙ bit_set mask (suc row) 0 e
 
-pub ruleset masks = (masking-none, masking-more, bit-set, bit-clear, own-bit, rules)
+pub ruleset masks = (masking_none, masking_more, bit_set, bit_clear, own_bit, rules)
 
 -- the plan of a row, child by child
 pub record Planning (cells starts : List ℕ) (i tags arity base room : ℕ) (out : List ℕ) (n : ℕ) : Type 0 where
@@ -113,14 +113,14 @@ module _ (cells starts : List ℕ) (i tags arity base room : ℕ) where
   abbrev pub unplanned : List ℕ
   unplanned = tags ∷ arity ∷ base ∷ room ∷ replicate 8 0
 
-  pub planning-none : arity ≤ 4 → Planning cells starts i tags arity base room unplanned 0
-  planning-none h =
+  pub planning_none : arity ≤ 4 → Planning cells starts i tags arity base room unplanned 0
+  planning_none h =
       let none : (p : ℕ) → p < 0 → ⊥ = λ p l. omega arith in
       record {
         wide = refl;
         fits = h;
         inside = omega arith;
-        planned = record { tags-are = refl; arity-is = refl; base-is = refl; room-is = refl; low = λ p l. absurd (none p l); high = λ p l. absurd (none p l) };
+        planned = record { tags_are = refl; arity_is = refl; base_is = refl; room_is = refl; low = λ p l. absurd (none p l); high = λ p l. absurd (none p l) };
       }
 
   module _ (out : List ℕ) (n : ℕ) (h : Planning cells starts i tags arity base room out n) (l : n < arity) (c x y : ℕ) (ec : c ≡ place_in cells i n) (ex : x ≡ get_or starts c 0) (ey : y ≡ get_or starts (c + 1) 0) where
@@ -130,8 +130,8 @@ module _ (cells starts : List ℕ) (i tags arity base room : ℕ) where
     old : (k : ℕ) → (k ≡ 4 + n → ⊥) → (k ≡ 8 + n → ⊥) → get_or after k 0 ≡ get_or out k 0
     old k a b = get_or-set_other (set out (4 + n) x) (8 + n) k y 0 b ∙ get_or-set_other out (4 + n) k x 0 a
 
-    pub planning-more : Planning cells starts i tags arity base room after (n + 1)
-    planning-more =
+    pub planning_more : Planning cells starts i tags arity base room after (n + 1)
+    planning_more =
         let p = h.planned in
         let w = h.wide in
         let f = h.fits in
@@ -140,10 +140,10 @@ module _ (cells starts : List ℕ) (i tags arity base room : ℕ) where
           fits = h.fits;
           inside = omega arith;
           planned = record {
-            tags-are = old 0 (λ q. omega arith) (λ q. omega arith) ∙ p.tags-are;
-            arity-is = old 1 (λ q. omega arith) (λ q. omega arith) ∙ p.arity-is;
-            base-is = old 2 (λ q. omega arith) (λ q. omega arith) ∙ p.base-is;
-            room-is = old 3 (λ q. omega arith) (λ q. omega arith) ∙ p.room-is;
+            tags_are = old 0 (λ q. omega arith) (λ q. omega arith) ∙ p.tags_are;
+            arity_is = old 1 (λ q. omega arith) (λ q. omega arith) ∙ p.arity_is;
+            base_is = old 2 (λ q. omega arith) (λ q. omega arith) ∙ p.base_is;
+            room_is = old 3 (λ q. omega arith) (λ q. omega arith) ∙ p.room_is;
             low = λ k m. low k m (ℕ_discrete k n);
             high = λ k m. high k m (ℕ_discrete k n);
           };
@@ -163,23 +163,23 @@ module _ (cells starts : List ℕ) (i tags arity base room : ℕ) where
             rw q (get_or-set_same (set out (4 + n) x) (8 + n) y 0 (simp length-set (omega arith)) ∙ ey ∙ ap (λ z. get_or starts (z + 1) 0) ec)
         high k m (no q) = let f = h.fits in old (8 + k) (λ z. omega arith) (λ z. q (omega arith)) ∙ h.planned.high k (omega (arith, q))
 
-  pub planning-all : (out : List ℕ) (n : ℕ) → Planning cells starts i tags arity base room out n → arity ≤ n → Planned cells starts i tags arity base room arity out
-  planning-all out n h l =
+  pub planning_all : (out : List ℕ) (n : ℕ) → Planning cells starts i tags arity base room out n → arity ≤ n → Planned cells starts i tags arity base room arity out
+  planning_all out n h l =
       let e : n ≡ arity = let a = h.inside in omega arith in
       subst (λ z. Planned cells starts i tags arity base room z out) e h.planned
 
-pub ruleset planning = (planning-none, planning-more, planning-all, rules)
+pub ruleset planning = (planning_none, planning_more, planning_all, rules)
 
 -- the room
-pub room-some : (cells n : ℕ) → n ≡ cells / annotationCells → n ≤ maxSteps → n ≡ roomOf cells
-unfolding roomOf
-room-some cells n e l = e ∙ sym (ap (λ b. cond b (cells / annotationCells) maxSteps) (le-leb (cells / annotationCells) maxSteps (rw e at l)))
+pub room_some : (cells n : ℕ) → n ≡ cells / annotation_cells → n ≤ max_steps → n ≡ room_of cells
+unfolding room_of
+room_some cells n e l = e ∙ sym (ap (λ b. cond b (cells / annotation_cells) max_steps) (le-leb (cells / annotation_cells) max_steps (rw e at l)))
 
-pub room_most : (cells n : ℕ) → n ≡ cells / annotationCells → maxSteps < n → maxSteps ≡ roomOf cells
-unfolding roomOf
-room_most cells n e l = sym (ap (λ b. cond b (cells / annotationCells) maxSteps) (lt-leb (cells / annotationCells) maxSteps (rw e at l)))
+pub room_most : (cells n : ℕ) → n ≡ cells / annotation_cells → max_steps < n → max_steps ≡ room_of cells
+unfolding room_of
+room_most cells n e l = sym (ap (λ b. cond b (cells / annotation_cells) max_steps) (lt-leb (cells / annotation_cells) max_steps (rw e at l)))
 
-pub ruleset rooms = (room-some, room_most, rules)
+pub ruleset rooms = (room_some, room_most, rules)
 
 -- past the end there is nothing
 pub past_end : (l : List ℕ) (i : ℕ) → length l ≤ i → 0 ≡ get_or l i 0

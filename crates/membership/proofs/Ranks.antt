@@ -13,9 +13,9 @@ use Rattle.model.specs.Lists.{only}
 use Rattle.membership.specs.Trace.{rank_of}
 
 module _ (f : ℕ → Bool) where
-  rank-yes : (n : ℕ) → T (f n) → rank_of f (suc n) ≡ suc (rank_of f n)
+  rank_yes : (n : ℕ) → T (f n) → rank_of f (suc n) ≡ suc (rank_of f n)
   unfolding rank_of
-  rank-yes n t = go (f n) t
+  rank_yes n t = go (f n) t
     where
       go : (b : Bool) → T b → rank_of f n + cond b 1 0 ≡ suc (rank_of f n)
       go true h = omega arith
@@ -34,7 +34,7 @@ module _ (f : ℕ → Bool) where
   rank_up i (suc j) l = ⊎_elim (λ e. rw e (le_refl _)) (λ h. let g = rank_up i j (le_of_suc-le-suc h) in let s = (rank_step j).0 in omega arith) (eq-or-lt_of_le l)
 
   pub rank_below : (i j : ℕ) → i < j → T (f i) → rank_of f i < rank_of f j
-  rank_below i j l t = let e = rank-yes i t in let g = rank_up (suc i) j l in omega arith
+  rank_below i j l t = let e = rank_yes i t in let g = rank_up (suc i) j l in omega arith
 
   pub rank_most : (n : ℕ) → rank_of f n ≤ n
   unfolding rank_of
@@ -58,25 +58,25 @@ module _ (f : ℕ → Bool) where
     picked zero = []
     picked (suc n) = picked n ++ only (f n) (g n ∷ [])
 
-    pub length-picked : (n : ℕ) → length (picked n) ≡ rank_of f n
+    pub length_picked : (n : ℕ) → length (picked n) ≡ rank_of f n
     unfolding rank_of
-    length-picked zero = refl
-    length-picked (suc n) = length-append (picked n) (only (f n) (g n ∷ [])) ∙ ap (λ k. k + length (only (f n) (g n ∷ []))) (length-picked n) ∙ go (f n)
+    length_picked zero = refl
+    length_picked (suc n) = length-append (picked n) (only (f n) (g n ∷ [])) ∙ ap (λ k. k + length (only (f n) (g n ∷ []))) (length_picked n) ∙ go (f n)
       where
         go : (b : Bool) → rank_of f n + length (only b (g n ∷ [])) ≡ rank_of f n + cond b 1 0
         go true = refl
         go false = refl
 
-    pub picked-at : (d : B) (n i : ℕ) → i < n → T (f i) → get_or (picked n) (rank_of f i) d ≡ g i
-    picked-at d zero i l t = let z : ⊥ = omega arith in absurd z
-    picked-at d (suc n) i l t = ⊎_elim last (λ h. earlier h (picked-at d n i h t)) (eq-or-lt_of_le (le_of_suc-le-suc l))
+    pub picked_at : (d : B) (n i : ℕ) → i < n → T (f i) → get_or (picked n) (rank_of f i) d ≡ g i
+    picked_at d zero i l t = let z : ⊥ = omega arith in absurd z
+    picked_at d (suc n) i l t = ⊎_elim last (λ h. earlier h (picked_at d n i h t)) (eq-or-lt_of_le (le_of_suc-le-suc l))
       where
         last : i ≡ n → get_or (picked n ++ only (f n) (g n ∷ [])) (rank_of f i) d ≡ g i
         last e = subst (λ k. get_or (picked n ++ only (f n) (g n ∷ [])) (rank_of f k) d ≡ g k) (sym e) (go (f n) (subst (λ k. T (f k)) e t))
           where
             go : (b : Bool) → T b → get_or (picked n ++ only b (g n ∷ [])) (rank_of f n) d ≡ g n
-            go true h = ap (λ k. get_or (picked n ++ g n ∷ []) k d) (sym (length-picked n)) ∙ get_or-append_seam (picked n) (g n) [] d
+            go true h = ap (λ k. get_or (picked n ++ g n ∷ []) k d) (sym (length_picked n)) ∙ get_or-append_seam (picked n) (g n) [] d
             go false h = absurd h
 
         earlier : i < n → get_or (picked n) (rank_of f i) d ≡ g i → get_or (picked n ++ only (f n) (g n ∷ [])) (rank_of f i) d ≡ g i
-        earlier h e = get_or-append (picked n) (only (f n) (g n ∷ [])) d (rank_of f i) (let c = length-picked n in let b = rank_below i n h t in omega arith) ∙ e
+        earlier h e = get_or-append (picked n) (only (f n) (g n ∷ [])) d (rank_of f i) (let c = length_picked n in let b = rank_below i n h t in omega arith) ∙ e

@@ -9,10 +9,10 @@ use native.Mathlib.Decide.{ℕ_discrete, dec_lt}
 use lib.ListN.{length, get_or, take, drop, set, length-set}
 use lib.Seq.{get_or-take, get_or-drop, get_or-set_same, get_or-set_other}
 use Rattle.model.specs.Space.{put_at}
-use Rattle.automaton.proofs.Parts.{tab-same}
-use Rattle.membership.specs.Cells.{memoryOf, SameIn}
-use Rattle.membership.specs.Tried.{slots, stampIn, triedIn, stampOf, SlotIs, Stands, Kept}
-use Rattle.membership.proofs.Places.{same-memories}
+use Rattle.automaton.proofs.Parts.{tab_same}
+use Rattle.membership.specs.Cells.{memory_of, SameIn}
+use Rattle.membership.specs.Tried.{slots, stamp_in, tried_in, stamp_of, SlotIs, Stands, Kept}
+use Rattle.membership.proofs.Places.{same_memories}
 use Rattle.membership.proofs.Copying.{Copied, copied}
 
 -- a test that failed tells nothing
@@ -24,27 +24,27 @@ module _ (cells : List ℕ) (slot : ℕ) where
   abbrev part : List ℕ
   part = take (slot * 18 + 18 - (slot * 18 + 2)) (drop (slot * 18 + 2) cells)
 
-  part-is : (tags : ℕ) → tags ≤ 16 → memoryOf tags part ≡ triedIn tags cells slot
-  unfolding memoryOf triedIn
-  part-is tags few =
-      tab-same tags (λ k. get_or part k 0) (λ k. get_or cells (slot * 18 + (2 + k)) 0)
+  part_is : (tags : ℕ) → tags ≤ 16 → memory_of tags part ≡ tried_in tags cells slot
+  unfolding memory_of tried_in
+  part_is tags few =
+      tab_same tags (λ k. get_or part k 0) (λ k. get_or cells (slot * 18 + (2 + k)) 0)
       (λ k h.
       let e : slot * 18 + 2 + k ≡ slot * 18 + (2 + k) = omega arith in
       get_or-take (slot * 18 + 18 - (slot * 18 + 2)) (drop (slot * 18 + 2) cells) k 0 (omega arith) ∙ get_or-drop (slot * 18 + 2) cells k 0 ∙ ap (λ i. get_or cells i 0) e)
 
-  pub stands : (row rule left stamp tags : ℕ) (memory : List ℕ) (r : Bool) → slot < slots → tags ≤ 16 → get_or cells (slot * 18) 0 ≡ row + 1 → get_or cells (slot * 18 + 1) 0 ≡ stamp → stamp ≡ rule * 8 + left → SameIn memory part r → r ≡ true → Stands (stampOf row rule left) tags (memoryOf tags memory) cells
-  unfolding stampIn
+  pub stands : (row rule left stamp tags : ℕ) (memory : List ℕ) (r : Bool) → slot < slots → tags ≤ 16 → get_or cells (slot * 18) 0 ≡ row + 1 → get_or cells (slot * 18 + 1) 0 ≡ stamp → stamp ≡ rule * 8 + left → SameIn memory part r → r ≡ true → Stands (stamp_of row rule left) tags (memory_of tags memory) cells
+  unfolding stamp_in
   stands row rule left stamp tags memory r l few er es e same t =
       record {
         slot = slot;
         inside = l;
         stamped = omega arith;
-        holds = sym (same-memories memory part r same t tags few ∙ part-is tags few);
+        holds = sym (same_memories memory part r same t tags few ∙ part_is tags few);
       }
 
 -- nothing is put
-pub kept-none : (cells : List ℕ) (stamp : ℕ) (memory : List ℕ) → Kept cells stamp memory cells
-kept-none cells stamp memory s l = inl (record { stamped = refl; holds = λ tags few. refl })
+pub kept_none : (cells : List ℕ) (stamp : ℕ) (memory : List ℕ) → Kept cells stamp memory cells
+kept_none cells stamp memory s l = inl (record { stamped = refl; holds = λ tags few. refl })
 
 module _ (before after memory : List ℕ) (slot row rule left stamp : ℕ) (l : slot < slots) (long : 18432 ≤ length before) (wide : length memory ≡ 16) (es : stamp ≡ rule * 8 + left)
     (put : after ≡ put_at (set (set before (slot * 18) (row + 1)) (slot * 18 + 1) stamp) (slot * 18 + 2) memory) where
@@ -60,34 +60,34 @@ module _ (before after memory : List ℕ) (slot row rule left stamp : ℕ) (l : 
   other s (inr h) k m = old (s * 18 + k) (inr (omega arith))
 
   -- another slot
-  same : (s : ℕ) → ((k : ℕ) → k < 18 → get_or after (s * 18 + k) 0 ≡ get_or before (s * 18 + k) 0) → SlotIs (stampIn before s) (λ tags. triedIn tags before s) after s
-  unfolding stampIn triedIn
+  same : (s : ℕ) → ((k : ℕ) → k < 18 → get_or after (s * 18 + k) 0 ≡ get_or before (s * 18 + k) 0) → SlotIs (stamp_in before s) (λ tags. tried_in tags before s) after s
+  unfolding stamp_in tried_in
   same s e =
       let zero : s * 18 ≡ s * 18 + 0 = omega arith in
       let first = ap (λ x. get_or after x 0) zero ∙ e 0 (omega arith) ∙ ap (λ x. get_or before x 0) (sym zero) in
       let second = e 1 (omega arith) in
       record {
         stamped = ap (λ x. x * 8192 + get_or after (s * 18 + 1) 0) first ∙ ap (λ x. get_or before (s * 18) 0 * 8192 + x) second;
-        holds = λ tags few. tab-same tags (λ k. get_or after (s * 18 + (2 + k)) 0) (λ k. get_or before (s * 18 + (2 + k)) 0) (λ k m. e (2 + k) (omega arith));
+        holds = λ tags few. tab_same tags (λ k. get_or after (s * 18 + (2 + k)) 0) (λ k. get_or before (s * 18 + (2 + k)) 0) (λ k m. e (2 + k) (omega arith));
       }
 
   -- the slot itself
-  new : SlotIs (stampOf row rule left) (λ tags. memoryOf tags memory) after slot
-  unfolding stampIn triedIn memoryOf
+  new : SlotIs (stamp_of row rule left) (λ tags. memory_of tags memory) after slot
+  unfolding stamp_in tried_in memory_of
   new =
       let long' = length-set before (slot * 18) (row + 1) in
       let first = c.below (slot * 18) (omega arith) ∙ get_or-set_other (set before (slot * 18) (row + 1)) (slot * 18 + 1) (slot * 18) stamp 0 (λ z. omega arith) ∙ get_or-set_same before (slot * 18) (row + 1) 0 (omega arith) in
       let second = c.below (slot * 18 + 1) (omega arith) ∙ get_or-set_same (set before (slot * 18) (row + 1)) (slot * 18 + 1) stamp 0 (omega arith) in
       record {
         stamped = omega (arith, first, second);
-        holds = λ tags few. tab-same tags (λ k. get_or after (slot * 18 + (2 + k)) 0) (λ k. get_or memory k 0)
+        holds = λ tags few. tab_same tags (λ k. get_or after (slot * 18 + (2 + k)) 0) (λ k. get_or memory k 0)
             (λ k m. let e : slot * 18 + (2 + k) ≡ slot * 18 + 2 + k = omega arith in ap (λ x. get_or after x 0) e ∙ c.inside k (omega arith));
       }
 
-  pub kept_new : Kept before (stampOf row rule left) memory after
+  pub kept_new : Kept before (stamp_of row rule left) memory after
   kept_new s m = go (ℕ_discrete s slot) (dec_lt s slot)
     where
-      go : Dec (s ≡ slot) → Dec (s < slot) → SlotIs (stampIn before s) (λ tags. triedIn tags before s) after s ⊎ SlotIs (stampOf row rule left) (λ tags. memoryOf tags memory) after s
+      go : Dec (s ≡ slot) → Dec (s < slot) → SlotIs (stamp_in before s) (λ tags. tried_in tags before s) after s ⊎ SlotIs (stamp_of row rule left) (λ tags. memory_of tags memory) after s
       go (yes e) d = inr (rw e new)
       go (no e) (yes h) = inl (same s (other s (inl h)))
       go (no e) (no h) = inl (same s (other s (inr (omega (arith, e, h)))))

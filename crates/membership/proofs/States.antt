@@ -11,53 +11,53 @@ use borrow.Author.Rules.{rules}
 use lib.ListN.{length, get_or, set}
 use lib.Seq.{get_or-set_same, get_or-set_other}
 use Rattle.membership.specs.Cells.{cell_of}
-use Rattle.membership.specs.Chains.{classes, classIn, FirstWith, HeadOf, Heads, Links, Many, Opened, Chained, AsideOrSame, Apart, Opening}
+use Rattle.membership.specs.Chains.{classes, class_in, FirstWith, HeadOf, Heads, Links, Many, Opened, Chained, AsideOrSame, Apart, Opening}
 
-pub class-small : (work : List ℕ) (j : ℕ) → classIn work j < classes
-unfolding classIn
-class-small work j = mod-lt (cell_of work j 1) (omega arith)
+pub class_small : (work : List ℕ) (j : ℕ) → class_in work j < classes
+unfolding class_in
+class_small work j = mod-lt (cell_of work j 1) (omega arith)
 
 -- the class of an annotation in state q, and of two in the same state
-pub class-state : (work : List ℕ) (j q : ℕ) → cell_of work j 1 ≡ q → classIn work j ≡ q % classes
-unfolding classIn
-class-state work j q e = ap (λ x. x % classes) e
+pub class_state : (work : List ℕ) (j q : ℕ) → cell_of work j 1 ≡ q → class_in work j ≡ q % classes
+unfolding class_in
+class_state work j q e = ap (λ x. x % classes) e
 
-pub class_same : (work work' : List ℕ) (j : ℕ) → cell_of work j 1 ≡ cell_of work' j 1 → classIn work j ≡ classIn work' j
-class_same work work' j e = class-state work j (cell_of work' j 1) e ∙ sym (class-state work' j (cell_of work' j 1) refl)
+pub class_same : (work work' : List ℕ) (j : ℕ) → cell_of work j 1 ≡ cell_of work' j 1 → class_in work j ≡ class_in work' j
+class_same work work' j e = class_state work j (cell_of work' j 1) e ∙ sym (class_state work' j (cell_of work' j 1) refl)
 
-pub class-read : (work : List ℕ) (j r : ℕ) → r ≡ get_or work (j * 32 + 1) 0 → (r % classes ≡ classIn work j) × (r % classes < classes)
+pub class_read : (work : List ℕ) (j r : ℕ) → r ≡ get_or work (j * 32 + 1) 0 → (r % classes ≡ class_in work j) × (r % classes < classes)
 unfolding cell_of
-class-read work j r e = (sym (class-state work j r (sym e)), mod-lt r (omega arith))
+class_read work j r e = (sym (class_state work j r (sym e)), mod-lt r (omega arith))
 
 -- only the classes below the end of the window count
 module _ (f g : ℕ → ℕ) (high : ℕ) (e : (k : ℕ) → k < high → f k ≡ g k) where
-  pub first-same : (c low r : ℕ) → FirstWith f c low high r → FirstWith g c low high r
-  first-same c low r h =
+  pub first_same : (c low r : ℕ) → FirstWith f c low high r → FirstWith g c low high r
+  first_same c low r h =
       let t = h.to in
       record { from = h.from; to = t; is = λ l. sym (e r l) ∙ h.is l; none = λ k a b q. h.none k a b (e k (omega arith) ∙ q) }
 
-  pub heads-same : (p low : ℕ) (heads : List ℕ) → Heads f p low high heads → Heads g p low high heads
+  pub heads_same : (p low : ℕ) (heads : List ℕ) → Heads f p low high heads → Heads g p low high heads
   unfolding Heads
-  heads-same p low heads h j a b = subst (λ c. FirstWith g c low high (get_or heads (p * classes + c) 0)) (e j b) (first-same (f j) low (get_or heads (p * classes + f j) 0) (h j a b))
+  heads_same p low heads h j a b = subst (λ c. FirstWith g c low high (get_or heads (p * classes + c) 0)) (e j b) (first_same (f j) low (get_or heads (p * classes + f j) 0) (h j a b))
 
-  pub links-same : (low : ℕ) (links : List ℕ) → Links f low high links → Links g low high links
+  pub links_same : (low : ℕ) (links : List ℕ) → Links f low high links → Links g low high links
   unfolding Links
-  links-same low links h j a b = subst (λ c. FirstWith g c (suc j) high (get_or links j 0)) (e j b) (first-same (f j) (suc j) (get_or links j 0) (h j a b))
+  links_same low links h j a b = subst (λ c. FirstWith g c (suc j) high (get_or links j 0)) (e j b) (first_same (f j) (suc j) (get_or links j 0) (h j a b))
 
-  pub opened-same : (p low : ℕ) (heads : List ℕ) → Opened f p low high heads → Opened g p low high heads
-  opened-same p low heads h m = heads-same p low heads (h m)
+  pub opened_same : (p low : ℕ) (heads : List ℕ) → Opened f p low high heads → Opened g p low high heads
+  opened_same p low heads h m = heads_same p low heads (h m)
 
   pub chained_same : (low : ℕ) (links : List ℕ) → Chained f low high links → Chained g low high links
-  chained_same low links h m = links-same low links (h m)
+  chained_same low links h m = links_same low links (h m)
 
 -- the scan: no number from low up to j has the class
 module _ (f : ℕ → ℕ) (c low : ℕ) where
-  pub scan-none : FirstWith f c low low low
-  scan-none = record { from = omega arith; to = omega arith; is = λ l. let z : ⊥ = omega arith in absurd z; none = λ k a b q. omega arith }
+  pub scan_none : FirstWith f c low low low
+  scan_none = record { from = omega arith; to = omega arith; is = λ l. let z : ⊥ = omega arith in absurd z; none = λ k a b q. omega arith }
 
   module _ (j x : ℕ) (h : FirstWith f c low j j) (e : x ≡ f j) where
-    pub scan-more : (x ≡ c → ⊥) → FirstWith f c low (j + 1) (j + 1)
-    scan-more other =
+    pub scan_more : (x ≡ c → ⊥) → FirstWith f c low (j + 1) (j + 1)
+    scan_more other =
         let t = h.from in
         record { from = omega arith; to = omega arith; is = λ l. let z : ⊥ = omega arith in absurd z; none = λ k a b q. go k a b q (ℕ_discrete k j) }
       where
@@ -65,13 +65,13 @@ module _ (f : ℕ → ℕ) (c low : ℕ) where
         go k a b q (yes s) = other (e ∙ ap f (sym s) ∙ q)
         go k a b q (no s) = h.none k a (omega (arith, s)) q
 
-    pub scan-found : (high : ℕ) → j < high → x ≡ c → FirstWith f c low high j
-    scan-found high l q = record { from = h.from; to = omega arith; is = λ _. sym e ∙ q; none = h.none }
+    pub scan_found : (high : ℕ) → j < high → x ≡ c → FirstWith f c low high j
+    scan_found high l q = record { from = h.from; to = omega arith; is = λ _. sym e ∙ q; none = h.none }
 
-  pub scan-all : (j high : ℕ) → FirstWith f c low j j → j ≤ high → high ≤ j → FirstWith f c low high high
-  scan-all j high h a b = let e : j ≡ high = omega arith in subst (λ k. FirstWith f c low k k) e h
+  pub scan_all : (j high : ℕ) → FirstWith f c low j j → j ≤ high → high ≤ j → FirstWith f c low high high
+  scan_all j high h a b = let e : j ≡ high = omega arith in subst (λ k. FirstWith f c low k k) e h
 
-pub ruleset scans = (scan-none, scan-more, scan-found, scan-all, rules)
+pub ruleset scans = (scan_none, scan_more, scan_found, scan_all, rules)
 
 -- what a head says, by the tests on it
 module _ (f : ℕ → ℕ) (c low high h y : ℕ) (head : HeadOf f c low high y) (ey : h ≡ y) where
@@ -81,29 +81,29 @@ module _ (f : ℕ → ℕ) (c low high h y : ℕ) (head : HeadOf f c low high y)
   nothing : low ≤ high → ((k : ℕ) → low ≤ k → k < high → f k ≡ c → FirstWith f c low high h → ⊥) → FirstWith f c low high high
   nothing l not = record { from = l; to = omega arith; is = λ m. let z : ⊥ = omega arith in absurd z; none = λ k a b q. not k a b q (read k a b q) }
 
-  pub head-before : low ≤ high → h < low → FirstWith f c low high high
-  head-before l m = nothing l (λ k a b q t. let s = t.from in omega arith)
+  pub head_before : low ≤ high → h < low → FirstWith f c low high high
+  head_before l m = nothing l (λ k a b q t. let s = t.from in omega arith)
 
-  pub head-after : low ≤ high → high ≤ h → FirstWith f c low high high
-  head-after l m = nothing l (λ k a b q t. t.none k a (omega arith) q)
+  pub head_after : low ≤ high → high ≤ h → FirstWith f c low high high
+  head_after l m = nothing l (λ k a b q t. t.none k a (omega arith) q)
 
-  pub head-other : (x : ℕ) → low ≤ high → h < high → x ≡ f h → (x ≡ c → ⊥) → FirstWith f c low high high
-  head-other x l m e other = nothing l (λ k a b q t. other (e ∙ t.is m))
+  pub head_other : (x : ℕ) → low ≤ high → h < high → x ≡ f h → (x ≡ c → ⊥) → FirstWith f c low high high
+  head_other x l m e other = nothing l (λ k a b q t. other (e ∙ t.is m))
 
-  pub head-is : (x : ℕ) → low ≤ h → h < high → x ≡ f h → x ≡ c → FirstWith f c low high h
-  head-is x l m e q = record { from = l; to = omega arith; is = λ _. sym e ∙ q; none = λ k a b s. (read k a (omega arith) s).none k a b s }
+  pub head_is : (x : ℕ) → low ≤ h → h < high → x ≡ f h → x ≡ c → FirstWith f c low high h
+  head_is x l m e q = record { from = l; to = omega arith; is = λ _. sym e ∙ q; none = λ k a b s. (read k a (omega arith) s).none k a b s }
 
 pub head_of : (f : ℕ → ℕ) (p low high : ℕ) (heads : List ℕ) → Heads f p low high heads → (c : ℕ) → HeadOf f c low high (get_or heads (p * classes + c) 0)
 unfolding Heads
 head_of f p low high heads h c k a b q = subst (λ x. FirstWith f x low high (get_or heads (p * classes + x) 0)) q (h k a b)
 
 module _ (f : ℕ → ℕ) (c j low high : ℕ) where
-  pub next-scan : (r : ℕ) → FirstWith f c (j + 1) high r → FirstWith f c (suc j) high r
-  next-scan r h = subst (λ k. FirstWith f c k high r) (add-one j) h
+  pub next_scan : (r : ℕ) → FirstWith f c (j + 1) high r → FirstWith f c (suc j) high r
+  next_scan r h = subst (λ k. FirstWith f c k high r) (add-one j) h
 
-  pub next-link : (links : List ℕ) (r : ℕ) → Links f low high links → low ≤ j → j < high → f j ≡ c → r ≡ get_or links j 0 → FirstWith f c (suc j) high r
+  pub next_link : (links : List ℕ) (r : ℕ) → Links f low high links → low ≤ j → j < high → f j ≡ c → r ≡ get_or links j 0 → FirstWith f c (suc j) high r
   unfolding Links
-  next-link links r h a b q e = subst (λ x. FirstWith f x (suc j) high r) q (subst (FirstWith f (f j) (suc j) high) (sym e) (h j a b))
+  next_link links r h a b q e = subst (λ x. FirstWith f x (suc j) high r) q (subst (FirstWith f (f j) (suc j) high) (sym e) (h j a b))
 
 -- a window being opened: its numbers from j on are
 pub record Threading (f : ℕ → ℕ) (p low high : ℕ) (heads links heads' links' : List ℕ) (j : ℕ) : Type 0 where
@@ -117,14 +117,14 @@ module _ (f : ℕ → ℕ) (p low high : ℕ) (heads links : List ℕ) where
   unchanged : Apart p low high heads links heads links
   unchanged = record { places = λ q c l other. refl; below = λ j l. refl; above = λ j l. refl }
 
-  pub opening-few : high ≤ low + 4 → Opening f p low high heads links heads links
-  opening-few l =
+  pub opening_few : high ≤ low + 4 → Opening f p low high heads links heads links
+  opening_few l =
       let few : Many low high → ⊥ = λ m. omega arith in
       record { opened = λ m. absurd (few m); chained = λ m. absurd (few m); apart = unchanged }
 
-  pub thread-none : low ≤ high → Threading f p low high heads links heads links high
+  pub thread_none : low ≤ high → Threading f p low high heads links heads links high
   unfolding Heads Links
-  thread-none l =
+  thread_none l =
       let none : (k : ℕ) → high ≤ k → k < high → ⊥ = λ k a b. omega arith in
       record { from = l; to = omega arith; firsts = λ k a b. absurd (none k a b); nexts = λ k a b. absurd (none k a b); apart = unchanged }
 
@@ -190,11 +190,11 @@ module _ (f : ℕ → ℕ) (p low high : ℕ) (heads links : List ℕ) where
             };
           }
 
-      pub thread-more : (h l : List ℕ) → l ≡ links'' → h ≡ heads'' → Threading f p low high heads links h l x
-      thread-more h l el eh = rw eh (rw el threaded)
+      pub thread_more : (h l : List ℕ) → l ≡ links'' → h ≡ heads'' → Threading f p low high heads links h l x
+      thread_more h l el eh = rw eh (rw el threaded)
 
-    pub thread-all : j ≤ low → Opening f p low high heads links heads' links'
-    thread-all l =
+    pub thread_all : j ≤ low → Opening f p low high heads links heads' links'
+    thread_all l =
         let a = t.from in
         let e : j ≡ low = omega arith in
         record { opened = λ m. subst (λ i. Heads f p i high heads') e t.firsts; chained = λ m. subst (λ i. Links f i high links') e t.nexts; apart = t.apart }
@@ -205,8 +205,8 @@ module _ (f : ℕ → ℕ) (p low high : ℕ) (heads links heads' links' : List 
   unfolding Heads
   opened_after q small other h m j a b = subst (FirstWith f (f j) low' high') (sym (o.apart.places q (f j) (small j) other)) (h m j a b)
 
-  pub chained-after : AsideOrSame low high low' high' → Chained f low' high' links → Chained f low' high' links'
+  pub chained_after : AsideOrSame low high low' high' → Chained f low' high' links → Chained f low' high' links'
   unfolding Links
-  chained-after (inl l) h m j a b = subst (FirstWith f (f j) (suc j) high') (sym (o.apart.below j (omega arith))) (h m j a b)
-  chained-after (inr (inl l)) h m j a b = subst (FirstWith f (f j) (suc j) high') (sym (o.apart.above j (omega arith))) (h m j a b)
-  chained-after (inr (inr (e, e'))) h m j a b = subst (λ z. Chained f low' z links') e' (subst (λ z. Chained f z high links') e o.chained) m j a b
+  chained_after (inl l) h m j a b = subst (FirstWith f (f j) (suc j) high') (sym (o.apart.below j (omega arith))) (h m j a b)
+  chained_after (inr (inl l)) h m j a b = subst (FirstWith f (f j) (suc j) high') (sym (o.apart.above j (omega arith))) (h m j a b)
+  chained_after (inr (inr (e, e'))) h m j a b = subst (λ z. Chained f low' z links') e' (subst (λ z. Chained f z high links') e o.chained) m j a b

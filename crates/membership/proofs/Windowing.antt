@@ -6,51 +6,51 @@ use native.Mathlib.Omega.{arith}
 use native.Mathlib.Decide.{ℕ_discrete}
 use borrow.Author.Rules.{rules}
 use lib.ListN.{length}
-use Rattle.membership.specs.Chains.{classIn, Opened, Chained, Opening}
-use Rattle.membership.specs.Search.{arityIn, lowIn, highIn, Windows, Separate}
-use Rattle.membership.proofs.States.{class-small, opened_after, chained-after}
+use Rattle.membership.specs.Chains.{class_in, Opened, Chained, Opening}
+use Rattle.membership.specs.Search.{arity_in, low_in, high_in, Windows, Separate}
+use Rattle.membership.proofs.States.{class_small, opened_after, chained_after}
 
 module _ (work plan : List ℕ) where
   -- the first p windows are opened
   pub record Opens (heads links : List ℕ) (p : ℕ) : Type 0 where
     pub separate : Separate plan work
-    pub inside : p ≤ arityIn plan
-    pub windows : Windows (classIn work) plan p heads links
+    pub inside : p ≤ arity_in plan
+    pub windows : Windows (class_in work) plan p heads links
 
-  pub opens-none : (heads links : List ℕ) → Separate plan work → Opens heads links 0
-  opens-none heads links s =
+  pub opens_none : (heads links : List ℕ) → Separate plan work → Opens heads links 0
+  opens_none heads links s =
       record {
         separate = s;
         inside = omega arith;
         windows = record { opened = λ q l. let z : ⊥ = omega arith in absurd z; chained = λ q l. let z : ⊥ = omega arith in absurd z };
       }
 
-  module _ (heads links : List ℕ) (p : ℕ) (o : Opens heads links p) (l : p < arityIn plan) where
-    pub opens-place : p < 4
-    opens-place = let f = o.separate.few-children in omega arith
+  module _ (heads links : List ℕ) (p : ℕ) (o : Opens heads links p) (l : p < arity_in plan) where
+    pub opens_place : p < 4
+    opens_place = let f = o.separate.few_children in omega arith
 
-    pub opens-order : lowIn plan p ≤ highIn plan p
-    opens-order = o.separate.order p l
+    pub opens_order : low_in plan p ≤ high_in plan p
+    opens_order = o.separate.order p l
 
-    pub opens-few : highIn plan p ≤ 4096
-    opens-few = o.separate.few p l
+    pub opens_few : high_in plan p ≤ 4096
+    opens_few = o.separate.few p l
 
-    pub opens-inside : highIn plan p * 32 ≤ length work
-    opens-inside = o.separate.inside p l
+    pub opens_inside : high_in plan p * 32 ≤ length work
+    opens_inside = o.separate.inside p l
 
-    pub opens-more : (heads' links' : List ℕ) → Opening (classIn work) p (lowIn plan p) (highIn plan p) heads links heads' links' → Opens heads' links' (p + 1)
-    opens-more heads' links' g =
+    pub opens_more : (heads' links' : List ℕ) → Opening (class_in work) p (low_in plan p) (high_in plan p) heads links heads' links' → Opens heads' links' (p + 1)
+    opens_more heads' links' g =
         record { separate = o.separate; inside = omega arith; windows = record { opened = λ q m. opened q m (ℕ_discrete q p); chained = λ q m. chained q m (ℕ_discrete q p) } }
       where
-        opened : (q : ℕ) → q < p + 1 → Dec (q ≡ p) → Opened (classIn work) q (lowIn plan q) (highIn plan q) heads'
-        opened q m (yes e) = subst (λ k. Opened (classIn work) k (lowIn plan k) (highIn plan k) heads') (sym e) g.opened
-        opened q m (no n) = opened_after (classIn work) p (lowIn plan p) (highIn plan p) heads links heads' links' g (lowIn plan q) (highIn plan q) q (class-small work) n (o.windows.opened q (omega (arith, n)))
+        opened : (q : ℕ) → q < p + 1 → Dec (q ≡ p) → Opened (class_in work) q (low_in plan q) (high_in plan q) heads'
+        opened q m (yes e) = subst (λ k. Opened (class_in work) k (low_in plan k) (high_in plan k) heads') (sym e) g.opened
+        opened q m (no n) = opened_after (class_in work) p (low_in plan p) (high_in plan p) heads links heads' links' g (low_in plan q) (high_in plan q) q (class_small work) n (o.windows.opened q (omega (arith, n)))
 
-        chained : (q : ℕ) → q < p + 1 → Dec (q ≡ p) → Chained (classIn work) (lowIn plan q) (highIn plan q) links'
-        chained q m (yes e) = subst (λ k. Chained (classIn work) (lowIn plan k) (highIn plan k) links') (sym e) g.chained
-        chained q m (no n) = chained-after (classIn work) p (lowIn plan p) (highIn plan p) heads links heads' links' g (lowIn plan q) (highIn plan q) (o.separate.aside p q l (omega arith)) (o.windows.chained q (omega (arith, n)))
+        chained : (q : ℕ) → q < p + 1 → Dec (q ≡ p) → Chained (class_in work) (low_in plan q) (high_in plan q) links'
+        chained q m (yes e) = subst (λ k. Chained (class_in work) (low_in plan k) (high_in plan k) links') (sym e) g.chained
+        chained q m (no n) = chained_after (class_in work) p (low_in plan p) (high_in plan p) heads links heads' links' g (low_in plan q) (high_in plan q) (o.separate.aside p q l (omega arith)) (o.windows.chained q (omega (arith, n)))
 
-  pub opens-all : (heads links : List ℕ) (p : ℕ) → Opens heads links p → arityIn plan ≤ p → Windows (classIn work) plan (arityIn plan) heads links
-  opens-all heads links p o l = let i = o.inside in let e : p ≡ arityIn plan = omega arith in subst (λ k. Windows (classIn work) plan k heads links) e o.windows
+  pub opens_all : (heads links : List ℕ) (p : ℕ) → Opens heads links p → arity_in plan ≤ p → Windows (class_in work) plan (arity_in plan) heads links
+  opens_all heads links p o l = let i = o.inside in let e : p ≡ arity_in plan = omega arith in subst (λ k. Windows (class_in work) plan k heads links) e o.windows
 
-pub ruleset opens = (opens-none, opens-place, opens-order, opens-few, opens-inside, opens-more, opens-all, rules)
+pub ruleset opens = (opens_none, opens_place, opens_order, opens_few, opens_inside, opens_more, opens_all, rules)

@@ -6,8 +6,8 @@ abbrev pub classes : ℕ
 classes = 256
 
 -- the class of annotation j
-unfoldable pub classIn : List ℕ → ℕ → ℕ
-classIn work j = cell_of work j 1 % classes
+unfoldable pub class_in : List ℕ → ℕ → ℕ
+class_in work j = cell_of work j 1 % classes
 
 -- r is the first number from low up to high with class c, or high where there is none
 pub record FirstWith (f : ℕ → ℕ) (c low high r : ℕ) : Type 0 where

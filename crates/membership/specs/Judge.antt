@@ -1,44 +1,44 @@
 -- The judge: the refusals in their order, then the decision, and what lies in the lent spaces afterwards (document 01, sections "Runs" and "Turned away, by place"). Assumes nothing.
 use Rattle.std.specs.Prelude.{◌≡◌, List, Bool, true, false, ◌||◌, cond, ℕ, ◌*◌, ◌/◌, ◌<◌, ◌≤◌, eqb, leb, length, take, drop, replicate}
-use Rattle.model.specs.Refusal.{demand, andAfter, Answer, gives, refuses, unless}
-use Rattle.model.specs.Automaton.{forgetsNothing?}
+use Rattle.model.specs.Refusal.{demand, and_after, Answer, gives, refuses, unless}
+use Rattle.model.specs.Automaton.{forgets_nothing?}
 use Rattle.model.specs.Table.{tree_of}
 use Rattle.model.specs.Run.{Accepts}
 use Rattle.model.specs.Annotation.{annotations, accepts?}
-use Rattle.model.specs.Papers.{Recognizes, rigidOf, papers?}
-use Rattle.model.specs.Isolating.{Isolates, isolatingOf}
+use Rattle.model.specs.Papers.{Recognizes, rigid_of, papers?}
+use Rattle.model.specs.Isolating.{Isolates, isolating_of}
 use Rattle.automaton.specs.Stored.{decode}
-use Rattle.document.specs.Rows.{decodeRows}
-use Rattle.document.specs.Check.{documentCheckOf}
-use Rattle.runs.specs.Steps.{stepCells}
-use Rattle.runs.specs.Check.{checkRunOf}
-use Rattle.membership.specs.Cells.{roomOf}
+use Rattle.document.specs.Rows.{decode_rows}
+use Rattle.document.specs.Check.{document_check_of}
+use Rattle.runs.specs.Steps.{step_cells}
+use Rattle.runs.specs.Check.{check_run_of}
+use Rattle.membership.specs.Cells.{room_of}
 use Rattle.membership.specs.declared.Judged.{Judged}
 use Rattle.membership.specs.declared.Judged.TheVariants.{Yes, No, Refused}
 
 -- The number that refuses the inputs, 0 for none, with so many cells in the work and the run space.
-unfoldable pub judgeCheckOf : List ℕ → List ℕ → ℕ → ℕ → ℕ
-judgeCheckOf set cells work run =
-    andAfter (documentCheckOf set cells)
-    (demand (leb (roomOf work) (run / stepCells)) 32
-    (demand (leb (length (annotations (decode set) (decodeRows cells))) (roomOf work)) 31 0))
+unfoldable pub judge_check_of : List ℕ → List ℕ → ℕ → ℕ → ℕ
+judge_check_of set cells work run =
+    and_after (document_check_of set cells)
+    (demand (leb (room_of work) (run / step_cells)) 32
+    (demand (leb (length (annotations (decode set) (decode_rows cells))) (room_of work)) 31 0))
 
 -- what the judge answers: whether the set lets the document in, or refused with a number
-abbrev pub judgeAnswer : Judged → Answer Bool
-judgeAnswer (Yes s) = gives true
-judgeAnswer No = gives false
-judgeAnswer (Refused n) = refuses n
+abbrev pub judge_answer : Judged → Answer Bool
+judge_answer (Yes s) = gives true
+judge_answer No = gives false
+judge_answer (Refused n) = refuses n
 
 -- a judging passes 32 where no number or 31 refuses it: then all of the work space is zeros, else it is untouched
-abbrev pub workAfter : ℕ → List ℕ → List ℕ
-workAfter n work = cond (eqb n 0 || eqb n 31) (replicate (length work) 0) work
+abbrev pub work_after : ℕ → List ℕ → List ℕ
+work_after n work = cond (eqb n 0 || eqb n 31) (replicate (length work) 0) work
 
 -- The run that a yes hands back, of s steps: which one is free.
 pub record HandedBack (set cells before after : List ℕ) (s : ℕ) : Type 0 where
   pub some : 0 < s
-  pub few : s ≤ length (annotations (decode set) (decodeRows cells))
-  pub passes : checkRunOf set cells (take (s * stepCells) after) ≡ 0
-  pub rest : drop (s * stepCells) after ≡ drop (s * stepCells) before
+  pub few : s ≤ length (annotations (decode set) (decode_rows cells))
+  pub passes : check_run_of set cells (take (s * step_cells) after) ≡ 0
+  pub rest : drop (s * step_cells) after ≡ drop (s * step_cells) before
 
 -- what the run space holds after an answer: after a yes a run at its front, after any other what it held before
 abbrev pub RunAfter : List ℕ → List ℕ → List ℕ → List ℕ → Judged → Type 0
@@ -48,16 +48,16 @@ RunAfter set cells before after (Refused n) = after ≡ before
 
 -- What a judging with the answer r leaves, from the spaces work and run to work' and run'.
 pub record Judging (set cells work run : List ℕ) (r : Judged) (work' run' : List ℕ) : Type 0 where
-  pub answer : judgeAnswer r ≡ unless (judgeCheckOf set cells (length work) (length run)) (accepts? (decode set) (decodeRows cells))
-  pub cleared : work' ≡ workAfter (judgeCheckOf set cells (length work) (length run)) work
+  pub answer : judge_answer r ≡ unless (judge_check_of set cells (length work) (length run)) (accepts? (decode set) (decode_rows cells))
+  pub cleared : work' ≡ work_after (judge_check_of set cells (length work) (length run)) work
   pub handed : RunAfter set cells run run' r
-  pub accepted : (s : ℕ) → r ≡ Yes s → Accepts (decode set) (tree_of (decodeRows cells))
-  pub rejected : r ≡ No → Accepts (decode set) (tree_of (decodeRows cells)) → ⊥
+  pub accepted : (s : ℕ) → r ≡ Yes s → Accepts (decode set) (tree_of (decode_rows cells))
+  pub rejected : r ≡ No → Accepts (decode set) (tree_of (decode_rows cells)) → ⊥
   -- of a set with one state to a tag and one tag to a state, a yes is acceptance by the isolating rigid tree automaton of source document 000
-  pub isolates : papers? (decode set) ≡ true → (s : ℕ) → r ≡ Yes s → Isolates (isolatingOf (decode set)) (tree_of (decodeRows cells))
+  pub isolates : papers? (decode set) ≡ true → (s : ℕ) → r ≡ Yes s → Isolates (isolating_of (decode set)) (tree_of (decode_rows cells))
   -- and a no its opposite
-  pub isolates-not : papers? (decode set) ≡ true → r ≡ No → Isolates (isolatingOf (decode set)) (tree_of (decodeRows cells)) → ⊥
+  pub isolates_not : papers? (decode set) ≡ true → r ≡ No → Isolates (isolating_of (decode set)) (tree_of (decode_rows cells)) → ⊥
   -- and where no rule forgets, a yes is acceptance by the rigid tree automaton of source document 004
-  pub recognized : papers? (decode set) ≡ true → forgetsNothing? (decode set) ≡ true → (s : ℕ) → r ≡ Yes s → Recognizes (rigidOf (decode set)) (tree_of (decodeRows cells))
+  pub recognized : papers? (decode set) ≡ true → forgets_nothing? (decode set) ≡ true → (s : ℕ) → r ≡ Yes s → Recognizes (rigid_of (decode set)) (tree_of (decode_rows cells))
   -- and a no its opposite
-  pub unrecognized : papers? (decode set) ≡ true → forgetsNothing? (decode set) ≡ true → r ≡ No → Recognizes (rigidOf (decode set)) (tree_of (decodeRows cells)) → ⊥
+  pub unrecognized : papers? (decode set) ≡ true → forgets_nothing? (decode set) ≡ true → r ≡ No → Recognizes (rigid_of (decode set)) (tree_of (decode_rows cells)) → ⊥

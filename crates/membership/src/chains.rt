@@ -1,6 +1,6 @@
 // The annotations of a window by class, so that only those in the state that is asked are visited. No cell of heads or links is ever cleared: a head is tested when it is read, and a link is read only where one was written.
 ghost use Rattle.std.specs.Prelude.{◌≡◌, suc, ◌+◌, ◌*◌, ◌%◌, ◌≤◌, ◌<◌, length, get_or, set};
-ghost use Rattle.membership.specs.Chains.{classIn, FirstWith, HeadOf, Opened, Chained, Opening};
+ghost use Rattle.membership.specs.Chains.{class_in, FirstWith, HeadOf, Opened, Chained, Opening};
 
 use crate::entries::{ANNOTATION_CELLS, STATE};
 use automaton::State;
@@ -29,7 +29,7 @@ pub(crate) fn class_of(q: State) -> usize
 // The class of annotation j.
 fn class_at(work: &[u16], j: usize) -> usize
     requires { j * 32 + 32 ≤ length work.now }
-    ensures { (result ≡ classIn work.now j) × (result < 256) }
+    ensures { (result ≡ class_in work.now j) × (result < 256) }
 {
     size(work[j * ANNOTATION_CELLS + STATE]) % CLASSES
 }
@@ -37,7 +37,7 @@ fn class_at(work: &[u16], j: usize) -> usize
 // The first annotation of a class, looked at one by one.
 fn scan(work: &[u16], c: usize, low: usize, high: usize) -> usize
     requires { (low ≤ high) × (high * 32 ≤ length work.now) }
-    ensures { FirstWith (classIn work.now) c low high result }
+    ensures { FirstWith (class_in work.now) c low high result }
 {
     let mut j = low;
     while j < high {
@@ -59,8 +59,8 @@ fn head_from(
     high: usize,
 ) -> usize
     requires at_bound { (at < 1024) × (low ≤ high) × (high * 32 ≤ length work.now) }
-    requires head_of { HeadOf (classIn work.now) c low high (get_or heads.now at 0) }
-    ensures { FirstWith (classIn work.now) c low high result }
+    requires head_of { HeadOf (class_in work.now) c low high (get_or heads.now at 0) }
+    ensures { FirstWith (class_in work.now) c low high result }
 {
     let h = size(heads[at]);
     if h < low {
@@ -93,7 +93,7 @@ pub(crate) fn open_window(
     links: &mut [u16; LINKS],
 )
     requires { (p < 4) × (low ≤ high) × (high ≤ 4096) × (high * 32 ≤ length work.now) }
-    ensures { Opening (classIn work.now) p low high heads.old links.old heads.new links.new }
+    ensures { Opening (class_in work.now) p low high heads.old links.old heads.new links.new }
 {
     if high <= low + FEW {
         return;
@@ -119,8 +119,8 @@ pub(crate) fn first_in(
     high: usize,
 ) -> usize
     requires p_bound { (p < 4) × (c < 256) × (low ≤ high) × (high ≤ 4096) × (high * 32 ≤ length work.now) }
-    requires opened { Opened (classIn work.now) p low high heads.now }
-    ensures { FirstWith (classIn work.now) c low high result }
+    requires opened { Opened (class_in work.now) p low high heads.now }
+    ensures { FirstWith (class_in work.now) c low high result }
 {
     if high <= low + FEW {
         return scan(work, c, low, high);
@@ -138,8 +138,8 @@ pub(crate) fn next_in(
     high: usize,
 ) -> usize
     requires low_le_j { (low ≤ j) × (j < high) × (high ≤ 4096) × (high * 32 ≤ length work.now) }
-    requires chained { Chained (classIn work.now) low high links.now × (classIn work.now j ≡ c) }
-    ensures { FirstWith (classIn work.now) c (suc j) high result }
+    requires chained { Chained (class_in work.now) low high links.now × (class_in work.now j ≡ c) }
+    ensures { FirstWith (class_in work.now) c (suc j) high result }
 {
     if high <= low + FEW {
         return scan(work, c, j + 1, high);

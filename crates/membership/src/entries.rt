@@ -1,7 +1,7 @@
 // Annotations with their sources in the work space: the test whether one may be chosen, the test for an equal one, and a new one's cells.
 ghost use Rattle.std.specs.Prelude.{◌≡◌, ◌+◌, ◌*◌, ◌≤◌, ◌<◌, length};
-ghost use Rattle.model.specs.Annotation.{annotation, eqAnnotation};
-ghost use Rattle.membership.specs.Cells.{memoryOf, Short, annotationIn, ShortIn};
+ghost use Rattle.model.specs.Annotation.{annotation, eq_annotation};
+ghost use Rattle.membership.specs.Cells.{memory_of, Short, annotation_in, ShortIn};
 ghost use Rattle.membership.specs.Entries.{Stored};
 ghost use Rattle.membership.specs.Search.{choosable?, JoinedWith};
 
@@ -52,7 +52,7 @@ pub(crate) fn choosable(
     tags: usize,
 ) -> bool
     requires { (tags ≤ 16) × (j * 32 + 32 ≤ length work.now) × Short tags memory.now × ShortIn tags work.now j }
-    ensures { result ≡ choosable? state.0 (memoryOf tags memory.now) (annotationIn tags work.now j) }
+    ensures { result ≡ choosable? state.0 (memory_of tags memory.now) (annotation_in tags work.now j) }
 {
     let at = j * ANNOTATION_CELLS;
     if work[at + STATE] != state.0 {
@@ -84,7 +84,7 @@ pub(crate) fn is_same(
     tags: usize,
 ) -> bool
     requires { (tags ≤ 16) × (j * 32 + 32 ≤ length work.now) × Short tags memory.now × ShortIn tags work.now j }
-    ensures { result ≡ eqAnnotation (annotation row.0 state.0 (memoryOf tags memory.now)) (annotationIn tags work.now j) }
+    ensures { result ≡ eq_annotation (annotation row.0 state.0 (memory_of tags memory.now)) (annotation_in tags work.now j) }
 {
     let at = j * ANNOTATION_CELLS;
     if row.0 != work[at] {
@@ -110,7 +110,7 @@ pub(crate) fn put(
     tags: usize,
 )
     requires { (tags ≤ 16) × (n * 32 + 32 ≤ length work.old) × Short tags memory.now }
-    ensures { Stored tags work.old n (record { annotation = annotation row.0 state.0 (memoryOf tags memory.now); rule = rule; children = children.now }) work.new }
+    ensures { Stored tags work.old n (record { annotation = annotation row.0 state.0 (memory_of tags memory.now); rule = rule; children = children.now }) work.new }
 {
     let at = n * ANNOTATION_CELLS;
     work[at] = row.0;

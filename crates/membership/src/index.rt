@@ -1,9 +1,9 @@
 // An index: each slot's chain goes from its newest annotation to its oldest. The newest stand in a lent array that starts with zeros, so that no cell of the work space is read before it is written.
 ghost use Rattle.std.specs.Prelude.{◌≡◌, ◌+◌, ◌*◌, ◌≤◌, ◌<◌, length, get_or};
-ghost use Rattle.model.specs.Limits.{maxSteps};
+ghost use Rattle.model.specs.Limits.{max_steps};
 ghost use Rattle.model.specs.Lists.{any};
-ghost use Rattle.model.specs.Annotation.{annotation, eqAnnotation};
-ghost use Rattle.membership.specs.Cells.{memoryOf, Short, annotationsIn};
+ghost use Rattle.model.specs.Annotation.{annotation, eq_annotation};
+ghost use Rattle.membership.specs.Cells.{memory_of, Short, annotations_in};
 ghost use Rattle.membership.specs.Index.{mixed, slot_of, link_of, Indexed, Linked};
 
 use crate::entries::{ANNOTATION_CELLS, NEXT, is_same};
@@ -26,7 +26,7 @@ fn mix(h: usize, x: u16) -> usize
 // An annotation's slot.
 pub(crate) fn slot_of(row: Row, state: State, memory: &[u16; 16], tags: usize, room: usize) -> usize
     requires { (tags ≤ 16) × (0 < room) }
-    ensures { (result ≡ slot_of room (annotation row.0 state.0 (memoryOf tags memory.now))) × (result < room) }
+    ensures { (result ≡ slot_of room (annotation row.0 state.0 (memory_of tags memory.now))) × (result < room) }
 {
     let mut h = mix(size(row.0), state.0);
     let mut k = 0;
@@ -58,10 +58,10 @@ pub(crate) fn is_known(
     tags: usize,
     room: usize,
 ) -> bool
-    requires tags_bound { (tags ≤ 16) × (slot < room) × (n ≤ room) × (room ≤ maxSteps) × (room * 32 ≤ length work.now) }
-    requires slot_value { slot ≡ slot_of room (annotation row.0 state.0 (memoryOf tags memory.now)) }
+    requires tags_bound { (tags ≤ 16) × (slot < room) × (n ≤ room) × (room ≤ max_steps) × (room * 32 ≤ length work.now) }
+    requires slot_value { slot ≡ slot_of room (annotation row.0 state.0 (memory_of tags memory.now)) }
     requires indexed { Indexed tags room work.now slots.now n × Short tags memory.now }
-    ensures { result ≡ any (eqAnnotation (annotation row.0 state.0 (memoryOf tags memory.now))) (annotationsIn tags work.now n) }
+    ensures { result ≡ any (eq_annotation (annotation row.0 state.0 (memory_of tags memory.now))) (annotations_in tags work.now n) }
 {
     let mut i = link_at(slots, slot, n);
     while 0 < i {
@@ -76,7 +76,7 @@ pub(crate) fn is_known(
 
 // Annotation n becomes the newest of a slot.
 pub(crate) fn link(work: &mut [u16], slots: &mut [u16; SLOTS], slot: usize, n: usize)
-    requires { (n < 65535) × (slot < maxSteps) × (n * 32 + 32 ≤ length work.old) }
+    requires { (n < 65535) × (slot < max_steps) × (n * 32 + 32 ≤ length work.old) }
     ensures { Linked work.old slots.old slot n work.new slots.new }
 {
     let before = link_at(slots, slot, n);

@@ -10,7 +10,7 @@ mod trace; // trace.rt: the annotations reached from an accepting one
 mod write; // write.rt: their run
 
 ghost use Rattle.std.specs.Prelude.{◌≡◌, length, replicate};
-ghost use Rattle.document.specs.Check.{documentCheckOf};
+ghost use Rattle.document.specs.Check.{document_check_of};
 ghost use Rattle.membership.specs.Judge.{Judging};
 
 pub use crate::entries::ANNOTATION_CELLS;
@@ -40,7 +40,7 @@ pub fn clear(work: &mut [u16])
 
 // The judging of a sound set and table.
 fn decide(set: &[u8], rows: &[u16], work: &mut [u16], run: &mut [u16]) -> Judged
-    requires { documentCheckOf set.now rows.now ≡ 0 }
+    requires { document_check_of set.now rows.now ≡ 0 }
     ensures { Judging set.now rows.now work.old run.old result work.new run.new }
 {
     let room = room_of(work.len());

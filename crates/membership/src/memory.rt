@@ -1,19 +1,19 @@
 // Memories: a place for each tag, 0 where the tag has no row, else the row's number and 1. Nothing stands past the tags, so all 16 places are compared without a branch.
 ghost use Rattle.std.specs.Prelude.{◌≡◌, cond, ◌%◌, ◌≤◌, eqb, length};
-ghost use Rattle.model.specs.Annotation.{placesAgree, joinedPlace};
-ghost use Rattle.membership.specs.Cells.{memoryOf, Short, AgreeIn, SameIn, JoinedIn, without};
+ghost use Rattle.model.specs.Annotation.{places_agree, joined_place};
+ghost use Rattle.membership.specs.Cells.{memory_of, Short, AgreeIn, SameIn, JoinedIn, without};
 
 // A memory has 16 places, the first of them the tags'.
 pub(crate) const MEMORY_PLACES: usize = 16;
 
 fn places_agree(x: u16, y: u16) -> bool
-    ensures { result ≡ placesAgree x y }
+    ensures { result ≡ places_agree x y }
 {
     (x == 0) | (y == 0) | (x == y)
 }
 
 fn joined_place(x: u16, y: u16) -> u16
-    ensures { result ≡ joinedPlace x y }
+    ensures { result ≡ joined_place x y }
 {
     if x == 0 { y } else { x }
 }
@@ -70,7 +70,7 @@ fn kept_place(mask: u16, x: u16) -> u16
 // What is left of a memory once a mask's tags are dropped.
 pub(crate) fn kept(memory: &[u16; 16], mask: u16, tags: usize) -> [u16; 16]
     requires { (tags ≤ 16) × Short tags memory.now }
-    ensures { (memoryOf tags result ≡ without tags mask (memoryOf tags memory.now)) × Short tags result }
+    ensures { (memory_of tags result ≡ without tags mask (memory_of tags memory.now)) × Short tags result }
 {
     if mask == 0 {
         return *memory;

@@ -1,9 +1,9 @@
 // The search: for one rule on one row, every choice of one annotation for each child, in the window of the child's row.
 ghost use Rattle.std.specs.Prelude.{◌+◌, ◌-◌, ◌≤◌, ◌<◌};
 ghost use Rattle.model.specs.Annotation.{annotation};
-ghost use Rattle.membership.specs.Cells.{memoryOf, Short, annotationsIn};
-ghost use Rattle.membership.specs.Entries.{entriesIn, addEntry, addEntries, Grown};
-ghost use Rattle.membership.specs.Search.{tagsIn, arityIn, baseIn, roomIn, rowAsked, ruleAsked, targetAsked, finished, leaving, found, class_of, Ready, Windows, Alike};
+ghost use Rattle.membership.specs.Cells.{memory_of, Short, annotations_in};
+ghost use Rattle.membership.specs.Entries.{entries_in, add_entry, add_entries, Grown};
+ghost use Rattle.membership.specs.Search.{tags_in, arity_in, base_in, room_in, row_asked, rule_asked, target_asked, finished, leaving, found, class_of, Ready, Windows, Alike};
 ghost use Rattle.membership.specs.Tried.{Tried};
 
 use crate::chains::{HEADS, LINKS, class_of, first_in, next_in};
@@ -53,8 +53,8 @@ fn add(
     children: &[u16; PLACES],
     slots: &mut [u16; SLOTS],
 ) -> usize
-    requires { Ready plan.now work.old slots.old n × Short (tagsIn plan.now) memory.now }
-    ensures { Grown n (roomIn plan.now) (tagsIn plan.now) (addEntry (entriesIn (tagsIn plan.now) work.old n) (record { annotation = annotation (rowAsked asked.now) (targetAsked asked.now) (memoryOf (tagsIn plan.now) memory.now); rule = ruleAsked asked.now; children = children.now })) work.new slots.new result }
+    requires { Ready plan.now work.old slots.old n × Short (tags_in plan.now) memory.now }
+    ensures { Grown n (room_in plan.now) (tags_in plan.now) (add_entry (entries_in (tags_in plan.now) work.old n) (record { annotation = annotation (row_asked asked.now) (target_asked asked.now) (memory_of (tags_in plan.now) memory.now); rule = rule_asked asked.now; children = children.now })) work.new slots.new result }
 {
     let room = plan[ROOM];
     if room == 0 {
@@ -95,8 +95,8 @@ fn finish(
     children: &[u16; PLACES],
     slots: &mut [u16; SLOTS],
 ) -> usize
-    requires { Ready plan.now work.old slots.old n × Short (tagsIn plan.now) own.now × Short (tagsIn plan.now) memory.now }
-    ensures { Grown n (roomIn plan.now) (tagsIn plan.now) (addEntries (entriesIn (tagsIn plan.now) work.old n) (finished asked.now (memoryOf (tagsIn plan.now) own.now) (memoryOf (tagsIn plan.now) memory.now) children.now)) work.new slots.new result }
+    requires { Ready plan.now work.old slots.old n × Short (tags_in plan.now) own.now × Short (tags_in plan.now) memory.now }
+    ensures { Grown n (room_in plan.now) (tags_in plan.now) (add_entries (entries_in (tags_in plan.now) work.old n) (finished asked.now (memory_of (tags_in plan.now) own.now) (memory_of (tags_in plan.now) memory.now) children.now)) work.new slots.new result }
 {
     if agree(memory, own) {
         let all = join(memory, own);
@@ -116,8 +116,8 @@ fn leave(
     children: &[u16; PLACES],
     slots: &mut [u16; SLOTS],
 ) -> usize
-    requires { Ready plan.now work.old slots.old n × Short (tagsIn plan.now) own.now × Short (tagsIn plan.now) memory.now }
-    ensures { Grown n (roomIn plan.now) (tagsIn plan.now) (addEntries (entriesIn (tagsIn plan.now) work.old n) (leaving plan.now asked.now (memoryOf (tagsIn plan.now) own.now) (memoryOf (tagsIn plan.now) memory.now) children.now)) work.new slots.new result }
+    requires { Ready plan.now work.old slots.old n × Short (tags_in plan.now) own.now × Short (tags_in plan.now) memory.now }
+    ensures { Grown n (room_in plan.now) (tags_in plan.now) (add_entries (entries_in (tags_in plan.now) work.old n) (leaving plan.now asked.now (memory_of (tags_in plan.now) own.now) (memory_of (tags_in plan.now) memory.now) children.now)) work.new slots.new result }
 {
     let forget = asked[ASKED_FORGET];
     if forget == 0 {
@@ -142,8 +142,8 @@ pub(crate) fn search(
     heads: &[u16; HEADS],
     links: &[u16; LINKS],
 ) -> usize
-    requires { Ready plan.now work.old slots.old n × (left ≤ arityIn plan.now) × Tried plan.now asked.now own.now work.old n tried.old × Short (tagsIn plan.now) own.now × Short (tagsIn plan.now) memory.now × Windows (class_of (annotationsIn (tagsIn plan.now) work.old (baseIn plan.now))) plan.now (arityIn plan.now) heads.now links.now }
-    ensures { Grown n (roomIn plan.now) (tagsIn plan.now) (addEntries (entriesIn (tagsIn plan.now) work.old n) (found (annotationsIn (tagsIn plan.now) work.old (baseIn plan.now)) plan.now asked.now (memoryOf (tagsIn plan.now) own.now) left (memoryOf (tagsIn plan.now) memory.now) children.old)) work.new slots.new result × Alike (arityIn plan.now - left) (arityIn plan.now) children.old children.new × (result ≤ roomIn plan.now → Tried plan.now asked.now own.now work.new result tried.new) }
+    requires { Ready plan.now work.old slots.old n × (left ≤ arity_in plan.now) × Tried plan.now asked.now own.now work.old n tried.old × Short (tags_in plan.now) own.now × Short (tags_in plan.now) memory.now × Windows (class_of (annotations_in (tags_in plan.now) work.old (base_in plan.now))) plan.now (arity_in plan.now) heads.now links.now }
+    ensures { Grown n (room_in plan.now) (tags_in plan.now) (add_entries (entries_in (tags_in plan.now) work.old n) (found (annotations_in (tags_in plan.now) work.old (base_in plan.now)) plan.now asked.now (memory_of (tags_in plan.now) own.now) left (memory_of (tags_in plan.now) memory.now) children.old)) work.new slots.new result × Alike (arity_in plan.now - left) (arity_in plan.now) children.old children.new × (result ≤ room_in plan.now → Tried plan.now asked.now own.now work.new result tried.new) }
 {
     if left == 0 {
         return leave(work, own, plan, asked, n, memory, children, slots);

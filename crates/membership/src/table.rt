@@ -4,14 +4,14 @@ ghost use Rattle.model.specs.Lists.{tab};
 ghost use Rattle.model.specs.Automaton.{bit?};
 ghost use Rattle.model.specs.Table.{SoundTable};
 ghost use Rattle.automaton.specs.Stored.{decode};
-ghost use Rattle.automaton.specs.Check.{checkOf};
-ghost use Rattle.document.specs.Rows.{decodeRows};
-ghost use Rattle.membership.specs.Cells.{roomOf, memoryOf, Short, annotationsIn};
-ghost use Rattle.membership.specs.Entries.{entriesIn, addEntries, Grown};
-ghost use Rattle.membership.specs.Chains.{classIn};
-ghost use Rattle.membership.specs.Search.{tagsIn, arityIn, baseIn, roomIn, class_of, Ready, Windows, Separate, Alike};
-ghost use Rattle.membership.specs.Listing.{entriesBelow};
-ghost use Rattle.membership.specs.Plan.{Planned, read_of, RulesRead, askedIn, ruleFound, Starts, FirstRules, Before};
+ghost use Rattle.automaton.specs.Check.{check_of};
+ghost use Rattle.document.specs.Rows.{decode_rows};
+ghost use Rattle.membership.specs.Cells.{room_of, memory_of, Short, annotations_in};
+ghost use Rattle.membership.specs.Entries.{entries_in, add_entries, Grown};
+ghost use Rattle.membership.specs.Chains.{class_in};
+ghost use Rattle.membership.specs.Search.{tags_in, arity_in, base_in, room_in, class_of, Ready, Windows, Separate, Alike};
+ghost use Rattle.membership.specs.Listing.{entries_below};
+ghost use Rattle.membership.specs.Plan.{Planned, read_of, RulesRead, asked_in, rule_found, Starts, FirstRules, Before};
 ghost use Rattle.membership.specs.Tried.{Fresh};
 ghost use Rattle.membership.specs.Annotated.{Annotated};
 
@@ -128,7 +128,7 @@ fn read_rules(set: &[u8], n: u16, rules: &mut [u16; RULES])
 // What rule r asks on a row.
 fn ask(rules: &[u16; RULES], row: Row, r: u16) -> [u16; ASKED]
     requires { r < 1024 }
-    ensures { result ≡ askedIn rules.now row.0 r }
+    ensures { result ≡ asked_in rules.now row.0 r }
 {
     let at = size(r) * RULE_CELLS;
     [
@@ -162,7 +162,7 @@ fn own_place(mask: u16, row: Row) -> u16
 // The memory of a mask's tags, each going to the row.
 fn own_memory(mask: u16, row: Row, tags: usize) -> [u16; 16]
     requires { (tags ≤ 16) × (row.0 < 65535) }
-    ensures { (memoryOf tags result ≡ tab tags (λ k. cond (bit? mask k) (suc row.0) 0)) × Short tags result }
+    ensures { (memory_of tags result ≡ tab tags (λ k. cond (bit? mask k) (suc row.0) 0)) × Short tags result }
 {
     let mut out = [0u16; 16];
     if mask == 0 {
@@ -180,7 +180,7 @@ fn own_memory(mask: u16, row: Row, tags: usize) -> [u16; 16]
 
 // The first rule of each symbol and of the one past the last, found once for all rows.
 fn first_rules(set: &[u8]) -> [u16; FIRSTS]
-    requires { checkOf set.now ≡ 0 }
+    requires { check_of set.now ≡ 0 }
     ensures { FirstRules (decode set.now) result }
 {
     let mut out = [0u16; FIRSTS];
@@ -200,7 +200,7 @@ fn open_windows(
     links: &mut [u16; LINKS],
 )
     requires { Separate plan.now work.now }
-    ensures { Windows (classIn work.now) plan.now (arityIn plan.now) heads.new links.new }
+    ensures { Windows (class_in work.now) plan.now (arity_in plan.now) heads.new links.new }
 {
     let width = plan[ARITY];
     let mut p = 0;
@@ -224,9 +224,9 @@ fn by_rule(
     heads: &[u16; HEADS],
     links: &[u16; LINKS],
 ) -> usize
-    requires { Ready plan.now work.old slots.old n × (row.0 < 1024) × (r < 1024) × Fresh row.0 r tried.old × Windows (class_of (annotationsIn (tagsIn plan.now) work.old (baseIn plan.now))) plan.now (arityIn plan.now) heads.now links.now }
-    ensures grown { Grown n (roomIn plan.now) (tagsIn plan.now) (addEntries (entriesIn (tagsIn plan.now) work.old n) (ruleFound (annotationsIn (tagsIn plan.now) work.old (baseIn plan.now)) plan.now rules.now row.0 r children.old)) work.new slots.new result }
-    ensures alike { Alike 0 (arityIn plan.now) children.old children.new × (result ≤ roomIn plan.now → Fresh row.0 (r + 1) tried.new) }
+    requires { Ready plan.now work.old slots.old n × (row.0 < 1024) × (r < 1024) × Fresh row.0 r tried.old × Windows (class_of (annotations_in (tags_in plan.now) work.old (base_in plan.now))) plan.now (arity_in plan.now) heads.now links.now }
+    ensures grown { Grown n (room_in plan.now) (tags_in plan.now) (add_entries (entries_in (tags_in plan.now) work.old n) (rule_found (annotations_in (tags_in plan.now) work.old (base_in plan.now)) plan.now rules.now row.0 r children.old)) work.new slots.new result }
+    ensures alike { Alike 0 (arity_in plan.now) children.old children.new × (result ≤ room_in plan.now → Fresh row.0 (r + 1) tried.new) }
 {
     let asked = ask(rules, row, r);
     let own = own_memory(target_tags(rules, r), row, plan[TAGS]);
@@ -264,11 +264,11 @@ fn by_row(
     room: usize,
     n: usize,
 ) -> usize
-    requires set_value { (checkOf set.now ≡ 0) × SoundTable (decode set.now) (decodeRows rows.now) }
-    requires before { Before (decode set.now) (decodeRows rows.now) i.0 room tags work.old slots.old n }
-    requires starts { Starts (decode set.now) (decodeRows rows.now) starts.now i.0 × FirstRules (decode set.now) firsts.now }
+    requires set_value { (check_of set.now ≡ 0) × SoundTable (decode set.now) (decode_rows rows.now) }
+    requires before { Before (decode set.now) (decode_rows rows.now) i.0 room tags work.old slots.old n }
+    requires starts { Starts (decode set.now) (decode_rows rows.now) starts.now i.0 × FirstRules (decode set.now) firsts.now }
     requires rules_read { RulesRead (decode set.now) (length (decode set.now).rules) rules.now × Fresh i.0 0 tried.old }
-    ensures { Grown n room tags (entriesBelow (decode set.now) (decodeRows rows.now) (suc i.0)) work.new slots.new result × (result ≤ room → Fresh (suc i.0) 0 tried.new) }
+    ensures { Grown n room tags (entries_below (decode set.now) (decode_rows rows.now) (suc i.0)) work.new slots.new result × (result ≤ room → Fresh (suc i.0) 0 tried.new) }
 {
     let f = symbol(rows, i);
     let width = size(arity(set, f));
@@ -303,7 +303,7 @@ fn by_row(
 
 // The room of a work space of so many cells.
 pub(crate) fn room_of(cells: usize) -> usize
-    ensures { result ≡ roomOf cells }
+    ensures { result ≡ room_of cells }
 {
     let n = cells / ANNOTATION_CELLS;
     if n <= MAX_ROOM { n } else { MAX_ROOM }
@@ -311,8 +311,8 @@ pub(crate) fn room_of(cells: usize) -> usize
 
 // The number of annotations of all rows, left in the work space; more than the room where they do not fit.
 pub(crate) fn annotate(set: &[u8], rows: &[u16], work: &mut [u16]) -> usize
-    requires { (checkOf set.now ≡ 0) × SoundTable (decode set.now) (decodeRows rows.now) }
-    ensures { Annotated (decode set.now) (decodeRows rows.now) (roomOf (length work.old)) work.new result }
+    requires { (check_of set.now ≡ 0) × SoundTable (decode set.now) (decode_rows rows.now) }
+    ensures { Annotated (decode set.now) (decode_rows rows.now) (room_of (length work.old)) work.new result }
 {
     let room = room_of(work.len());
     let head = header(set);

@@ -1,12 +1,12 @@
 // The annotations reached from an accepting one, with the numbers of their steps.
 ghost use Rattle.std.specs.Prelude.{◌≡◌, ◌+◌, ◌*◌, ◌-◌, ◌≤◌, ◌<◌, length};
-ghost use Rattle.model.specs.Limits.{maxChildren, maxRows};
+ghost use Rattle.model.specs.Limits.{max_children, max_rows};
 ghost use Rattle.model.specs.Lists.{tab};
 ghost use Rattle.automaton.specs.Stored.{decode};
-ghost use Rattle.document.specs.Rows.{decodeRows};
-ghost use Rattle.runs.specs.Fields.{stepNumbers};
-ghost use Rattle.membership.specs.Cells.{cell_of, childIn};
-ghost use Rattle.membership.specs.Trace.{reached?, number_at, acceptingIn, ReachedMore, Unmarked, ChildrenReached, Traced, FirstOf};
+ghost use Rattle.document.specs.Rows.{decode_rows};
+ghost use Rattle.runs.specs.Fields.{step_numbers};
+ghost use Rattle.membership.specs.Cells.{cell_of, child_in};
+ghost use Rattle.membership.specs.Trace.{reached?, number_at, accepting_in, ReachedMore, Unmarked, ChildrenReached, Traced, FirstOf};
 
 use crate::entries::{ANNOTATION_CELLS, CHILD, NUMBER, REACHED, ROW, STATE, narrow};
 use automaton::{State, is_final};
@@ -32,7 +32,7 @@ pub(crate) fn source(j: usize) -> usize
 // What stands in place p of annotation j: a child annotation's number, or UNUSED.
 fn child(work: &[u16], j: usize, p: usize) -> usize
     requires { (p < 4) × (j * 32 + 32 ≤ length work.now) }
-    ensures { (result ≡ childIn work.now j p) × (result < 65536) }
+    ensures { (result ≡ child_in work.now j p) × (result < 65536) }
 {
     size(cell(work, source(j), CHILD + p))
 }
@@ -47,7 +47,7 @@ pub(crate) fn is_reached(work: &[u16], j: usize) -> bool
 // Annotation j is one of the last row in a final state.
 fn is_accepting(set: &[u8], work: &[u16], j: usize, last: Row) -> bool
     requires { j * 32 + 32 ≤ length work.now }
-    ensures { result ≡ acceptingIn (decode set.now) last.0 work.now j }
+    ensures { result ≡ accepting_in (decode set.now) last.0 work.now j }
 {
     if cell(work, j, ROW) == last.0 {
         return is_final(set, State(cell(work, j, STATE)));
@@ -57,8 +57,8 @@ fn is_accepting(set: &[u8], work: &[u16], j: usize, last: Row) -> bool
 
 // The last row.
 pub(crate) fn last_row(rows: &[u16]) -> Row
-    requires { (0 < length (decodeRows rows.now)) × (length (decodeRows rows.now) ≤ maxRows) }
-    ensures { result.0 ≡ length (decodeRows rows.now) - 1 }
+    requires { (0 < length (decode_rows rows.now)) × (length (decode_rows rows.now) ≤ max_rows) }
+    ensures { result.0 ≡ length (decode_rows rows.now) - 1 }
 {
     Row(narrow(count(rows) - 1))
 }
@@ -66,7 +66,7 @@ pub(crate) fn last_row(rows: &[u16]) -> Row
 // The first of n annotations that is accepting, or n.
 pub(crate) fn first_accepting(set: &[u8], work: &[u16], n: usize, last: Row) -> usize
     requires { n * 32 ≤ length work.now }
-    ensures { FirstOf (acceptingIn (decode set.now) last.0 work.now) n result }
+    ensures { FirstOf (accepting_in (decode set.now) last.0 work.now) n result }
 {
     let mut j = 0;
     while j < n {
@@ -144,7 +144,7 @@ fn number_at(work: &[u16], j: usize, p: usize) -> Step
 // The step places of annotation j: its child annotations' steps.
 pub(crate) fn places_of(work: &[u16], j: usize) -> [Step; PLACES]
     requires { j * 32 + 32 ≤ length work.now }
-    ensures { stepNumbers result ≡ tab maxChildren (number_at work.now j) }
+    ensures { step_numbers result ≡ tab max_children (number_at work.now j) }
 {
     let mut out = [Step(UNUSED); PLACES];
     let mut p = 0;

@@ -1,7 +1,7 @@
 // Joined memories that were tried already, for a rule on a row: a second search from one would find nothing new. A slot keeps the last one that fell to it.
 ghost use Rattle.std.specs.Prelude.{◌≡◌, true, ◌+◌, ◌*◌, ◌≤◌, ◌<◌, length};
-ghost use Rattle.membership.specs.Cells.{memoryOf};
-ghost use Rattle.membership.specs.Tried.{stampOf, Stands, Kept};
+ghost use Rattle.membership.specs.Cells.{memory_of};
+ghost use Rattle.membership.specs.Tried.{stamp_of, Stands, Kept};
 
 use crate::memory::{MEMORY_PLACES, same};
 use base::numbers::size;
@@ -81,7 +81,7 @@ pub(crate) fn is_tried(
 ) -> bool
     requires in_bounds { 18432 ≤ length tried.now }
     requires row_bound { (row.0 < 1024) × (rule < 1024) × (left ≤ 4) × (tags ≤ 16) }
-    ensures { result ≡ true → Stands (stampOf row.0 rule left) tags (memoryOf tags memory.now) tried.now }
+    ensures { result ≡ true → Stands (stamp_of row.0 rule left) tags (memory_of tags memory.now) tried.now }
 {
     if slot >= SLOTS {
         return false;
@@ -108,7 +108,7 @@ pub(crate) fn keep(
     memory: &[u16; 16],
 )
     requires { (row.0 < 1024) × (rule < 1024) × (left ≤ 4) }
-    ensures { Kept tried.old (stampOf row.0 rule left) memory.now tried.new }
+    ensures { Kept tried.old (stamp_of row.0 rule left) memory.now tried.new }
 {
     if slot < SLOTS {
         let at = slot * SLOT_CELLS;

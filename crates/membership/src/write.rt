@@ -1,14 +1,14 @@
 // The run of the first accepting annotation, written at the front of the run space.
 ghost use Rattle.std.specs.Prelude.{◌≡◌, ◌+◌, ◌*◌, ◌≤◌, ◌<◌, length};
-ghost use Rattle.model.specs.Limits.{maxSteps};
+ghost use Rattle.model.specs.Limits.{max_steps};
 ghost use Rattle.model.specs.Space.{put_at};
 ghost use Rattle.model.specs.Table.{SoundTable};
 ghost use Rattle.model.specs.Annotation.{annotations};
 ghost use Rattle.automaton.specs.Stored.{decode};
-ghost use Rattle.automaton.specs.Check.{checkOf};
-ghost use Rattle.document.specs.Rows.{decodeRows};
-ghost use Rattle.runs.specs.Steps.{stepCells};
-ghost use Rattle.membership.specs.Cells.{annotationsIn};
+ghost use Rattle.automaton.specs.Check.{check_of};
+ghost use Rattle.document.specs.Rows.{decode_rows};
+ghost use Rattle.runs.specs.Steps.{step_cells};
+ghost use Rattle.membership.specs.Cells.{annotations_in};
 ghost use Rattle.membership.specs.Sources.{SourcedIn};
 ghost use Rattle.membership.specs.Trace.{Reached, with_number, step_of};
 ghost use Rattle.membership.specs.Handed.{StepsWritten, RunWritten};
@@ -22,7 +22,7 @@ use runs::steps::{StepFields, put_step};
 // Annotation j is step s of the run.
 fn write_step(work: &mut [u16], run: &mut [u16], j: usize, s: Step)
     requires { j * 32 + 32 ≤ length work.old }
-    ensures { (work.new ≡ with_number work.old j s.0) × (run.new ≡ put_at run.old (s.0 * stepCells) (step_of work.old j)) }
+    ensures { (work.new ≡ with_number work.old j s.0) × (run.new ≡ put_at run.old (s.0 * step_cells) (step_of work.old j)) }
 {
     let rule = cell(work, source(j), RULE);
     let row = Row(cell(work, j, ROW));
@@ -41,7 +41,7 @@ fn write_step(work: &mut [u16], run: &mut [u16], j: usize, s: Step)
 
 // The annotations that are reached become steps, in ascending order.
 fn write_steps(work: &mut [u16], run: &mut [u16], root: usize) -> usize
-    requires root_lt_max_steps { (root < maxSteps) × (root * 32 + 32 ≤ length work.old) × (root * 6 + 6 ≤ length run.old) }
+    requires root_lt_max_steps { (root < max_steps) × (root * 32 + 32 ≤ length work.old) × (root * 6 + 6 ≤ length run.old) }
     requires reached { Reached work.old root }
     ensures { StepsWritten work.old root run.old run.new result }
 {
@@ -66,10 +66,10 @@ pub(crate) fn write_run(
     n: usize,
     run: &mut [u16],
 ) -> usize
-    requires set_value { (checkOf set.now ≡ 0) × SoundTable (decode set.now) (decodeRows rows.now) }
-    requires n_le_max_steps { (n ≤ maxSteps) × (n * 32 ≤ length work.old) × (n * 6 ≤ length run.old) }
-    requires n_value { (annotationsIn (decode set.now).tags work.old n ≡ annotations (decode set.now) (decodeRows rows.now)) × SourcedIn (decode set.now) (decodeRows rows.now) (decode set.now).tags work.old n }
-    ensures { RunWritten (decode set.now) (decodeRows rows.now) n run.old run.new result }
+    requires set_value { (check_of set.now ≡ 0) × SoundTable (decode set.now) (decode_rows rows.now) }
+    requires n_le_max_steps { (n ≤ max_steps) × (n * 32 ≤ length work.old) × (n * 6 ≤ length run.old) }
+    requires n_value { (annotations_in (decode set.now).tags work.old n ≡ annotations (decode set.now) (decode_rows rows.now)) × SourcedIn (decode set.now) (decode_rows rows.now) (decode set.now).tags work.old n }
+    ensures { RunWritten (decode set.now) (decode_rows rows.now) n run.old run.new result }
 {
     let last = last_row(rows);
     let root = first_accepting(set, work, n, last);

@@ -15,14 +15,14 @@ use lib.Arith.{digits_lt, digits_div, digits_mod}
 use lib.Pow.{pow_pos, pow-add, shr-shr}
 use lib.ListN.{length, get_or}
 use Rattle.model.specs.Tree.{Tree, at}
-use Rattle.model.specs.Automaton.{Rule, State, Automaton, Wellformed, noState, stateAt, final?, carries?, forgets?}
+use Rattle.model.specs.Automaton.{Rule, State, Automaton, Wellformed, no_state, state_at, final?, carries?, forgets?}
 use Rattle.model.specs.Run.{Move, Forgets, Together, Consistent, Accepts}
-use Rattle.model.specs.Lists.{concatMap, only}
-use Rattle.model.specs.Boolean.{pairState, pairNumbers, pairRule, product}
-use Rattle.model.proofs.Members.{T_and, and_T, in-concatMap, concatMap-in, in-only, only-in}
-use Rattle.model.proofs.Tab.{tab-at}
-use Rattle.model.proofs.Order.{in-sorted, sorted-in}
-use Rattle.model.proofs.Rows.{in-getD}
+use Rattle.model.specs.Lists.{concat_map, only}
+use Rattle.model.specs.Boolean.{pair_state, pair_numbers, pair_rule, product}
+use Rattle.model.proofs.Members.{T_and, and_T, in_concat_map, concat_map_in, in_only, only_in}
+use Rattle.model.proofs.Tab.{tab_at}
+use Rattle.model.proofs.Order.{in_sorted, sorted_in}
+use Rattle.model.proofs.Rows.{in_get_d}
 
 -- a map of the states of `A` to those of `B` that keeps the rules and the final states, brings no tag that `A` has not, and forgets the tags that it brings where `A` does
 pub record Carried (A B : Automaton) : Type 1 where
@@ -51,7 +51,7 @@ carry {A} {B} c t w =
           record {
             rule = r;
             listed = ir;
-            same-symbol = es ∙ s.same-symbol;
+            same_symbol = es ∙ s.same_symbol;
             leads = et ∙ ap c.f s.leads;
             as_many = el ∙ s.as_many;
             from = λ j h. ek j (omega (arith, s.as_many)) ∙ ap c.f (s.from j h);
@@ -72,8 +72,8 @@ carry {A} {B} c t w =
 shifted : (b k e : ℕ) → b * 2 ^ (suc e + k) ≡ b * 2 ^ e * 2 * 2 ^ k
 shifted b k e = rw (pow-add 2 (suc e) k, pow-suc 2 e) (simp mul_assoc)
 
-pub bit-low : (a b k t : ℕ) → k < t → (a + b * 2 ^ t) / 2 ^ k % 2 ≡ a / 2 ^ k % 2
-bit-low a b k t h =
+pub bit_low : (a b k t : ℕ) → k < t → (a + b * 2 ^ t) / 2 ^ k % 2 ≡ a / 2 ^ k % 2
+bit_low a b k t h =
     let e : ℕ = t - suc k in
     let et : t ≡ suc e + k = omega arith in
     ap (λ z. (a + b * 2 ^ z) / 2 ^ k % 2) et
@@ -90,34 +90,34 @@ bit_high a b k t h =
 pub mask_bound : (a b t u : ℕ) → a < 2 ^ t → b < 2 ^ u → a + b * 2 ^ t < 2 ^ (t + u)
 mask_bound a b t u la lb = rw (pow-add 2 t u) (omega (arith, digits_lt lb la))
 
-pub length-pairNumbers : (n : ℕ) (ps qs : List ℕ) → length ps ≡ length qs → length (pairNumbers n ps qs) ≡ length ps
-length-pairNumbers n [] qs h = refl
-length-pairNumbers n (p ∷ ps) [] h = let z : ⊥ = omega arith in absurd z
-length-pairNumbers n (p ∷ ps) (q ∷ qs) h = ap suc (length-pairNumbers n ps qs (omega arith))
+pub length_pair_numbers : (n : ℕ) (ps qs : List ℕ) → length ps ≡ length qs → length (pair_numbers n ps qs) ≡ length ps
+length_pair_numbers n [] qs h = refl
+length_pair_numbers n (p ∷ ps) [] h = let z : ⊥ = omega arith in absurd z
+length_pair_numbers n (p ∷ ps) (q ∷ qs) h = ap suc (length_pair_numbers n ps qs (omega arith))
 
-pub pairNumbers-at : (n : ℕ) (ps qs : List ℕ) → length ps ≡ length qs → (j : ℕ) → j < length ps → get_or (pairNumbers n ps qs) j 0 ≡ get_or ps j 0 * n + get_or qs j 0
-pairNumbers-at n [] qs h j l = let z : ⊥ = omega arith in absurd z
-pairNumbers-at n (p ∷ ps) [] h j l = let z : ⊥ = omega arith in absurd z
-pairNumbers-at n (p ∷ ps) (q ∷ qs) h zero l = refl
-pairNumbers-at n (p ∷ ps) (q ∷ qs) h (suc j) l = pairNumbers-at n ps qs (omega arith) j (omega arith)
+pub pair_numbers_at : (n : ℕ) (ps qs : List ℕ) → length ps ≡ length qs → (j : ℕ) → j < length ps → get_or (pair_numbers n ps qs) j 0 ≡ get_or ps j 0 * n + get_or qs j 0
+pair_numbers_at n [] qs h j l = let z : ⊥ = omega arith in absurd z
+pair_numbers_at n (p ∷ ps) [] h j l = let z : ⊥ = omega arith in absurd z
+pair_numbers_at n (p ∷ ps) (q ∷ qs) h zero l = refl
+pair_numbers_at n (p ∷ ps) (q ∷ qs) h (suc j) l = pair_numbers_at n ps qs (omega arith) j (omega arith)
 
 -- the rule that pairs two rules, and the rules that pair one with a list of rules
-pub one-pair : (n t : ℕ) (a b : Rule) {r : Rule} → In r (only (eqb a.symbol b.symbol) (pairRule n t a b ∷ [])) → (a.symbol ≡ b.symbol) × (r ≡ pairRule n t a b)
-one-pair n t a b h = let (d, o) = in-only (eqb a.symbol b.symbol) _ h in (eqb→eq a.symbol b.symbol d, eq_of_singleton o)
+pub one_pair : (n t : ℕ) (a b : Rule) {r : Rule} → In r (only (eqb a.symbol b.symbol) (pair_rule n t a b ∷ [])) → (a.symbol ≡ b.symbol) × (r ≡ pair_rule n t a b)
+one_pair n t a b h = let (d, o) = in_only (eqb a.symbol b.symbol) _ h in (eqb→eq a.symbol b.symbol d, eq_of_singleton o)
 
-pub pair-in : (n t : ℕ) (a : Rule) (bs : List Rule) {r : Rule} → In r (concatMap (λ b. only (eqb a.symbol b.symbol) (pairRule n t a b ∷ [])) bs) → (b : Rule) × In b bs × (a.symbol ≡ b.symbol) × (r ≡ pairRule n t a b)
-pair-in n t a bs h = let (b, ib, m) = in-concatMap _ bs h in let (e, is) = one-pair n t a b m in (b, ib, e, is)
+pub pair_in : (n t : ℕ) (a : Rule) (bs : List Rule) {r : Rule} → In r (concat_map (λ b. only (eqb a.symbol b.symbol) (pair_rule n t a b ∷ [])) bs) → (b : Rule) × In b bs × (a.symbol ≡ b.symbol) × (r ≡ pair_rule n t a b)
+pair_in n t a bs h = let (b, ib, m) = in_concat_map _ bs h in let (e, is) = one_pair n t a b m in (b, ib, e, is)
 
 -- what the product's state `(p, q)` is
 module _ (A B : Automaton) where
-  pub product-state-at : (i : ℕ) → i < length A.states * length B.states → stateAt (product A B) i ≡ pairState A.tags (stateAt A (i / length B.states)) (stateAt B (i % length B.states))
-  product-state-at i l = tab-at noState (length A.states * length B.states) _ i l
+  pub product_state_at : (i : ℕ) → i < length A.states * length B.states → state_at (product A B) i ≡ pair_state A.tags (state_at A (i / length B.states)) (state_at B (i % length B.states))
+  product_state_at i l = tab_at no_state (length A.states * length B.states) _ i l
 
-  pub product-state : (p q : ℕ) → p < length A.states → q < length B.states → stateAt (product A B) (p * length B.states + q) ≡ pairState A.tags (stateAt A p) (stateAt B q)
-  product-state p q lp lq =
-      product-state-at (p * length B.states + q) (digits_lt lp lq)
-      ∙ ap (λ z. pairState A.tags (stateAt A z) (stateAt B ((p * length B.states + q) % length B.states))) (digits_div p lq)
-      ∙ ap (λ z. pairState A.tags (stateAt A p) (stateAt B z)) (digits_mod p lq)
+  pub product_state : (p q : ℕ) → p < length A.states → q < length B.states → state_at (product A B) (p * length B.states + q) ≡ pair_state A.tags (state_at A p) (state_at B q)
+  product_state p q lp lq =
+      product_state_at (p * length B.states + q) (digits_lt lp lq)
+      ∙ ap (λ z. pair_state A.tags (state_at A z) (state_at B ((p * length B.states + q) % length B.states))) (digits_div p lq)
+      ∙ ap (λ z. pair_state A.tags (state_at A p) (state_at B z)) (digits_mod p lq)
 
 module _ (A B : Automaton) (sa : Wellformed A) (sb : Wellformed B) (same : A.arities ≡ B.arities) where
   abbrev P : Automaton
@@ -133,94 +133,94 @@ module _ (A B : Automaton) (sa : Wellformed A) (sb : Wellformed B) (same : A.ari
     in_left : In left A.rules
     in_right : In right B.rules
     symbols : left.symbol ≡ right.symbol
-    is : r ≡ pairRule n A.tags left right
+    is : r ≡ pair_rule n A.tags left right
 
   pair_of : (r : Rule) → In r P.rules → Pair r
   pair_of r h =
-      let (a, ia, h₁) = in-concatMap _ A.rules (in-sorted _ h) in
-      let (b, ib, e, is) = pair-in n A.tags a B.rules h₁ in
+      let (a, ia, h₁) = in_concat_map _ A.rules (in_sorted _ h) in
+      let (b, ib, e, is) = pair_in n A.tags a B.rules h₁ in
       record { left = a; right = b; in_left = ia; in_right = ib; symbols = e; is = is }
 
-  of_pair : (a b : Rule) → In a A.rules → In b B.rules → a.symbol ≡ b.symbol → In (pairRule n A.tags a b) P.rules
+  of_pair : (a b : Rule) → In a A.rules → In b B.rules → a.symbol ≡ b.symbol → In (pair_rule n A.tags a b) P.rules
   of_pair a b ia ib e =
-      sorted-in _ (concatMap-in (λ r. concatMap (λ s. only (eqb r.symbol s.symbol) (pairRule n A.tags r s ∷ [])) B.rules) ia
-      (concatMap-in (λ s. only (eqb a.symbol s.symbol) (pairRule n A.tags a s ∷ [])) ib
-      (only-in (eqb a.symbol b.symbol) (subst (λ z. T (eqb a.symbol z)) e (eqb_refl a.symbol)) (here refl))))
+      sorted_in _ (concat_map_in (λ r. concat_map (λ s. only (eqb r.symbol s.symbol) (pair_rule n A.tags r s ∷ [])) B.rules) ia
+      (concat_map_in (λ s. only (eqb a.symbol s.symbol) (pair_rule n A.tags a s ∷ [])) ib
+      (only_in (eqb a.symbol b.symbol) (subst (λ z. T (eqb a.symbol z)) e (eqb_refl a.symbol)) (here refl))))
 
   -- .. and what it carries
   module _ (p q : ℕ) (lp : p < length A.states) (lq : q < n) where
-    final-pair : final? P (p * n + q) ≡ (final? A p && final? B q)
-    final-pair = ap (λ (s : State). s.final) (product-state A B p q lp lq)
+    final_pair : final? P (p * n + q) ≡ (final? A p && final? B q)
+    final_pair = ap (λ (s : State). s.final) (product_state A B p q lp lq)
 
-    low-tag : (k : ℕ) → k < A.tags → carries? P (p * n + q) k ≡ carries? A p k
-    low-tag k h = ap (λ (s : State). eqb (s.mask / 2 ^ k % 2) 1) (product-state A B p q lp lq) ∙ ap (λ z. eqb z 1) (bit-low _ _ k A.tags h)
+    low_tag : (k : ℕ) → k < A.tags → carries? P (p * n + q) k ≡ carries? A p k
+    low_tag k h = ap (λ (s : State). eqb (s.mask / 2 ^ k % 2) 1) (product_state A B p q lp lq) ∙ ap (λ z. eqb z 1) (bit_low _ _ k A.tags h)
 
-    high-tag : (k : ℕ) → carries? P (p * n + q) (A.tags + k) ≡ carries? B q k
-    high-tag k = ap (λ (s : State). eqb (s.mask / 2 ^ (A.tags + k) % 2) 1) (product-state A B p q lp lq) ∙ ap (λ z. eqb z 1) (bit_high _ _ k A.tags (sa.masks p))
+    high_tag : (k : ℕ) → carries? P (p * n + q) (A.tags + k) ≡ carries? B q k
+    high_tag k = ap (λ (s : State). eqb (s.mask / 2 ^ (A.tags + k) % 2) 1) (product_state A B p q lp lq) ∙ ap (λ z. eqb z 1) (bit_high _ _ k A.tags (sa.masks p))
 
   -- .. and what a rule of a pair forgets
-  low-forget : (a b : Rule) (k : ℕ) → k < A.tags → forgets? (pairRule n A.tags a b) k ≡ forgets? a k
-  low-forget a b k h = ap (λ z. eqb z 1) (bit-low a.forget b.forget k A.tags h)
+  low_forget : (a b : Rule) (k : ℕ) → k < A.tags → forgets? (pair_rule n A.tags a b) k ≡ forgets? a k
+  low_forget a b k h = ap (λ z. eqb z 1) (bit_low a.forget b.forget k A.tags h)
 
-  high-forget : (a b : Rule) → In a A.rules → (k : ℕ) → forgets? (pairRule n A.tags a b) (A.tags + k) ≡ forgets? b k
-  high-forget a b ia k = ap (λ z. eqb z 1) (bit_high a.forget b.forget k A.tags (sa.forgets a ia))
+  high_forget : (a b : Rule) → In a A.rules → (k : ℕ) → forgets? (pair_rule n A.tags a b) (A.tags + k) ≡ forgets? b k
+  high_forget a b ia k = ap (λ z. eqb z 1) (bit_high a.forget b.forget k A.tags (sa.forgets a ia))
 
-  pub by-pair : (C : Rule → Type 0) → ((a b : Rule) → In a A.rules → In b B.rules → a.symbol ≡ b.symbol → C (pairRule n A.tags a b)) → (r : Rule) → In r P.rules → C r
-  by-pair C h r ir = let d = pair_of r ir in subst C (sym d.is) (h d.left d.right d.in_left d.in_right d.symbols)
+  pub by_pair : (C : Rule → Type 0) → ((a b : Rule) → In a A.rules → In b B.rules → a.symbol ≡ b.symbol → C (pair_rule n A.tags a b)) → (r : Rule) → In r P.rules → C r
+  by_pair C h r ir = let d = pair_of r ir in subst C (sym d.is) (h d.left d.right d.in_left d.in_right d.symbols)
 
   as_many : (a b : Rule) → In a A.rules → In b B.rules → a.symbol ≡ b.symbol → length a.children ≡ length b.children
   as_many a b ia ib e = cc (sa.as_many a ia, sb.as_many b ib)
 
-  to-left : Carried P A
-  to-left =
+  to_left : Carried P A
+  to_left =
       record {
         f = λ z. z / n;
         g = λ k. k;
         brings = λ k. k < A.tags;
-        rule = by-pair _ (λ a b ia ib e.
+        rule = by_pair _ (λ a b ia ib e.
             let m = as_many a b ia ib e in (
               a,
               ia,
               refl,
               sym (digits_div a.target (sb.targets b ib)),
-              sym (length-pairNumbers n a.children b.children m),
+              sym (length_pair_numbers n a.children b.children m),
               λ j h.
-                  let l : j < length a.children = omega (arith, length-pairNumbers n a.children b.children m) in
-                  sym (ap (λ z. z / n) (pairNumbers-at n a.children b.children m j l) ∙ digits_div (get_or a.children j 0) (sb.children b ib _ (in-getD 0 b.children j (omega arith)))),
-              λ k h o. subst T (low-forget a b k h) o,
+                  let l : j < length a.children = omega (arith, length_pair_numbers n a.children b.children m) in
+                  sym (ap (λ z. z / n) (pair_numbers_at n a.children b.children m j l) ∙ digits_div (get_or a.children j 0) (sb.children b ib _ (in_get_d 0 b.children j (omega arith)))),
+              λ k h o. subst T (low_forget a b k h) o,
             ));
-        final = by-pair _ (λ a b ia ib e h.
-            rw (digits_div a.target (sb.targets b ib)) (T_and (final? A a.target) (final? B b.target) (subst T (final-pair a.target b.target (sa.targets a ia) (sb.targets b ib)) h)).0);
-        tags = by-pair _ (λ a b ia ib e k h c. (
+        final = by_pair _ (λ a b ia ib e h.
+            rw (digits_div a.target (sb.targets b ib)) (T_and (final? A a.target) (final? B b.target) (subst T (final_pair a.target b.target (sa.targets a ia) (sb.targets b ib)) h)).0);
+        tags = by_pair _ (λ a b ia ib e k h c. (
           omega arith,
-          subst T (sym (low-tag a.target b.target (sa.targets a ia) (sb.targets b ib) k h)) (rw (digits_div a.target (sb.targets b ib)) at c),
+          subst T (sym (low_tag a.target b.target (sa.targets a ia) (sb.targets b ib) k h)) (rw (digits_div a.target (sb.targets b ib)) at c),
           h,
         ));
       }
 
-  to-right : Carried P B
-  to-right =
+  to_right : Carried P B
+  to_right =
       record {
         f = λ z. z % n;
         g = λ k. A.tags + k;
         brings = λ k. Unit {0};
-        rule = by-pair _ (λ a b ia ib e.
+        rule = by_pair _ (λ a b ia ib e.
             let m = as_many a b ia ib e in (
               b,
               ib,
               sym e,
               sym (digits_mod a.target (sb.targets b ib)),
-              sym (length-pairNumbers n a.children b.children m ∙ m),
+              sym (length_pair_numbers n a.children b.children m ∙ m),
               λ j h.
-                  let l : j < length a.children = omega (arith, length-pairNumbers n a.children b.children m) in
-                  sym (ap (λ z. z % n) (pairNumbers-at n a.children b.children m j l) ∙ digits_mod (get_or a.children j 0) (sb.children b ib _ (in-getD 0 b.children j (omega arith)))),
-              λ k h o. subst T (high-forget a b ia k) o,
+                  let l : j < length a.children = omega (arith, length_pair_numbers n a.children b.children m) in
+                  sym (ap (λ z. z % n) (pair_numbers_at n a.children b.children m j l) ∙ digits_mod (get_or a.children j 0) (sb.children b ib _ (in_get_d 0 b.children j (omega arith)))),
+              λ k h o. subst T (high_forget a b ia k) o,
             ));
-        final = by-pair _ (λ a b ia ib e h.
-            rw (digits_mod a.target (sb.targets b ib)) (T_and (final? A a.target) (final? B b.target) (subst T (final-pair a.target b.target (sa.targets a ia) (sb.targets b ib)) h)).1);
-        tags = by-pair _ (λ a b ia ib e k h c. (
+        final = by_pair _ (λ a b ia ib e h.
+            rw (digits_mod a.target (sb.targets b ib)) (T_and (final? A a.target) (final? B b.target) (subst T (final_pair a.target b.target (sa.targets a ia) (sb.targets b ib)) h)).1);
+        tags = by_pair _ (λ a b ia ib e k h c. (
           omega arith,
-          subst T (sym (high-tag a.target b.target (sa.targets a ia) (sb.targets b ib) k)) (rw (digits_mod a.target (sb.targets b ib)) at c),
+          subst T (sym (high_tag a.target b.target (sa.targets a ia) (sb.targets b ib) k)) (rw (digits_mod a.target (sb.targets b ib)) at c),
           tt,
         ));
       }
@@ -234,21 +234,21 @@ module _ (A B : Automaton) (sa : Wellformed A) (sb : Wellformed B) (same : A.ari
       left_in : (p : List ℕ) (u : Tree) → at t p ≡ some u → v.run p < length A.states
       left_in p u e = let s = v.runs p u e in subst (◌< length A.states) s.leads (sa.targets s.rule s.listed)
 
-      right-in : (p : List ℕ) (u : Tree) → at t p ≡ some u → w.run p < n
-      right-in p u e = let s = w.runs p u e in subst (◌< n) s.leads (sb.targets s.rule s.listed)
+      right_in : (p : List ℕ) (u : Tree) → at t p ≡ some u → w.run p < n
+      right_in p u e = let s = w.runs p u e in subst (◌< n) s.leads (sb.targets s.rule s.listed)
 
       -- two moves make a move by the rule of the pair
-      paired : (p : List ℕ) (u : Tree) (s : Move A v.run p u) (s' : Move B w.run p u) → (m : Move P ρ p u) × (m.rule ≡ pairRule n A.tags s.rule s'.rule)
+      paired : (p : List ℕ) (u : Tree) (s : Move A v.run p u) (s' : Move B w.run p u) → (m : Move P ρ p u) × (m.rule ≡ pair_rule n A.tags s.rule s'.rule)
       paired p u s s' =
-          let es = s.same-symbol ∙ sym s'.same-symbol in
+          let es = s.same_symbol ∙ sym s'.same_symbol in
           let m = as_many s.rule s'.rule s.listed s'.listed es in (
             record {
-              rule = pairRule n A.tags s.rule s'.rule;
+              rule = pair_rule n A.tags s.rule s'.rule;
               listed = of_pair s.rule s'.rule s.listed s'.listed es;
-              same-symbol = s.same-symbol;
+              same_symbol = s.same_symbol;
               leads = cc (s.leads, s'.leads);
-              as_many = length-pairNumbers n s.rule.children s'.rule.children m ∙ s.as_many;
-              from = λ j h. pairNumbers-at n s.rule.children s'.rule.children m j (omega (arith, s.as_many)) ∙ cc (s.from j h, s'.from j h);
+              as_many = length_pair_numbers n s.rule.children s'.rule.children m ∙ s.as_many;
+              from = λ j h. pair_numbers_at n s.rule.children s'.rule.children m j (omega (arith, s.as_many)) ∙ cc (s.from j h, s'.from j h);
             },
             refl,
           )
@@ -257,37 +257,37 @@ module _ (A B : Automaton) (sa : Wellformed A) (sb : Wellformed B) (same : A.ari
       step p u e = (paired p u (v.runs p u e) (w.runs p u e)).0
 
       -- .. which forgets what one of the two forgets
-      left-forgets : (k : ℕ) → k < A.tags → (q : List ℕ) → Forgets A t v.run k q → Forgets P t ρ k q
-      left-forgets k h q o =
+      left_forgets : (k : ℕ) → k < A.tags → (q : List ℕ) → Forgets A t v.run k q → Forgets P t ρ k q
+      left_forgets k h q o =
           let s' = w.runs q o.tree o.stands in
           let (m, is) = paired q o.tree o.move s' in
-          record { tree = o.tree; stands = o.stands; move = m; forgotten = subst (λ (r : Rule). T (forgets? r k)) (sym is) (subst T (sym (low-forget o.move.rule s'.rule k h)) o.forgotten) }
+          record { tree = o.tree; stands = o.stands; move = m; forgotten = subst (λ (r : Rule). T (forgets? r k)) (sym is) (subst T (sym (low_forget o.move.rule s'.rule k h)) o.forgotten) }
 
-      right-forgets : (k i : ℕ) → k ≡ A.tags + i → (q : List ℕ) → Forgets B t w.run i q → Forgets P t ρ k q
-      right-forgets k i ek q o =
+      right_forgets : (k i : ℕ) → k ≡ A.tags + i → (q : List ℕ) → Forgets B t w.run i q → Forgets P t ρ k q
+      right_forgets k i ek q o =
           let s = v.runs q o.tree o.stands in
           let (m, is) = paired q o.tree s o.move in
           subst (λ z. Forgets P t ρ z q) (sym ek)
-          (record { tree = o.tree; stands = o.stands; move = m; forgotten = subst (λ (r : Rule). T (forgets? r (A.tags + i))) (sym is) (subst T (sym (high-forget s.rule o.move.rule s.listed i)) o.forgotten) })
+          (record { tree = o.tree; stands = o.stands; move = m; forgotten = subst (λ (r : Rule). T (forgets? r (A.tags + i))) (sym is) (subst T (sym (high_forget s.rule o.move.rule s.listed i)) o.forgotten) })
 
       accepts' : T (final? P (ρ []))
-      accepts' = subst T (sym (final-pair (v.run []) (w.run []) (left_in [] t refl) (right-in [] t refl))) (and_T (final? A (v.run [])) (final? B (w.run [])) v.accepting w.accepting)
+      accepts' = subst T (sym (final_pair (v.run []) (w.run []) (left_in [] t refl) (right_in [] t refl))) (and_T (final? A (v.run [])) (final? B (w.run [])) v.accepting w.accepting)
 
       low : (k : ℕ) → k < A.tags → (p : List ℕ) (u : Tree) → at t p ≡ some u → T (carries? P (ρ p) k) → T (carries? A (v.run p) k)
-      low k h p u e c = subst T (low-tag (v.run p) (w.run p) (left_in p u e) (right-in p u e) k h) c
+      low k h p u e c = subst T (low_tag (v.run p) (w.run p) (left_in p u e) (right_in p u e) k h) c
 
       high : (k i : ℕ) → k ≡ A.tags + i → (p : List ℕ) (u : Tree) → at t p ≡ some u → T (carries? P (ρ p) k) → T (carries? B (w.run p) i)
-      high k i ek p u e c = subst T (high-tag (v.run p) (w.run p) (left_in p u e) (right-in p u e) i) (subst (λ z. T (carries? P (ρ p) z)) ek c)
+      high k i ek p u e c = subst T (high_tag (v.run p) (w.run p) (left_in p u e) (right_in p u e) i) (subst (λ z. T (carries? P (ρ p) z)) ek c)
 
-      consistent-if : (k : ℕ) → k < P.tags → Dec (k < A.tags) → (p p' : List ℕ) (u u' : Tree) → at t p ≡ some u → at t p' ≡ some u' → T (carries? P (ρ p) k) → T (carries? P (ρ p') k) → Together P t ρ k p p' → u ≡ u'
-      consistent-if k h (yes l) p p' u u' e e' c c' g = v.consistent k l p p' u u' e e' (low k l p u e c) (low k l p' u' e' c') (λ q o. g q (left-forgets k l q o))
-      consistent-if k h (no l) p p' u u' e e' c c' g =
+      consistent_if : (k : ℕ) → k < P.tags → Dec (k < A.tags) → (p p' : List ℕ) (u u' : Tree) → at t p ≡ some u → at t p' ≡ some u' → T (carries? P (ρ p) k) → T (carries? P (ρ p') k) → Together P t ρ k p p' → u ≡ u'
+      consistent_if k h (yes l) p p' u u' e e' c c' g = v.consistent k l p p' u u' e e' (low k l p u e c) (low k l p' u' e' c') (λ q o. g q (left_forgets k l q o))
+      consistent_if k h (no l) p p' u u' e e' c c' g =
           let i : ℕ = k - A.tags in
           let ek : k ≡ A.tags + i = omega arith in
-          w.consistent i (omega arith) p p' u u' e e' (high k i ek p u e c) (high k i ek p' u' e' c') (λ q o. g q (right-forgets k i ek q o))
+          w.consistent i (omega arith) p p' u u' e e' (high k i ek p u e c) (high k i ek p' u' e' c') (λ q o. g q (right_forgets k i ek q o))
 
       consistent' : Consistent P t ρ
-      consistent' k h = consistent-if k h (dec_lt k A.tags)
+      consistent' k h = consistent_if k h (dec_lt k A.tags)
 
   pub demanded : (t : Tree) → Accepts P t ↔ (Accepts A t × Accepts B t)
-  demanded t = (λ w. (carry to-left t w, carry to-right t w), λ w. both t w.0 w.1)
+  demanded t = (λ w. (carry to_left t w, carry to_right t w), λ w. both t w.0 w.1)

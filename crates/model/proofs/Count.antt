@@ -15,13 +15,13 @@ use lib.ListN.{length, get_or, length-append, get_or-append}
 use lib.Seq.{get_or-append_seam}
 use Rattle.model.specs.Lists.{all, all_below}
 use Rattle.model.proofs.Members.{T_true, all_in, in_all}
-use Rattle.model.proofs.Below.{all-at, all_of}
-use Rattle.model.proofs.Rows.{in-getD}
+use Rattle.model.proofs.Below.{all_at, all_of}
+use Rattle.model.proofs.Rows.{in_get_d}
 
 module _ {B : Type 0} where
-  pub place-of : (d : B) {x : B} {xs : List B} → In x xs → (i : ℕ) × (i < length xs) × (get_or xs i d ≡ x)
-  place-of d (here e) = (0, omega arith, sym e)
-  place-of d (there m) = let (i, l, e) = place-of d m in (suc i, omega arith, e)
+  pub place_of_lem : (d : B) {x : B} {xs : List B} → In x xs → (i : ℕ) × (i < length xs) × (get_or xs i d ≡ x)
+  place_of_lem d (here e) = (0, omega arith, sym e)
+  place_of_lem d (there m) = let (i, l, e) = place_of_lem d m in (suc i, omega arith, e)
 
   -- a list without one of its values
   without : {y : B} {ys : List B} → In y ys → (rest : List B) × (length ys ≡ suc (length rest)) × ((z : B) → In z ys → (z ≡ y) ⊎ In z rest)
@@ -63,14 +63,14 @@ module _ {B : Type 0} where
 
       cases : {i j : ℕ} → (i ≡ length l) ⊎ (i < length l) → (j ≡ length l) ⊎ (j < length l) → get_or (l ++ a ∷ []) i d ≡ get_or (l ++ a ∷ []) j d → i ≡ j
       cases (inl e) (inl e') q = e ∙ sym e'
-      cases {i} {j} (inl e) (inr g) q = absurd (new (Memᴰ.cast (sym (last i e) ∙ q ∙ old j g) (in-getD d l j g)))
-      cases {i} {j} (inr g) (inl e) q = absurd (new (Memᴰ.cast (sym (last j e) ∙ sym q ∙ old i g) (in-getD d l i g)))
+      cases {i} {j} (inl e) (inr g) q = absurd (new (Memᴰ.cast (sym (last i e) ∙ q ∙ old j g) (in_get_d d l j g)))
+      cases {i} {j} (inr g) (inl e) q = absurd (new (Memᴰ.cast (sym (last j e) ∙ sym q ∙ old i g) (in_get_d d l i g)))
       cases {i} {j} (inr g) (inr g') q = h i j g g' (sym (old i g) ∙ q ∙ old j g')
 
   -- a list without repeats whose values all stand in another is not longer
   pub no_longer : (d : B) (xs ys : List B) → NoRepeats d xs → ((x : B) → In x xs → In x ys) → length xs ≤ length ys
   no_longer d xs ys once h =
-      pigeonhole (λ i y. get_or xs i d ≡ y) (length xs) ys (λ i l. (get_or xs i d, h (get_or xs i d) (in-getD d xs i l), refl)) (λ i j y li lj e e'. once i j li lj (e ∙ sym e'))
+      pigeonhole (λ i y. get_or xs i d ≡ y) (length xs) ys (λ i l. (get_or xs i d, h (get_or xs i d) (in_get_d d xs i l), refl)) (λ i j y li lj e e'. once i j li lj (e ∙ sym e'))
 
 -- a test of each of a list, asked index by index
 same_test : (a b : Bool) → (T a → T b) → (T b → T a) → a ≡ b
@@ -78,8 +78,8 @@ same_test true b h g = sym ((T_true b).0 (h tt))
 same_test false true h g = absurd (g tt)
 same_test false false h g = refl
 
-pub all-below : {B : Type 0} (f : B → Bool) (d : B) (xs : List B) → all_below (length xs) (λ i. f (get_or xs i d)) ≡ all f xs
-all-below f d xs =
+pub all_below_lem : {B : Type 0} (f : B → Bool) (d : B) (xs : List B) → all_below (length xs) (λ i. f (get_or xs i d)) ≡ all f xs
+all_below_lem f d xs =
     same_test (all_below (length xs) (λ i. f (get_or xs i d))) (all f xs)
-    (λ h. in_all f xs (λ x m. let (i, l, e) = place-of d m in subst (λ z. T (f z)) e (all-at (length xs) (λ i. f (get_or xs i d)) h i l)))
-    (λ h. all_of (length xs) (λ i. f (get_or xs i d)) (λ i l. all_in f xs h (in-getD d xs i l)))
+    (λ h. in_all f xs (λ x m. let (i, l, e) = place_of_lem d m in subst (λ z. T (f z)) e (all_at (length xs) (λ i. f (get_or xs i d)) h i l)))
+    (λ h. all_of (length xs) (λ i. f (get_or xs i d)) (λ i l. all_in f xs h (in_get_d d xs i l)))

@@ -37,16 +37,16 @@ two = leaf 3 1 ∷ tree 0 (0 ∷ 0 ∷ []) ∷ leaf 3 2 ∷ tree 0 (2 ∷ 2 ∷ 
 abbrev unequal : List Row
 unequal = leaf 3 1 ∷ leaf 3 2 ∷ tree 0 (0 ∷ 1 ∷ []) ∷ tree 2 [] ∷ tree 1 (2 ∷ 3 ∷ []) ∷ []
 
-pairs-two : accepts? (pairs 1) two ≡ true
-pairs-two = refl
+pairs_two : accepts? (pairs 1) two ≡ true
+pairs_two = refl
 
 -- without forgetting the two pairs would have to be one
-pairs-one : accepts? (pairs 0) two ≡ false
-pairs-one = refl
+pairs_one : accepts? (pairs 0) two ≡ false
+pairs_one = refl
 
 -- the printed formula, which looks only at what is left, would let this in
-pairs-unequal : accepts? (pairs 1) unequal ≡ false
-pairs-unequal = refl
+pairs_unequal : accepts? (pairs 1) unequal ≡ false
+pairs_unequal = refl
 
 -- D, lists of doubled elements: cons/2 (0), nil/0 (1), a/0 (2); states q_F (0, tag 0), q₁ (1, final), q₂ (2)
 abbrev doubled : Automaton
@@ -59,11 +59,11 @@ doubled =
     }
 
 -- [1,1,2,2] and [1,2,2,1]
-doubled-yes : accepts? doubled (leaf 2 1 ∷ leaf 2 2 ∷ tree 1 [] ∷ tree 0 (1 ∷ 2 ∷ []) ∷ tree 0 (1 ∷ 3 ∷ []) ∷ tree 0 (0 ∷ 4 ∷ []) ∷ tree 0 (0 ∷ 5 ∷ []) ∷ []) ≡ true
-doubled-yes = refl
+doubled_yes : accepts? doubled (leaf 2 1 ∷ leaf 2 2 ∷ tree 1 [] ∷ tree 0 (1 ∷ 2 ∷ []) ∷ tree 0 (1 ∷ 3 ∷ []) ∷ tree 0 (0 ∷ 4 ∷ []) ∷ tree 0 (0 ∷ 5 ∷ []) ∷ []) ≡ true
+doubled_yes = refl
 
-doubled-not : accepts? doubled (leaf 2 1 ∷ leaf 2 2 ∷ tree 1 [] ∷ tree 0 (0 ∷ 2 ∷ []) ∷ tree 0 (1 ∷ 3 ∷ []) ∷ tree 0 (1 ∷ 4 ∷ []) ∷ tree 0 (0 ∷ 5 ∷ []) ∷ []) ≡ false
-doubled-not = refl
+doubled_not : accepts? doubled (leaf 2 1 ∷ leaf 2 2 ∷ tree 1 [] ∷ tree 0 (0 ∷ 2 ∷ []) ∷ tree 0 (1 ∷ 3 ∷ []) ∷ tree 0 (1 ∷ 4 ∷ []) ∷ tree 0 (0 ∷ 5 ∷ []) ∷ []) ≡ false
+doubled_not = refl
 
 -- B, balanced trees (section 6), with two tagged states, and with one that its own rule forgets: f/2 (0), a/0 (1)
 abbrev balanced : Automaton
@@ -79,17 +79,17 @@ high = tree 1 [] ∷ tree 0 (0 ∷ 0 ∷ []) ∷ tree 0 (1 ∷ 1 ∷ []) ∷ tre
 abbrev lopsided : List Row
 lopsided = tree 1 [] ∷ tree 0 (0 ∷ 0 ∷ []) ∷ tree 0 (1 ∷ 0 ∷ []) ∷ []
 
-balanced-high : accepts? balanced high ≡ true
-balanced-high = refl
+balanced_high : accepts? balanced high ≡ true
+balanced_high = refl
 
-balanced-not : accepts? balanced lopsided ≡ false
-balanced-not = refl
+balanced_not : accepts? balanced lopsided ≡ false
+balanced_not = refl
 
-alone-high : accepts? alone high ≡ true
-alone-high = refl
+alone_high : accepts? alone high ≡ true
+alone_high = refl
 
-alone-not : accepts? alone lopsided ≡ false
-alone-not = refl
+alone_not : accepts? alone lopsided ≡ false
+alone_not = refl
 
 -- Two readings of one row in one state: top/2 (0), h/2 (1), f/2 (2), a/0 (3); an a is tagged (0) or not (1), f has one tagged a, and h asks that this a and its own be equal, then forgets.
 -- In top(h(f(a=1,a=2),a=1),h(f(a=1,a=2),a=2)) the row of f stands in state 2 with either a tagged, so one step for a pair of row and state is not enough.
@@ -105,8 +105,8 @@ readings f =
 abbrev both : List Row
 both = leaf 3 1 ∷ leaf 3 2 ∷ tree 2 (0 ∷ 1 ∷ []) ∷ tree 1 (2 ∷ 0 ∷ []) ∷ tree 1 (2 ∷ 1 ∷ []) ∷ tree 0 (3 ∷ 4 ∷ []) ∷ []
 
-two-readings : accepts? (readings 1) both ≡ true
-two-readings = refl
+two_readings : accepts? (readings 1) both ≡ true
+two_readings = refl
 
-one-reading : accepts? (readings 0) both ≡ false
-one-reading = refl
+one_reading : accepts? (readings 0) both ≡ false
+one_reading = refl

@@ -12,38 +12,38 @@ use lib.ListN.{get_elem?}
 use Rattle.model.specs.Lists.{larger}
 use Rattle.model.specs.Tree.{Tree, Forest, node, fnil, fcons, trees, forest, at, and_then, levels, highest}
 
-pub larger-bounds : (a b : ℕ) → (a ≤ larger a b) × (b ≤ larger a b)
-larger-bounds a b = go (leb a b) refl
+pub larger_bounds : (a b : ℕ) → (a ≤ larger a b) × (b ≤ larger a b)
+larger_bounds a b = go (leb a b) refl
   where
     go : (c : Bool) → leb a b ≡ c → (a ≤ cond c b a) × (b ≤ cond c b a)
     go true e = (leb→le a b (rw e tt), omega arith)
     go false e = (omega arith, let l = nleb→lt a b (rw e tt) in omega arith)
 
-pub larger-least : (a b n : ℕ) → a ≤ n → b ≤ n → larger a b ≤ n
-larger-least a b n la lb = go (leb a b)
+pub larger_least : (a b n : ℕ) → a ≤ n → b ≤ n → larger a b ≤ n
+larger_least a b n la lb = go (leb a b)
   where
     go : (c : Bool) → cond c b a ≤ n
     go true = lb
     go false = la
 
-pub highest-least : (ts : List Tree) (n : ℕ) → ((t : Tree) → In t ts → levels t ≤ n) → highest (forest ts) ≤ n
+pub highest_least : (ts : List Tree) (n : ℕ) → ((t : Tree) → In t ts → levels t ≤ n) → highest (forest ts) ≤ n
 unfolding levels
-highest-least [] n h = omega arith
-highest-least (t ∷ ts) n h = larger-least (levels t) (highest (forest ts)) n (h t (here refl)) (highest-least ts n (λ u m. h u (there m)))
+highest_least [] n h = omega arith
+highest_least (t ∷ ts) n h = larger_least (levels t) (highest (forest ts)) n (h t (here refl)) (highest_least ts n (λ u m. h u (there m)))
 
 -- the subtree at a position below the j-th tree
-abbrev pub atIn : Forest → ℕ → List ℕ → Option Tree
-atIn f j p = and_then (get_elem? (trees f) j) (λ u. at u p)
+abbrev pub at_in : Forest → ℕ → List ℕ → Option Tree
+at_in f j p = and_then (get_elem? (trees f) j) (λ u. at u p)
 
 -- a subtree has no more levels
 mutual
   unfolding levels
 
-  pub sub-levels : (t : Tree) (p : List ℕ) (u : Tree) → at t p ≡ some u → levels u ≤ levels t
-  sub-levels (node s k x f) [] u e = let q = ap levels (some-injective _ _ e) in omega arith
-  sub-levels (node s k x f) (j ∷ p) u e = let l = below-levels f j p u e in omega arith
+  pub sub_levels : (t : Tree) (p : List ℕ) (u : Tree) → at t p ≡ some u → levels u ≤ levels t
+  sub_levels (node s k x f) [] u e = let q = ap levels (some-injective _ _ e) in omega arith
+  sub_levels (node s k x f) (j ∷ p) u e = let l = below_levels f j p u e in omega arith
 
-  pub below-levels : (f : Forest) (j : ℕ) (p : List ℕ) (u : Tree) → atIn f j p ≡ some u → levels u ≤ highest f
-  below-levels fnil j p u e = absurd (none-ne-some u e)
-  below-levels (fcons t f) zero p u e = let l = sub-levels t p u e in omega (arith, larger-bounds (levels t) (highest f))
-  below-levels (fcons t f) (suc j) p u e = let l = below-levels f j p u e in omega (arith, larger-bounds (levels t) (highest f))
+  pub below_levels : (f : Forest) (j : ℕ) (p : List ℕ) (u : Tree) → at_in f j p ≡ some u → levels u ≤ highest f
+  below_levels fnil j p u e = absurd (none-ne-some u e)
+  below_levels (fcons t f) zero p u e = let l = sub_levels t p u e in omega (arith, larger_bounds (levels t) (highest f))
+  below_levels (fcons t f) (suc j) p u e = let l = below_levels f j p u e in omega (arith, larger_bounds (levels t) (highest f))

@@ -13,10 +13,10 @@ use native.Mathlib.Omega.{arith}
 use native.Mathlib.Nat.{eq-or-lt_of_le}
 use lib.Dec.{T, eqb, eqb→eq, eqb_refl}
 use lib.ListN.{length, get_or}
-use Rattle.model.specs.Lists.{concatMap, any, eq_list}
-use Rattle.model.proofs.Members.{T_and, and_T, eqList→eq, eqList-refl, in-concatMap, concatMap-in, in-any, any-in}
-use Rattle.model.proofs.Rows.{in-getD}
-use Rattle.model.proofs.Count.{place-of}
+use Rattle.model.specs.Lists.{concat_map, any, eq_list}
+use Rattle.model.proofs.Members.{T_and, and_T, eq_list→eq, eq_list_refl, in_concat_map, concat_map_in, in_any, any_in}
+use Rattle.model.proofs.Rows.{in_get_d}
+use Rattle.model.proofs.Count.{place_of_lem}
 
 module _ {N : Type 0} (row : N → ℕ) (key : N → List ℕ) (kids : N → List N) where
   abbrev pub Same : N → N → Type 0
@@ -25,11 +25,11 @@ module _ {N : Type 0} (row : N → ℕ) (key : N → List ℕ) (kids : N → Lis
   abbrev same? : N → N → Bool
   same? a b = eqb (row a) (row b) && eq_list (key a) (key b)
 
-  same-T : (a b : N) → Same a b → T (same? a b)
-  same-T a b (e, e') = and_T (eqb (row a) (row b)) (eq_list (key a) (key b)) (subst (λ z. T (eqb (row a) z)) e (eqb_refl (row a))) (subst (λ z. T (eq_list (key a) z)) e' (eqList-refl (key a)))
+  same_T : (a b : N) → Same a b → T (same? a b)
+  same_T a b (e, e') = and_T (eqb (row a) (row b)) (eq_list (key a) (key b)) (subst (λ z. T (eqb (row a) z)) e (eqb_refl (row a))) (subst (λ z. T (eq_list (key a) z)) e' (eq_list_refl (key a)))
 
   T-same : (a b : N) → T (same? a b) → Same a b
-  T-same a b h = let (t, t') = T_and (eqb (row a) (row b)) (eq_list (key a) (key b)) h in (eqb→eq (row a) (row b) t, eqList→eq (key a) (key b) t')
+  T-same a b h = let (t, t') = T_and (eqb (row a) (row b)) (eq_list (key a) (key b)) h in (eqb→eq (row a) (row b) t, eq_list→eq (key a) (key b) t')
 
   -- the place of the first node with the pair of k
   abbrev pub place_in : List N → N → ℕ
@@ -42,51 +42,51 @@ module _ {N : Type 0} (row : N → ℕ) (key : N → List ℕ) (kids : N → Lis
     where
       go : (b : Bool) → same? x k ≡ b → (In y l → (place_in l k < length l) × Same (get_or l (place_in l k) d) k) → (cond b 0 (suc (place_in l k)) < suc (length l)) × Same (get_or (x ∷ l) (cond b 0 (suc (place_in l k))) d) k
       go true e ih = (omega arith, T-same x k (subst T (sym e) tt))
-      go false e ih = ⊎_elim (λ q. absurd (subst T e (same-T x k (ap row (sym q) ∙ s.0, ap key (sym q) ∙ s.1)))) (λ g. let (l, s') = ih g in (omega arith, s')) (in-cons iy)
+      go false e ih = ⊎_elim (λ q. absurd (subst T e (same_T x k (ap row (sym q) ∙ s.0, ap key (sym q) ∙ s.1)))) (λ g. let (l, s') = ih g in (omega arith, s')) (in-cons iy)
 
   -- rows ascend, no pair stands twice, and each node but the root, the last, is a kid of a later one
   pub data Chain (root : N) : List N → Type 0 where
-    chain-root : Chain root (root ∷ [])
+    chain_root : Chain root (root ∷ [])
     chain_more : {x y : N} {l : List N} → Chain root l → ((z : N) → In z l → row x ≤ row z) → ((z : N) → In z l → Same x z → ⊥) → In y l → In x (kids y) → Chain root (x ∷ l)
 
   -- what holds of the root, and of the kids of each node of which it holds, holds of all
-  pub chain-holds : (P : N → Type 0) {root : N} {l : List N} → P root → ((x k : N) → P x → In k (kids x) → P k) → Chain root l → (z : N) → In z l → P z
-  chain-holds P p step chain-root z h = subst P (sym (eq_of_singleton h)) p
-  chain-holds P p step (chain_more {x = x} {y = y} c low new iy ix) z h =
-      let below = chain-holds P p step c in
+  pub chain_holds : (P : N → Type 0) {root : N} {l : List N} → P root → ((x k : N) → P x → In k (kids x) → P k) → Chain root l → (z : N) → In z l → P z
+  chain_holds P p step chain_root z h = subst P (sym (eq_of_singleton h)) p
+  chain_holds P p step (chain_more {x = x} {y = y} c low new iy ix) z h =
+      let below = chain_holds P p step c in
       ⊎_elim (λ e. subst P (sym e) (step y x (below y iy) ix)) (below z) (in-cons h)
 
   module _ {root : N} where
     -- the lower row stands first
-    pub chain-ascends : {l : List N} → Chain root l → (i j : ℕ) → i < length l → row (get_or l i root) < row (get_or l j root) → i < j
-    chain-ascends chain-root zero zero li h = let z : ⊥ = omega arith in absurd z
-    chain-ascends chain-root zero (suc j) li h = omega arith
-    chain-ascends chain-root (suc i) j li h = let z : ⊥ = omega arith in absurd z
-    chain-ascends (chain_more c low new iy ix) zero zero li h = let z : ⊥ = omega arith in absurd z
-    chain-ascends (chain_more c low new iy ix) zero (suc j) li h = omega arith
-    chain-ascends (chain_more {l = l} c low new iy ix) (suc i) zero li h = let g = low _ (in-getD root l i (omega arith)) in let z : ⊥ = omega arith in absurd z
-    chain-ascends (chain_more c low new iy ix) (suc i) (suc j) li h = let g = chain-ascends c i j (omega arith) h in omega arith
+    pub chain_ascends : {l : List N} → Chain root l → (i j : ℕ) → i < length l → row (get_or l i root) < row (get_or l j root) → i < j
+    chain_ascends chain_root zero zero li h = let z : ⊥ = omega arith in absurd z
+    chain_ascends chain_root zero (suc j) li h = omega arith
+    chain_ascends chain_root (suc i) j li h = let z : ⊥ = omega arith in absurd z
+    chain_ascends (chain_more c low new iy ix) zero zero li h = let z : ⊥ = omega arith in absurd z
+    chain_ascends (chain_more c low new iy ix) zero (suc j) li h = omega arith
+    chain_ascends (chain_more {l = l} c low new iy ix) (suc i) zero li h = let g = low _ (in_get_d root l i (omega arith)) in let z : ⊥ = omega arith in absurd z
+    chain_ascends (chain_more c low new iy ix) (suc i) (suc j) li h = let g = chain_ascends c i j (omega arith) h in omega arith
 
-    pub chain-once : {l : List N} → Chain root l → (i j : ℕ) → i < length l → j < length l → Same (get_or l i root) (get_or l j root) → i ≡ j
-    chain-once chain-root i j li lj s = omega arith
-    chain-once (chain_more c low new iy ix) zero zero li lj s = refl
-    chain-once (chain_more {l = l} c low new iy ix) zero (suc j) li lj s = absurd (new _ (in-getD root l j (omega arith)) s)
-    chain-once (chain_more {l = l} c low new iy ix) (suc i) zero li lj (e, e') = absurd (new _ (in-getD root l i (omega arith)) (sym e, sym e'))
-    chain-once (chain_more c low new iy ix) (suc i) (suc j) li lj s = ap suc (chain-once c i j (omega arith) (omega arith) s)
+    pub chain_once : {l : List N} → Chain root l → (i j : ℕ) → i < length l → j < length l → Same (get_or l i root) (get_or l j root) → i ≡ j
+    chain_once chain_root i j li lj s = omega arith
+    chain_once (chain_more c low new iy ix) zero zero li lj s = refl
+    chain_once (chain_more {l = l} c low new iy ix) zero (suc j) li lj s = absurd (new _ (in_get_d root l j (omega arith)) s)
+    chain_once (chain_more {l = l} c low new iy ix) (suc i) zero li lj (e, e') = absurd (new _ (in_get_d root l i (omega arith)) (sym e, sym e'))
+    chain_once (chain_more c low new iy ix) (suc i) (suc j) li lj s = ap suc (chain_once c i j (omega arith) (omega arith) s)
 
-    pub chain-used : {l : List N} → Chain root l → (i : ℕ) → suc i < length l → (j : ℕ) × (i < j) × (j < length l) × In (get_or l i root) (kids (get_or l j root))
-    chain-used chain-root i h = let z : ⊥ = omega arith in absurd z
-    chain-used (chain_more {x = x} c low new iy ix) zero h = let (j, lj, e) = place-of root iy in (suc j, omega arith, omega arith, subst (λ z. In x (kids z)) (sym e) ix)
-    chain-used (chain_more c low new iy ix) (suc i) h = let (j, l, lj, m) = chain-used c i (omega arith) in (suc j, omega arith, omega arith, m)
+    pub chain_used : {l : List N} → Chain root l → (i : ℕ) → suc i < length l → (j : ℕ) × (i < j) × (j < length l) × In (get_or l i root) (kids (get_or l j root))
+    chain_used chain_root i h = let z : ⊥ = omega arith in absurd z
+    chain_used (chain_more {x = x} c low new iy ix) zero h = let (j, lj, e) = place_of_lem root iy in (suc j, omega arith, omega arith, subst (λ z. In x (kids z)) (sym e) ix)
+    chain_used (chain_more c low new iy ix) (suc i) h = let (j, l, lj, m) = chain_used c i (omega arith) in (suc j, omega arith, omega arith, m)
 
-    pub chain-some : {l : List N} → Chain root l → 0 < length l
-    chain-some chain-root = omega arith
-    chain-some (chain_more c low new iy ix) = omega arith
+    pub chain_some : {l : List N} → Chain root l → 0 < length l
+    chain_some chain_root = omega arith
+    chain_some (chain_more c low new iy ix) = omega arith
 
-    pub chain-last : {l : List N} → Chain root l → (i : ℕ) → suc i ≡ length l → get_or l i root ≡ root
-    chain-last chain-root i h = let e : i ≡ 0 = omega arith in rw e
-    chain-last (chain_more c low new iy ix) zero h = let z : ⊥ = omega (arith, chain-some c) in absurd z
-    chain-last (chain_more c low new iy ix) (suc i) h = chain-last c i (omega arith)
+    pub chain_last : {l : List N} → Chain root l → (i : ℕ) → suc i ≡ length l → get_or l i root ≡ root
+    chain_last chain_root i h = let e : i ≡ 0 = omega arith in rw e
+    chain_last (chain_more c low new iy ix) zero h = let z : ⊥ = omega (arith, chain_some c) in absurd z
+    chain_last (chain_more c low new iy ix) (suc i) h = chain_last c i (omega arith)
 
   module _ (root : N) (lower : (x k : N) → In k (kids x) → row k < row x) where
     -- a chain of the rows from n on that has all that its nodes need there
@@ -142,14 +142,14 @@ module _ {N : Type 0} (row : N → ℕ) (key : N → List ℕ) (kids : N → Lis
         go f false e b' e' = skipped n l cs c f (λ q. absurd (subst T e (subst (λ z. T (eqb (row c) z)) q (eqb_refl (row c)))))
         go f true e true e' =
             skipped n l cs c f
-            (λ q. let (y, iy, t) = in-any (same? c) f.list (subst T (sym e') tt) in let (s, s') = T-same c y t in (y, iy, (sym s, sym s')))
+            (λ q. let (y, iy, t) = in_any (same? c) f.list (subst T (sym e') tt) in let (s, s') = T-same c y t in (y, iy, (sym s, sym s')))
         go f true e false e' =
             let (y, iy, ic) = h c (here refl) in
-            put n l cs c y f (eqb→eq (row c) n (subst T (sym e) tt)) (λ z iz s. subst T e' (any-in (same? c) iz (same-T c z s))) iy ic
+            put n l cs c y f (eqb→eq (row c) n (subst T (sym e) tt)) (λ z iz s. subst T e' (any_in (same? c) iz (same_T c z s))) iy ic
 
     next : (n : ℕ) (l : List N) → Level (suc n) l → (l' : List N) × Level n l'
     next n l v =
-        let f = fill n l v (concatMap kids l) (λ c ic. in-concatMap kids l ic) in (
+        let f = fill n l v (concat_map kids l) (λ c ic. in_concat_map kids l ic) in (
           f.list,
           record {
             chain = f.chain;
@@ -157,7 +157,7 @@ module _ {N : Type 0} (row : N → ℕ) (key : N → List ℕ) (kids : N → Lis
             closed = λ z k iz ik h.
                 ⊎_elim
                 (λ g.
-                ⊎_elim (λ e. f.has k (concatMap-in kids g ik) (sym e)) (λ lt. let (y, iy, s) = v.closed z k g ik lt in (y, f.old y iy, s)) (eq-or-lt_of_le h))
+                ⊎_elim (λ e. f.has k (concat_map_in kids g ik) (sym e)) (λ lt. let (y, iy, s) = v.closed z k g ik lt in (y, f.old y iy, s)) (eq-or-lt_of_le h))
                 (λ e. let w = lower z k ik in let q : ⊥ = omega arith in absurd q)
                 (f.from z iz);
           },
@@ -172,7 +172,7 @@ module _ {N : Type 0} (row : N → ℕ) (key : N → List ℕ) (kids : N → Lis
     needed =
         descend (row root) (root ∷ [])
         (record {
-          chain = chain-root;
+          chain = chain_root;
           high = λ z iz. let e = ap row (eq_of_singleton iz) in omega arith;
           closed = λ z k iz ik h. let w = lower z k ik in let e = ap row (eq_of_singleton iz) in let q : ⊥ = omega arith in absurd q;
         })

@@ -5,7 +5,7 @@ use mathlib.Core.List.{List, [], ◌∷◌, ◌++◌, map, Memᴰ as In}
 use Prim.Native.Nat.{ℕ, zero, suc, ◌<◌}
 use native.Mathlib.Omega.{arith}
 use lib.ListN.{length, get_or, get_elem?}
-use Rattle.model.specs.Tree.{Tree, node, fnil, childrenOf, symbol_of, at, and_then}
+use Rattle.model.specs.Tree.{Tree, node, fnil, children_of, symbol_of, at, and_then}
 use Rattle.model.specs.Automaton.{Rule, Automaton}
 use Rattle.model.specs.Run.{Move, IsRun}
 
@@ -29,8 +29,8 @@ abbrev pub leaf : Tree
 leaf = node 0 0 0 fnil
 
 -- a position below a child: the child, and what is left of the way
-pub at-kid : (t : Tree) (ts : List Tree) → childrenOf t ≡ ts → (j : ℕ) (p : List ℕ) (u : Tree) → at t (j ∷ p) ≡ some u → (j < length ts) × (at (get_or ts j leaf) p ≡ some u)
-at-kid t ts e j p u h = go ts j (rw e at h)
+pub at_kid : (t : Tree) (ts : List Tree) → children_of t ≡ ts → (j : ℕ) (p : List ℕ) (u : Tree) → at t (j ∷ p) ≡ some u → (j < length ts) × (at (get_or ts j leaf) p ≡ some u)
+at_kid t ts e j p u h = go ts j (rw e at h)
   where
     go : (l : List Tree) (j : ℕ) → and_then (get_elem? l j) (λ v. at v p) ≡ some u → (j < length l) × (at (get_or l j leaf) p ≡ some u)
     go [] j g = absurd (none-ne-some u g)
@@ -58,8 +58,8 @@ abbrev under : ℕ → (ℕ → List ℕ → ℕ) → List ℕ → ℕ
 under q ρs [] = q
 under q ρs (j ∷ p) = ρs j p
 
-pub node-runs : {A : Automaton} {Q : ℕ → Tree → Type 0} (t : Tree) (ts : List Tree) → childrenOf t ≡ ts → (r : Rule) → In r A.rules → r.symbol ≡ symbol_of t → length r.children ≡ length ts → Q r.target t → ((j : ℕ) → j < length ts → Runs A Q (get_or ts j leaf) (get_or r.children j 0)) → Runs A Q t r.target
-node-runs {A} {Q} t ts et r ir es el qt h =
+pub node_runs : {A : Automaton} {Q : ℕ → Tree → Type 0} (t : Tree) (ts : List Tree) → children_of t ≡ ts → (r : Rule) → In r A.rules → r.symbol ≡ symbol_of t → length r.children ≡ length ts → Q r.target t → ((j : ℕ) → j < length ts → Runs A Q (get_or ts j leaf) (get_or r.children j 0)) → Runs A Q t r.target
+node_runs {A} {Q} t ts et r ir es el qt h =
     let (ρs, each) = choose (λ p. 0) (λ j. Fine A Q (get_or ts j leaf) (get_or r.children j 0)) (length ts) h in
     (under r.target ρs, record { root = refl; runs = step ρs each; all = all' ρs each })
   where
@@ -69,21 +69,21 @@ node-runs {A} {Q} t ts et r ir es el qt h =
         (record {
           rule = r;
           listed = ir;
-          same-symbol = es;
+          same_symbol = es;
           leads = refl;
           as_many = el ∙ ap length (sym et);
           from = λ j l. sym (each j (omega (arith, ap length et))).root;
         })
     step ρs each (j ∷ p) u e =
-        let (l, e') = at-kid t ts et j p u e in
+        let (l, e') = at_kid t ts et j p u e in
         let s = (each j l).runs p u e' in
-        record { rule = s.rule; listed = s.listed; same-symbol = s.same-symbol; leads = s.leads; as_many = s.as_many; from = s.from }
+        record { rule = s.rule; listed = s.listed; same_symbol = s.same_symbol; leads = s.leads; as_many = s.as_many; from = s.from }
 
     all' : (ρs : ℕ → List ℕ → ℕ) → ((j : ℕ) → j < length ts → Fine A Q (get_or ts j leaf) (get_or r.children j 0) (ρs j)) → (p : List ℕ) (u : Tree) → at t p ≡ some u → Q (under r.target ρs p) u
     all' ρs each [] u e = subst (Q r.target) (some-injective _ _ e) qt
-    all' ρs each (j ∷ p) u e = let (l, e') = at-kid t ts et j p u e in (each j l).all p u e'
+    all' ρs each (j ∷ p) u e = let (l, e') = at_kid t ts et j p u e in (each j l).all p u e'
 
-pub child-run : {A : Automaton} (t : Tree) (ρ : List ℕ → ℕ) → IsRun A t ρ → (j : ℕ) → j < length (childrenOf t) → IsRun A (get_or (childrenOf t) j leaf) (λ p. ρ (j ∷ p))
-child-run t ρ runs j l p u e =
-    let s = runs (j ∷ p) u (ap (λ o. and_then o (λ v. at v p)) (kid_at (childrenOf t) j l) ∙ e) in
-    record { rule = s.rule; listed = s.listed; same-symbol = s.same-symbol; leads = s.leads; as_many = s.as_many; from = s.from }
+pub child_run : {A : Automaton} (t : Tree) (ρ : List ℕ → ℕ) → IsRun A t ρ → (j : ℕ) → j < length (children_of t) → IsRun A (get_or (children_of t) j leaf) (λ p. ρ (j ∷ p))
+child_run t ρ runs j l p u e =
+    let s = runs (j ∷ p) u (ap (λ o. and_then o (λ v. at v p)) (kid_at (children_of t) j l) ∙ e) in
+    record { rule = s.rule; listed = s.listed; same_symbol = s.same_symbol; leads = s.leads; as_many = s.as_many; from = s.from }

@@ -9,7 +9,7 @@ use borrow.Author.Tests.{ne_eqb, lt-ltb, eqb-true, eqb-false}
 use lib.Dec.{T, eqb, ltb, eqb→eq, ltb→lt}
 use lib.ListN.{length}
 use Rattle.model.specs.Automaton.{Automaton}
-use Rattle.model.specs.Table.{Row, row_at, minusZero, rate?, oneZero, scalar?, SoundTable}
+use Rattle.model.specs.Table.{Row, row_at, minus_zero, rate?, one_zero, scalar?, SoundTable}
 use Rattle.model.proofs.Members.{T_and}
 
 either : {C : Type 0} (a b : Bool) → (T a → C) → (T b → C) → T (a || b) → C
@@ -22,82 +22,82 @@ by_kind C p bare flag count rate name k =
     either (is 0 (eqb p 0) || is 1 (ltb p 2) || is 2 (ltb p (2 ^ 64)) || is 3 (rate? p)) (is 4 (ltb p (2 ^ 32)))
     (either (is 0 (eqb p 0) || is 1 (ltb p 2) || is 2 (ltb p (2 ^ 64))) (is 3 (rate? p))
     (either (is 0 (eqb p 0) || is 1 (ltb p 2)) (is 2 (ltb p (2 ^ 64)))
-    (either (is 0 (eqb p 0)) (is 1 (ltb p 2)) (of-kind 0 (eqb p 0) bare) (of-kind 1 (ltb p 2) flag))
-    (of-kind 2 (ltb p (2 ^ 64)) count))
-    (of-kind 3 (rate? p) rate))
-    (of-kind 4 (ltb p (2 ^ 32)) name)
+    (either (is 0 (eqb p 0)) (is 1 (ltb p 2)) (of_kind_lem 0 (eqb p 0) bare) (of_kind_lem 1 (ltb p 2) flag))
+    (of_kind_lem 2 (ltb p (2 ^ 64)) count))
+    (of_kind_lem 3 (rate? p) rate))
+    (of_kind_lem 4 (ltb p (2 ^ 32)) name)
   where
     is : ℕ → Bool → Bool
     is j test = eqb k j && test
 
-    of-kind : (j : ℕ) (test : Bool) → (T test → C j) → T (eqb k j && test) → C k
-    of-kind j test f h = let (e, t) = T_and (eqb k j) test h in subst C (sym (eqb→eq k j e)) (f t)
+    of_kind_lem : (j : ℕ) (test : Bool) → (T test → C j) → T (eqb k j && test) → C k
+    of_kind_lem j test f h = let (e, t) = T_and (eqb k j) test h in subst C (sym (eqb→eq k j e)) (f t)
 
 -- a rate that may stand in a row has 64 bits
-pub rate-below : (p : ℕ) → T (rate? p) → p < 2 ^ 64
-rate-below p h = ltb→lt p (2 ^ 64) (T_and (ltb p (2 ^ 64)) (not (eqb p minusZero)) h).0
+pub rate_below : (p : ℕ) → T (rate? p) → p < 2 ^ 64
+rate_below p h = ltb→lt p (2 ^ 64) (T_and (ltb p (2 ^ 64)) (not (eqb p minus_zero)) h).0
 
 -- The kinds are five, and a payload has 64 bits.
-pub few-scalars : (k p : ℕ) → T (scalar? k p) → (k < 5) × (p < 2 ^ 64)
-few-scalars k p =
+pub few_scalars : (k p : ℕ) → T (scalar? k p) → (k < 5) × (p < 2 ^ 64)
+few_scalars k p =
     by_kind (λ j. (j < 5) × (p < 2 ^ 64)) p
     (λ h. let e = eqb→eq p 0 h in (omega arith, omega arith))
     (λ h. let l = ltb→lt p 2 h in (omega arith, omega arith))
     (λ h. (omega arith, ltb→lt p (2 ^ 64) h))
-    (λ h. (omega arith, rate-below p h))
+    (λ h. (omega arith, rate_below p h))
     (λ h. let l = ltb→lt p (2 ^ 32) h in (omega arith, omega arith))
     k
 
-not-minus : (p : ℕ) → T (rate? p) → p ≡ minusZero → ⊥
-not-minus p h e = rw e at h
+not_minus : (p : ℕ) → T (rate? p) → p ≡ minus_zero → ⊥
+not_minus p h e = rw e at h
 
 -- Of all 64 bits, only minus zero may not stand in a row.
-pub stands-exactly : (p : ℕ) → p < 2 ^ 64 → (T (rate? p) → p ≡ minusZero → ⊥) × ((p ≡ minusZero → ⊥) → T (rate? p))
-stands-exactly p l = (not-minus p, λ n. rw (lt-ltb p (2 ^ 64) l, ne_eqb p minusZero n) tt)
+pub stands_exactly : (p : ℕ) → p < 2 ^ 64 → (T (rate? p) → p ≡ minus_zero → ⊥) × ((p ≡ minus_zero → ⊥) → T (rate? p))
+stands_exactly p l = (not_minus p, λ n. rw (lt-ltb p (2 ^ 64) l, ne_eqb p minus_zero n) tt)
 
 -- NO ROW OF A SOUND TABLE HOLDS MINUS ZERO.
-pub none-holds : (A : Automaton) (rows : List Row) → SoundTable A rows → (i : ℕ) → i < length rows → (row_at rows i).kind ≡ 3 → (row_at rows i).payload ≡ minusZero → ⊥
-none-holds A rows sound i l kind payload = subst (λ b. T b) (λ j. scalar? (kind j) (payload j)) (sound.each i l).scalar
+pub none_holds : (A : Automaton) (rows : List Row) → SoundTable A rows → (i : ℕ) → i < length rows → (row_at rows i).kind ≡ 3 → (row_at rows i).payload ≡ minus_zero → ⊥
+none_holds A rows sound i l kind payload = subst (λ b. T b) (λ j. scalar? (kind j) (payload j)) (sound.each i l).scalar
 
 -- What a reader puts into a row: minus zero becomes zero, any other rate stays, and the result may stand there.
-pub minus-zero-is-zero : oneZero minusZero ≡ 0
-unfolding oneZero
-minus-zero-is-zero = refl
+pub minus_zero_is_zero : one_zero minus_zero ≡ 0
+unfolding one_zero
+minus_zero_is_zero = refl
 
-pub others-stay : (p : ℕ) → (p ≡ minusZero → ⊥) → oneZero p ≡ p
-unfolding oneZero
-others-stay p n = rw (ne_eqb p minusZero n)
+pub others_stay : (p : ℕ) → (p ≡ minus_zero → ⊥) → one_zero p ≡ p
+unfolding one_zero
+others_stay p n = rw (ne_eqb p minus_zero n)
 
-pub standing-stays : (p : ℕ) → T (rate? p) → oneZero p ≡ p
-standing-stays p h = others-stay p (not-minus p h)
+pub standing_stays : (p : ℕ) → T (rate? p) → one_zero p ≡ p
+standing_stays p h = others_stay p (not_minus p h)
 
-minus-or-other : {C : Type 0} (p : ℕ) → (p ≡ minusZero → C) → ((p ≡ minusZero → ⊥) → C) → C
-minus-or-other {C} p f g = go (eqb p minusZero) refl
+minus_or_other : {C : Type 0} (p : ℕ) → (p ≡ minus_zero → C) → ((p ≡ minus_zero → ⊥) → C) → C
+minus_or_other {C} p f g = go (eqb p minus_zero) refl
   where
-    go : (b : Bool) → eqb p minusZero ≡ b → C
-    go true e = f (eqb-true p minusZero e)
-    go false e = g (eqb-false p minusZero e)
+    go : (b : Bool) → eqb p minus_zero ≡ b → C
+    go true e = f (eqb-true p minus_zero e)
+    go false e = g (eqb-false p minus_zero e)
 
-pub one-zero-stands : (p : ℕ) → p < 2 ^ 64 → T (rate? (oneZero p))
-one-zero-stands p l = minus-or-other p (λ e. rw (e, minus-zero-is-zero) tt) (λ n. rw (others-stay p n) ((stands-exactly p l).1 n))
+pub one_zero_stands : (p : ℕ) → p < 2 ^ 64 → T (rate? (one_zero p))
+one_zero_stands p l = minus_or_other p (λ e. rw (e, minus_zero_is_zero) tt) (λ n. rw (others_stay p n) ((stands_exactly p l).1 n))
 
 -- the two zeros
 abbrev pub Zero : ℕ → Type 0
-Zero p = (p ≡ 0) ⊎ (p ≡ minusZero)
+Zero p = (p ≡ 0) ⊎ (p ≡ minus_zero)
 
-zero_is : (p : ℕ) → Zero p → oneZero p ≡ 0
-zero_is p (inl e) = rw e (others-stay 0 (λ q. omega arith))
-zero_is p (inr e) = rw e minus-zero-is-zero
+zero_is : (p : ℕ) → Zero p → one_zero p ≡ 0
+zero_is p (inl e) = rw e (others_stay 0 (λ q. omega arith))
+zero_is p (inr e) = rw e minus_zero_is_zero
 
-is_zero : (p : ℕ) → oneZero p ≡ 0 → Zero p
-is_zero p h = minus-or-other p inr (λ n. inl (sym (others-stay p n) ∙ h))
+is_zero : (p : ℕ) → one_zero p ≡ 0 → Zero p
+is_zero p h = minus_or_other p inr (λ n. inl (sym (others_stay p n) ∙ h))
 
 -- Two rates come to the same in a row exactly when all bits agree, or both are zeros.
-pub same_load : (p q : ℕ) → (oneZero p ≡ oneZero q → (p ≡ q) ⊎ (Zero p × Zero q)) × ((p ≡ q) ⊎ (Zero p × Zero q) → oneZero p ≡ oneZero q)
-same_load p q = (apart, ⊎_elim (ap oneZero) (λ (x, y). zero_is p x ∙ sym (zero_is q y)))
+pub same_load : (p q : ℕ) → (one_zero p ≡ one_zero q → (p ≡ q) ⊎ (Zero p × Zero q)) × ((p ≡ q) ⊎ (Zero p × Zero q) → one_zero p ≡ one_zero q)
+same_load p q = (apart, ⊎_elim (ap one_zero) (λ (x, y). zero_is p x ∙ sym (zero_is q y)))
   where
-    apart : oneZero p ≡ oneZero q → (p ≡ q) ⊎ (Zero p × Zero q)
+    apart : one_zero p ≡ one_zero q → (p ≡ q) ⊎ (Zero p × Zero q)
     apart e =
-        minus-or-other p
+        minus_or_other p
         (λ a. inr (inr a, is_zero q (sym e ∙ zero_is p (inr a))))
-        (λ n. minus-or-other q (λ b. inr (is_zero p (e ∙ zero_is q (inr b)), inr b)) (λ m. inl (sym (others-stay p n) ∙ e ∙ others-stay q m)))
+        (λ n. minus_or_other q (λ b. inr (is_zero p (e ∙ zero_is q (inr b)), inr b)) (λ m. inl (sym (others_stay p n) ∙ e ∙ others_stay q m)))

@@ -10,38 +10,38 @@ use Rattle.model.specs.Space.{put_at}
 
 module _ (out : List ℕ) (at : ℕ) (bytes : List ℕ) where
   -- where they do not fit whole
-  pub put-not : length out < at + length bytes → put_at out at bytes ≡ out
+  pub put_not : length out < at + length bytes → put_at out at bytes ≡ out
   unfolding put_at
-  put-not h = rw (lt-leb (at + length bytes) (length out) h)
+  put_not h = rw (lt-leb (at + length bytes) (length out) h)
 
   -- where they fit whole
   module _ (h : at + length bytes ≤ length out) where
-    pub put-fits : put_at out at bytes ≡ take at out ++ bytes ++ drop (at + length bytes) out
+    pub put_fits : put_at out at bytes ≡ take at out ++ bytes ++ drop (at + length bytes) out
     unfolding put_at
-    put-fits = rw (le-leb (at + length bytes) (length out) h)
+    put_fits = rw (le-leb (at + length bytes) (length out) h)
 
     pub front_length : length (take at out ++ bytes) ≡ at + length bytes
     front_length = length-append (take at out) bytes ∙ ap (λ (n : ℕ). n + length bytes) (length-take-le at out (omega arith))
 
-    pub put-length : length (put_at out at bytes) ≡ length out
-    put-length = rw put-fits (length-append (take at out ++ bytes) (drop (at + length bytes) out) ∙ (let e = front_length in let d = length-drop (at + length bytes) out in omega arith))
+    pub put_length : length (put_at out at bytes) ≡ length out
+    put_length = rw put_fits (length-append (take at out ++ bytes) (drop (at + length bytes) out) ∙ (let e = front_length in let d = length-drop (at + length bytes) out in omega arith))
 
     -- before them and behind them the space is as it was
-    pub put-before : take at (put_at out at bytes) ≡ take at out
-    put-before = rw (put-fits, append_assoc (take at out) bytes (drop (at + length bytes) out)) (take_at (take at out) (bytes ++ drop (at + length bytes) out) at (length-take-le at out (omega arith)))
+    pub put_before : take at (put_at out at bytes) ≡ take at out
+    put_before = rw (put_fits, append_assoc (take at out) bytes (drop (at + length bytes) out)) (take_at (take at out) (bytes ++ drop (at + length bytes) out) at (length-take-le at out (omega arith)))
 
-    pub put-up-to : take (at + length bytes) (put_at out at bytes) ≡ take at out ++ bytes
-    put-up-to = rw put-fits (take_at (take at out ++ bytes) (drop (at + length bytes) out) (at + length bytes) front_length)
+    pub put_up_to : take (at + length bytes) (put_at out at bytes) ≡ take at out ++ bytes
+    put_up_to = rw put_fits (take_at (take at out ++ bytes) (drop (at + length bytes) out) (at + length bytes) front_length)
 
-    pub put-behind : drop (at + length bytes) (put_at out at bytes) ≡ drop (at + length bytes) out
-    put-behind = rw put-fits (drop_at (take at out ++ bytes) (drop (at + length bytes) out) (at + length bytes) front_length)
+    pub put_behind : drop (at + length bytes) (put_at out at bytes) ≡ drop (at + length bytes) out
+    put_behind = rw put_fits (drop_at (take at out ++ bytes) (drop (at + length bytes) out) (at + length bytes) front_length)
 
 -- put at the front
 pub put_front : (out bytes : List ℕ) → length bytes ≤ length out → put_at out 0 bytes ≡ bytes ++ drop (length bytes) out
-put_front out bytes l = let z : 0 + length bytes ≡ length bytes = omega arith in put-fits out 0 bytes (omega arith) ∙ ap (λ k. bytes ++ drop k out) z
+put_front out bytes l = let z : 0 + length bytes ≡ length bytes = omega arith in put_fits out 0 bytes (omega arith) ∙ ap (λ k. bytes ++ drop k out) z
 
 -- nothing put
-pub put-none : (out : List ℕ) (at : ℕ) → at ≤ length out → put_at out at [] ≡ out
-put-none out at l =
+pub put_none : (out : List ℕ) (at : ℕ) → at ≤ length out → put_at out at [] ≡ out
+put_none out at l =
     let z : at + 0 ≡ at = omega arith in
-    put-fits out at [] (omega arith) ∙ ap (λ k. take at out ++ [] ++ drop k out) z ∙ ap (λ l. l ++ drop at out) (append-nil (take at out)) ∙ take-append-drop at out
+    put_fits out at [] (omega arith) ∙ ap (λ k. take at out ++ [] ++ drop k out) z ∙ ap (λ l. l ++ drop at out) (append-nil (take at out)) ∙ take-append-drop at out

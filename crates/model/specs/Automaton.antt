@@ -22,24 +22,24 @@ pub record Automaton : Type 0 where
   pub tags : ℕ
   pub rules : List Rule
 
-abbrev pub noState : State
-noState = record { final = false; mask = 0 }
+abbrev pub no_state : State
+no_state = record { final = false; mask = 0 }
 
-abbrev pub stateAt : Automaton → ℕ → State
-stateAt A q = get_or A.states q noState
+abbrev pub state_at : Automaton → ℕ → State
+state_at A q = get_or A.states q no_state
 
-abbrev pub arityOf : Automaton → ℕ → ℕ
-arityOf A s = get_or A.arities s 0
+abbrev pub arity_of : Automaton → ℕ → ℕ
+arity_of A s = get_or A.arities s 0
 
 abbrev pub final? : Automaton → ℕ → Bool
-final? A q = (stateAt A q).final
+final? A q = (state_at A q).final
 
 -- bit k of a mask
 abbrev pub bit? : ℕ → ℕ → Bool
 bit? mask k = eqb (mask / 2 ^ k % 2) 1
 
 abbrev pub carries? : Automaton → ℕ → ℕ → Bool
-carries? A q k = bit? (stateAt A q).mask k
+carries? A q k = bit? (state_at A q).mask k
 
 abbrev pub forgets? : Rule → ℕ → Bool
 forgets? r k = bit? r.forget k
@@ -53,14 +53,14 @@ abbrev pub ForgetsNothing : Automaton → Type 0
 ForgetsNothing A = (r : Rule) → In r A.rules → r.forget ≡ 0
 
 -- The same as a test.
-abbrev pub forgetsNothing? : Automaton → Bool
-forgetsNothing? A = all (λ r. eqb r.forget 0) A.rules
+abbrev pub forgets_nothing? : Automaton → Bool
+forgets_nothing? A = all (λ r. eqb r.forget 0) A.rules
 
 -- What the theorems ask of an automaton: rules speak of its symbols and states, with a state for each child; masks of its tags.
 pub record Wellformed (A : Automaton) : Type 0 where
   pub targets : (r : Rule) → In r A.rules → r.target < length A.states
   pub children : (r : Rule) → In r A.rules → (q : ℕ) → In q r.children → q < length A.states
   pub symbols : (r : Rule) → In r A.rules → r.symbol < length A.arities
-  pub as_many : (r : Rule) → In r A.rules → length r.children ≡ arityOf A r.symbol
-  pub masks : (q : ℕ) → (stateAt A q).mask < 2 ^ A.tags
+  pub as_many : (r : Rule) → In r A.rules → length r.children ≡ arity_of A r.symbol
+  pub masks : (q : ℕ) → (state_at A q).mask < 2 ^ A.tags
   pub forgets : (r : Rule) → In r A.rules → r.forget < 2 ^ A.tags

@@ -1,15 +1,15 @@
 -- Trees that fit the symbols of an automaton: those of sound tables. Assumes nothing.
 use Rattle.std.specs.Prelude.{◌≡◌, ℕ, ◌<◌, T, length}
 use Rattle.model.specs.Tree.{Tree, Forest, node, fnil, fcons, trees}
-use Rattle.model.specs.Automaton.{Automaton, arityOf}
+use Rattle.model.specs.Automaton.{Automaton, arity_of}
 use Rattle.model.specs.Table.{scalar?}
 
 -- A node's symbol s, scalar (kind k, payload p) and number n of children are as `SoundRow` asks of a row.
 pub record Fit (A : Automaton) (s k p n : ℕ) : Type 0 where
   pub known : s < length A.arities
-  pub as_many : n ≡ arityOf A s
+  pub as_many : n ≡ arity_of A s
   pub scalar : T (scalar? k p)
-  pub bare : 0 < arityOf A s → (k ≡ 0) × (p ≡ 0)
+  pub bare : 0 < arity_of A s → (k ≡ 0) × (p ≡ 0)
 
 -- the root fits
 abbrev pub FitNode : Automaton → Tree → Type 0

@@ -2,12 +2,12 @@
 use Rattle.std.specs.Prelude.{◌≡◌, ◌↔◌, Bool, ◌&&◌, ℕ, T, length}
 use mathlib.Core.List.{List, [], ◌∷◌, ◌++◌, Memᴰ as In}
 use Rattle.std.proofs.Math.Option.{some}
-use Rattle.model.specs.Lists.{tab, anyBelow}
-use Rattle.model.specs.Tree.{Tree, at, childrenOf}
+use Rattle.model.specs.Lists.{tab, any_below}
+use Rattle.model.specs.Tree.{Tree, at, children_of}
 use Rattle.model.specs.Automaton.{Rule, Automaton, carries?, forgets?}
 use Rattle.model.specs.Run.{Above}
 use Rattle.model.specs.Fit.{Fit}
-use Rattle.model.specs.Papers.{Letter, letterAt, Rigid, IsRigid, Ground, rigidOf}
+use Rattle.model.specs.Papers.{Letter, letter_at, Rigid, IsRigid, Ground, rigid_of}
 
 -- A set of states, as a test.
 abbrev pub States : Type 0
@@ -27,13 +27,13 @@ bare M = record { signature = M.signature; state = M.state; rigid = M.rigid; fin
 
 -- What the definition asks of the tuple: what it asks of a rigid tree automaton, and I ⊆ Q_R.
 pub record IsIsolating (M : Isolating) : Type 0 where
-  pub rigid-automaton : IsRigid (bare M)
-  pub isolates-rigid : (f : Letter) (qs : List ℕ) (I : States) (q : ℕ) → M.rule f qs I q → (z : ℕ) → T (I z) → M.rigid z
+  pub rigid_automaton : IsRigid (bare M)
+  pub isolates_rigid : (f : Letter) (qs : List ℕ) (I : States) (q : ℕ) → M.rule f qs I q → (z : ℕ) → T (I z) → M.rigid z
 
 -- A run gives each node a state, and is reached there by a rule, which isolates the states `isolated`.
 pub record IsolatingTreeRun (M : Isolating) (t : Tree) (labels : List ℕ → ℕ) (isolated : List ℕ → States) : Type 0 where
   pub states : (p : List ℕ) (u : Tree) → at t p ≡ some u → M.state (labels p)
-  pub rules : (p : List ℕ) (u : Tree) → at t p ≡ some u → M.rule (letterAt u) (tab (length (childrenOf u)) (λ j. labels (p ++ j ∷ []))) (isolated p) (labels p)
+  pub rules : (p : List ℕ) (u : Tree) → at t p ≡ some u → M.rule (letter_at u) (tab (length (children_of u)) (λ j. labels (p ++ j ∷ []))) (isolated p) (labels p)
 
 -- "When such a rule is used in a run to reach a node ν, the equality constraint for a rigid state q ∈ I is no longer enforced between q-annotated nodes strictly
 -- dominated by ν and q-annotated nodes elsewhere": no node that isolates q strictly dominates one of the two nodes alone.
@@ -54,18 +54,18 @@ pub record Isolates (M : Isolating) (t : Tree) : Type 0 where
   pub success : M.final (labels [])
 
 -- The states that a rule of ours isolates: those with a tag that it forgets.
-abbrev pub isolatedBy : Automaton → Rule → States
-isolatedBy A r q = anyBelow A.tags (λ k. carries? A q k && forgets? r k)
+abbrev pub isolated_by : Automaton → Rule → States
+isolated_by A r q = any_below A.tags (λ k. carries? A q k && forgets? r k)
 
 -- The automaton of the source that one of ours is: letters, states, rigid and final states as in source document 004.
-abbrev pub isolatingOf : Automaton → Isolating
-isolatingOf A =
+abbrev pub isolating_of : Automaton → Isolating
+isolating_of A =
     record {
-      signature = (rigidOf A).signature;
-      state = (rigidOf A).state;
-      rigid = (rigidOf A).rigid;
-      final = (rigidOf A).final;
+      signature = (rigid_of A).signature;
+      state = (rigid_of A).state;
+      rigid = (rigid_of A).rigid;
+      final = (rigid_of A).final;
       rule = λ f qs I q.
           Fit A f.symbol f.kind f.payload (length qs)
-          × (r : Rule) × In r A.rules × (r.symbol ≡ f.symbol) × (r.children ≡ qs) × (r.target ≡ q) × ((z : ℕ) → I z ≡ isolatedBy A r z);
+          × (r : Rule) × In r A.rules × (r.symbol ≡ f.symbol) × (r.children ≡ qs) × (r.target ≡ q) × ((z : ℕ) → I z ≡ isolated_by A r z);
     }

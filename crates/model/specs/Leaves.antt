@@ -3,7 +3,7 @@ use Rattle.std.specs.Prelude.{◌≡◌, List, [], ◌↔◌, ℕ, suc, ◌<◌,
 use Rattle.std.proofs.Math.Option.{some}
 use Rattle.model.specs.Tree.{Tree, at}
 use Rattle.model.specs.Automaton.{Automaton, carries?}
-use Rattle.model.specs.Table.{Row, treeAt}
+use Rattle.model.specs.Table.{Row, tree_at}
 use Rattle.model.specs.Run.{Labelling, Above, Forgets, IsRun, Consistent}
 use Rattle.model.specs.Annotation.{Memory}
 
@@ -16,7 +16,7 @@ pub record Tagged (A : Automaton) (rows : List Row) (t : Tree) (ρ : Labelling) 
   pub tag : k < A.tags
   pub row : j < length rows
   pub place : List ℕ
-  pub stands : at t place ≡ some (treeAt rows j)
+  pub stands : at t place ≡ some (tree_at rows j)
   pub carried : T (carries? A (ρ place) k)
   pub remembered : Remembered A t ρ k place
 
@@ -24,7 +24,7 @@ pub record Tagged (A : Automaton) (rows : List Row) (t : Tree) (ρ : Labelling) 
 pub record RunLeaving (A : Automaton) (rows : List Row) (i q : ℕ) (m : Memory) : Type 0 where
   pub run : Labelling
   pub root : run [] ≡ q
-  pub runs : IsRun A (treeAt rows i) run
-  pub consistent : Consistent A (treeAt rows i) run
+  pub runs : IsRun A (tree_at rows i) run
+  pub consistent : Consistent A (tree_at rows i) run
   pub width : length m ≡ A.tags
-  pub leaves : (k j : ℕ) → (get_or m k 0 ≡ suc j) ↔ Tagged A rows (treeAt rows i) run k j
+  pub leaves : (k j : ℕ) → (get_or m k 0 ≡ suc j) ↔ Tagged A rows (tree_at rows i) run k j

@@ -1,29 +1,29 @@
 -- The limits of document 01, sections "Sets", "Documents" and "Runs", and of document 02, Wish 2, for tags, each stated once. Assumes nothing.
 use Rattle.std.specs.Prelude.{ℕ}
 
-abbrev pub maxSymbols : ℕ
-maxSymbols = 64
+abbrev pub max_symbols : ℕ
+max_symbols = 64
 
-abbrev pub maxChildren : ℕ
-maxChildren = 4
+abbrev pub max_children : ℕ
+max_children = 4
 
-abbrev pub maxStates : ℕ
-maxStates = 256
+abbrev pub max_states : ℕ
+max_states = 256
 
-abbrev pub maxTags : ℕ
-maxTags = 16
+abbrev pub max_tags : ℕ
+max_tags = 16
 
-abbrev pub maxRules : ℕ
-maxRules = 1024
+abbrev pub max_rules : ℕ
+max_rules = 1024
 
-abbrev pub maxRows : ℕ
-maxRows = 1024
+abbrev pub max_rows : ℕ
+max_rows = 1024
 
-abbrev pub maxLevels : ℕ
-maxLevels = 256
+abbrev pub max_levels : ℕ
+max_levels = 256
 
-abbrev pub maxSteps : ℕ
-maxSteps = 4096
+abbrev pub max_steps : ℕ
+max_steps = 4096
 
 -- what a place holds that names no state, row or step
 abbrev pub unused : ℕ

@@ -2,9 +2,9 @@
 use Rattle.std.specs.Prelude.{List, [], ◌∷◌, ◌++◌, Bool, true, false, ◌&&◌, ◌||◌, cond, ℕ, zero, suc, eqb, leb, ltb}
 use Rattle.std.proofs.Math.Option.{Option, none, some}
 
-abbrev pub concatMap : {A B : Type 0} → (A → List B) → List A → List B
-concatMap f [] = []
-concatMap f (x ∷ xs) = f x ++ concatMap f xs
+abbrev pub concat_map : {A B : Type 0} → (A → List B) → List A → List B
+concat_map f [] = []
+concat_map f (x ∷ xs) = f x ++ concat_map f xs
 
 -- the list where the test holds, else none of it
 abbrev pub only : {A : Type 0} → Bool → List A → List A
@@ -36,9 +36,9 @@ all_below zero p = true
 all_below (suc n) p = all_below n p && p n
 
 -- the test p passes at some index below n
-unfoldable pub anyBelow : ℕ → (ℕ → Bool) → Bool
-anyBelow zero p = false
-anyBelow (suc n) p = anyBelow n p || p n
+unfoldable pub any_below : ℕ → (ℕ → Bool) → Bool
+any_below zero p = false
+any_below (suc n) p = any_below n p || p n
 
 -- the larger of two numbers
 abbrev pub larger : ℕ → ℕ → ℕ

@@ -1,6 +1,6 @@
 -- The order of rules in the stored form (document 01, section "Sets"). Assumes nothing.
 use Rattle.std.specs.Prelude.{List, [], ◌∷◌, ◌++◌, Bool, true, false, ◌&&◌, ◌||◌, not, cond, ℕ, zero, suc, T, eqb, ltb, get_or}
-use Rattle.model.specs.Limits.{maxChildren, unused}
+use Rattle.model.specs.Limits.{max_children, unused}
 use Rattle.model.specs.Lists.{tab}
 use Rattle.model.specs.Automaton.{Rule}
 
@@ -10,7 +10,7 @@ place r k = get_or r.children k unused
 
 -- what rules are sorted by: the symbol, then the child places, then the target
 abbrev pub key : Rule → List ℕ
-key r = r.symbol ∷ tab maxChildren (place r) ++ r.target ∷ []
+key r = r.symbol ∷ tab max_children (place r) ++ r.target ∷ []
 
 -- the first place at which two lists of one length differ has the lower number in the first
 abbrev pub lower? : List ℕ → List ℕ → Bool

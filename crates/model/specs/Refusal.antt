@@ -7,9 +7,9 @@ demand true n rest = rest
 demand false n rest = n
 
 -- what an earlier place says, else what a later one says
-unfoldable pub andAfter : ℕ → ℕ → ℕ
-andAfter zero rest = rest
-andAfter (suc n) rest = suc n
+unfoldable pub and_after : ℕ → ℕ → ℕ
+and_after zero rest = rest
+and_after (suc n) rest = suc n
 
 -- What an entry point says: a value, or a refusal by its number. Every answer enum stands for one of these.
 pub data Answer (A : Type 0) : Type 0 where
@@ -22,6 +22,6 @@ unless zero a = gives a
 unless (suc n) a = refuses (suc n)
 
 -- what f makes of the value
-abbrev pub answerMap : {A B : Type 0} → (A → B) → Answer A → Answer B
-answerMap f (gives a) = gives (f a)
-answerMap f (refuses n) = refuses n
+abbrev pub answer_map : {A B : Type 0} → (A → B) → Answer A → Answer B
+answer_map f (gives a) = gives (f a)
+answer_map f (refuses n) = refuses n

@@ -2,7 +2,7 @@
 use Rattle.std.specs.Prelude.{◌≡◌, ◌↔◌, ℕ, ◌<◌, T, length, get_or}
 use mathlib.Core.List.{List, [], ◌∷◌, ◌++◌, Memᴰ as In}
 use Rattle.std.proofs.Math.Option.{some}
-use Rattle.model.specs.Tree.{Tree, at, symbol_of, childrenOf}
+use Rattle.model.specs.Tree.{Tree, at, symbol_of, children_of}
 use Rattle.model.specs.Automaton.{Rule, Automaton, final?, carries?, forgets?}
 
 -- A labelling of positions with states; only the positions of the tree at hand matter.
@@ -13,10 +13,10 @@ Labelling = List ℕ → ℕ
 pub record Move (A : Automaton) (ρ : Labelling) (p : List ℕ) (u : Tree) : Type 0 where
   pub rule : Rule
   pub listed : In rule A.rules
-  pub same-symbol : rule.symbol ≡ symbol_of u
+  pub same_symbol : rule.symbol ≡ symbol_of u
   pub leads : rule.target ≡ ρ p
-  pub as_many : length rule.children ≡ length (childrenOf u)
-  pub from : (j : ℕ) → j < length (childrenOf u) → get_or rule.children j 0 ≡ ρ (p ++ j ∷ [])
+  pub as_many : length rule.children ≡ length (children_of u)
+  pub from : (j : ℕ) → j < length (children_of u) → get_or rule.children j 0 ≡ ρ (p ++ j ∷ [])
 
 abbrev pub IsRun : Automaton → Tree → Labelling → Type 0
 IsRun A t ρ = (p : List ℕ) (u : Tree) → at t p ≡ some u → Move A ρ p u

@@ -2,9 +2,9 @@
 use Rattle.std.specs.Prelude.{List, ◌++◌, Bool, cond, ℕ, ◌+◌, leb, length, take, drop}
 
 -- they fit whole at this place of the space
-abbrev pub fitsAt? : List ℕ → ℕ → List ℕ → Bool
-fitsAt? out at bytes = leb (at + length bytes) (length out)
+abbrev pub fits_at? : List ℕ → ℕ → List ℕ → Bool
+fits_at? out at bytes = leb (at + length bytes) (length out)
 
 -- the space with them put at this place, where they fit whole; else as it was
 unfoldable pub put_at : List ℕ → ℕ → List ℕ → List ℕ
-put_at out at bytes = cond (fitsAt? out at bytes) (take at out ++ bytes ++ drop (at + length bytes) out) out
+put_at out at bytes = cond (fits_at? out at bytes) (take at out ++ bytes ++ drop (at + length bytes) out) out

@@ -1,9 +1,9 @@
 -- Row tables and their trees (document 01, section "Documents"; which rates stand in rows: document 02, Wish 6). Assumes nothing.
 use Rattle.std.specs.Prelude.{◌≡◌, Bool, true, false, ◌&&◌, ◌||◌, not, cond, ℕ, zero, suc, ◌+◌, ◌-◌, ◌^◌, ◌<◌, ◌≤◌, T, eqb, ltb, length, get_or}
 use mathlib.Core.List.{List, [], ◌∷◌, map, Memᴰ as In}
-use Rattle.model.specs.Limits.{maxRows, maxLevels}
+use Rattle.model.specs.Limits.{max_rows, max_levels}
 use Rattle.model.specs.Tree.{Tree, node, forest, levels}
-use Rattle.model.specs.Automaton.{Automaton, arityOf}
+use Rattle.model.specs.Automaton.{Automaton, arity_of}
 
 -- A row: a symbol, a scalar (kind and payload), and the rows of its children.
 pub record Row : Type 0 where
@@ -18,33 +18,33 @@ no_row = record { symbol = 0; kind = 0; payload = 0; children = [] }
 abbrev pub row_at : List Row → ℕ → Row
 row_at rows i = get_or rows i no_row
 
-abbrev pub noTree : Tree
-noTree = node 0 0 0 (forest [])
+abbrev pub no_tree : Tree
+no_tree = node 0 0 0 (forest [])
 
 -- The tree of row i, cut after n levels.
-abbrev pub treeIn : List Row → ℕ → ℕ → Tree
-treeIn rows zero i = noTree
-treeIn rows (suc n) i = node (row_at rows i).symbol (row_at rows i).kind (row_at rows i).payload (forest (map (λ j. treeIn rows n j) (row_at rows i).children))
+abbrev pub tree_in : List Row → ℕ → ℕ → Tree
+tree_in rows zero i = no_tree
+tree_in rows (suc n) i = node (row_at rows i).symbol (row_at rows i).kind (row_at rows i).payload (forest (map (λ j. tree_in rows n j) (row_at rows i).children))
 
 -- The tree of row i: with lower children it has at most i + 1 levels.
-abbrev pub treeAt : List Row → ℕ → Tree
-treeAt rows i = treeIn rows (suc i) i
+abbrev pub tree_at : List Row → ℕ → Tree
+tree_at rows i = tree_in rows (suc i) i
 
 -- A table's tree is that of its last row.
 abbrev pub tree_of : List Row → Tree
-tree_of rows = treeAt rows (length rows - 1)
+tree_of rows = tree_at rows (length rows - 1)
 
 -- Minus zero: the rate with only its sign bit set (document 02, Wish 6).
-abbrev pub minusZero : ℕ
-minusZero = 2 ^ 63
+abbrev pub minus_zero : ℕ
+minus_zero = 2 ^ 63
 
 -- A rate that may stand in a row: any 64 bits but those of minus zero.
 abbrev pub rate? : ℕ → Bool
-rate? p = ltb p (2 ^ 64) && not (eqb p minusZero)
+rate? p = ltb p (2 ^ 64) && not (eqb p minus_zero)
 
 -- The rate that a reader puts into a row: minus zero becomes positive zero, and any other stays as it is.
-unfoldable pub oneZero : ℕ → ℕ
-oneZero p = cond (eqb p minusZero) 0 p
+unfoldable pub one_zero : ℕ → ℕ
+one_zero p = cond (eqb p minus_zero) 0 p
 
 -- The five kinds: bare 0, a flag 1, a count 2, a rate 3, a name 4.
 abbrev pub scalar? : ℕ → ℕ → Bool
@@ -65,15 +65,15 @@ AllUsed rows = (i : ℕ) → suc i < length rows → (j : ℕ) × (i < j) × (j 
 -- What a row of a sound table has.
 pub record SoundRow (A : Automaton) (r : Row) : Type 0 where
   pub known : r.symbol < length A.arities
-  pub as_many : length r.children ≡ arityOf A r.symbol
+  pub as_many : length r.children ≡ arity_of A r.symbol
   pub scalar : T (scalar? r.kind r.payload)
-  pub bare : 0 < arityOf A r.symbol → (r.kind ≡ 0) × (r.payload ≡ 0)
+  pub bare : 0 < arity_of A r.symbol → (r.kind ≡ 0) × (r.payload ≡ 0)
 
 pub record SoundTable (A : Automaton) (rows : List Row) : Type 0 where
-  pub some-row : 0 < length rows
-  pub few-rows : length rows ≤ maxRows
+  pub some_row : 0 < length rows
+  pub few_rows : length rows ≤ max_rows
   pub each : (i : ℕ) → i < length rows → SoundRow A (row_at rows i)
   pub lower : Lower rows
   pub distinct : Distinct rows
   pub used : AllUsed rows
-  pub low : levels (tree_of rows) ≤ maxLevels
+  pub low : levels (tree_of rows) ≤ max_levels

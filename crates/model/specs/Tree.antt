@@ -24,8 +24,8 @@ forest (t ∷ ts) = fcons t (forest ts)
 abbrev pub symbol_of : Tree → ℕ
 symbol_of (node s k p f) = s
 
-abbrev pub childrenOf : Tree → List Tree
-childrenOf (node s k p f) = trees f
+abbrev pub children_of : Tree → List Tree
+children_of (node s k p f) = trees f
 
 abbrev pub and_then : {A B : Type 0} → Option A → (A → Option B) → Option B
 and_then none f = none
@@ -34,7 +34,7 @@ and_then (some a) f = f a
 -- The subtree at a position: the child numbers on the way from the root.
 abbrev pub at : Tree → List ℕ → Option Tree
 at t [] = some t
-at t (j ∷ p) = and_then (get_elem? (childrenOf t) j) (λ u. at u p)
+at t (j ∷ p) = and_then (get_elem? (children_of t) j) (λ u. at u p)
 
 -- Height of a leaf is 1, of another tree one more than its highest child's.
 unfoldable mutual

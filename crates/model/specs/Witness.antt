@@ -14,46 +14,46 @@ abbrev pub Marks : Type 0
 Marks = List (Option Tree)
 
 -- the trees of the states, if all of them are marked
-abbrev pub treesIn : Marks → List ℕ → Option (List Tree)
-treesIn M [] = some []
-treesIn M (q ∷ qs) = and_then (get_or M q none) (λ t. and_then (treesIn M qs) (λ ts. some (t ∷ ts)))
+abbrev pub trees_in : Marks → List ℕ → Option (List Tree)
+trees_in M [] = some []
+trees_in M (q ∷ qs) = and_then (get_or M q none) (λ t. and_then (trees_in M qs) (λ ts. some (t ∷ ts)))
 
 -- a symbol over trees, with a bare scalar
 abbrev pub topped : Rule → List Tree → Option Tree
 topped r ts = some (node r.symbol 0 0 (forest ts))
 
-abbrev pub byRule : Marks → ℕ → Rule → Option Tree
-byRule M q r = when? (eqb r.target q) (and_then (treesIn M r.children) (topped r))
+abbrev pub by_rule : Marks → ℕ → Rule → Option Tree
+by_rule M q r = when? (eqb r.target q) (and_then (trees_in M r.children) (topped r))
 
 -- the tree by the first rule in stored order that leads to q from marked states
-abbrev pub byFirst : Marks → ℕ → List Rule → Option Tree
-byFirst M q [] = none
-byFirst M q (r ∷ rs) = or_else (byRule M q r) (byFirst M q rs)
+abbrev pub by_first : Marks → ℕ → List Rule → Option Tree
+by_first M q [] = none
+by_first M q (r ∷ rs) = or_else (by_rule M q r) (by_first M q rs)
 
 -- A state is marked if it is not yet marked and some rule leads to it from states marked in earlier rounds.
-abbrev pub nextRound : Automaton → Marks → Marks
-nextRound A M = tab (length A.states) (λ q. or_else (get_or M q none) (byFirst M q A.rules))
+abbrev pub next_round : Automaton → Marks → Marks
+next_round A M = tab (length A.states) (λ q. or_else (get_or M q none) (by_first M q A.rules))
 
-abbrev pub noMarks : Automaton → Marks
-noMarks A = tab (length A.states) (λ q. none)
+abbrev pub no_marks : Automaton → Marks
+no_marks A = tab (length A.states) (λ q. none)
 
 -- the marks after n rounds
 abbrev pub rounds : Automaton → ℕ → Marks
-rounds A zero = noMarks A
-rounds A (suc n) = nextRound A (rounds A n)
+rounds A zero = no_marks A
+rounds A (suc n) = next_round A (rounds A n)
 
 -- the tree of the lowest final state that is marked, from state q on
-abbrev pub firstFinal : Automaton → Marks → ℕ → Option Tree
-firstFinal A [] q = none
-firstFinal A (o ∷ M) q = or_else (when? (final? A q) o) (firstFinal A M (suc q))
+abbrev pub first_final : Automaton → Marks → ℕ → Option Tree
+first_final A [] q = none
+first_final A (o ∷ M) q = or_else (when? (final? A q) o) (first_final A M (suc q))
 
-abbrev pub witnessIn : Automaton → ℕ → Marks → Option Tree
-witnessIn A zero M = firstFinal A M 0
-witnessIn A (suc n) M = or_else (firstFinal A M 0) (witnessIn A n (nextRound A M))
+abbrev pub witness_in : Automaton → ℕ → Marks → Option Tree
+witness_in A zero M = first_final A M 0
+witness_in A (suc n) M = or_else (first_final A M 0) (witness_in A n (next_round A M))
 
 -- The tree of the final state marked first, the lowest number on a tie; `none` is dead. As many rounds as there are states are enough.
 abbrev pub witness : Automaton → Option Tree
-witness A = witnessIn A (length A.states) (noMarks A)
+witness A = witness_in A (length A.states) (no_marks A)
 
 -- No tag is carried by two states.
 abbrev pub Apart : Automaton → Type 0

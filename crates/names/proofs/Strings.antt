@@ -32,8 +32,8 @@ pub record Agree (a b : List ℕ) (i : ℕ) : Type 0 where
   pub left : eq_list (drop i a) (drop i b) ≡ eq_list a b
 
 module _ (a b : List ℕ) where
-  pub agree-none : length a ≡ length b → Agree a b 0
-  agree-none e = record { long = e; inside = omega arith; left = refl }
+  pub agree_none : length a ≡ length b → Agree a b 0
+  agree_none e = record { long = e; inside = omega arith; left = refl }
 
   module _ (i : ℕ) (v : Agree a b i) where
     step : i < length a → (eqb (get_or a i 0) (get_or b i 0) && eq_list (drop (i + 1) a) (drop (i + 1) b)) ≡ eq_list a b
@@ -41,15 +41,15 @@ module _ (a b : List ℕ) where
         let k : i < length b = omega (arith, v.long) in
         rw (cut a i h, cut b i k) at v.left
 
-    pub agree-more : i < length a → get_or a i 0 ≡ get_or b i 0 → Agree a b (i + 1)
-    agree-more h e = record { long = v.long; inside = omega arith; left = rw (eq-eqb _ _ e) at (step h) }
+    pub agree_more : i < length a → get_or a i 0 ≡ get_or b i 0 → Agree a b (i + 1)
+    agree_more h e = record { long = v.long; inside = omega arith; left = rw (eq-eqb _ _ e) at (step h) }
 
-    pub agree-not : i < length a → (get_or a i 0 ≡ get_or b i 0 → ⊥) → false ≡ eq_list a b
-    agree-not h n = rw (ne_eqb _ _ n) at (step h)
+    pub agree_not : i < length a → (get_or a i 0 ≡ get_or b i 0 → ⊥) → false ≡ eq_list a b
+    agree_not h n = rw (ne_eqb _ _ n) at (step h)
 
-    pub agree-all : length a ≤ i → true ≡ eq_list a b
-    agree-all h =
+    pub agree_all : length a ≤ i → true ≡ eq_list a b
+    agree_all h =
         let k : length b ≤ i = omega (arith, v.long) in
         rw (drop_of_length-le a h, drop_of_length-le b k) at v.left
 
-pub ruleset comparing = (lengths_differ, agree-none, agree-more, agree-not, agree-all, rules)
+pub ruleset comparing = (lengths_differ, agree_none, agree_more, agree_not, agree_all, rules)

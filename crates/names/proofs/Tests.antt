@@ -9,13 +9,13 @@ use lib.Dec.{T, ltb}
 use Rattle.model.specs.Lists.{all_below}
 use Rattle.model.proofs.Below.{at}
 
-pub and-false : (a : Bool) → (a && false) ≡ false
-and-false true = refl
-and-false false = refl
+pub and_false : (a : Bool) → (a && false) ≡ false
+and_false true = refl
+and_false false = refl
 
-pub and-true : (a b : Bool) → (a && b) ≡ true → (a ≡ true) × (b ≡ true)
-and-true true b e = (refl, e)
-and-true false b e = (e, absurd (subst (λ x. T (not x)) e tt))
+pub and_true : (a b : Bool) → (a && b) ≡ true → (a ≡ true) × (b ≡ true)
+and_true true b e = (refl, e)
+and_true false b e = (e, absurd (subst (λ x. T (not x)) e tt))
 
 pub split : (i n : ℕ) → (i < n) ⊎ (n ≤ i)
 split i n = go (ltb i n) refl

@@ -1,23 +1,23 @@
 -- What is asked of two name lists, by number (document 01, section "Turned away, by place", names). Assumes nothing.
 use Rattle.std.specs.Prelude.{List, Bool, ◌&&◌, ◌||◌, not, ℕ, min, eqb, leb, length}
 use Rattle.std.proofs.Math.Option.{Option, none, some}
-use Rattle.model.specs.Limits.{maxSymbols}
+use Rattle.model.specs.Limits.{max_symbols}
 use Rattle.model.specs.Lists.{all_below, eq_list}
 use Rattle.model.specs.Refusal.{demand, Answer, gives, refuses}
-use Rattle.names.specs.Lines.{line_at, lineCount}
-use Rattle.names.specs.Names.{name?, shownName}
+use Rattle.names.specs.Lines.{line_at, line_count}
+use Rattle.names.specs.Names.{name?, shown_name}
 use Rattle.names.specs.declared.NamesChecked.{NamesChecked}
 use Rattle.names.specs.declared.NamesChecked.TheVariants.{Distinct, Refused}
 use Rattle.names.specs.declared.table.Found.{Found}
 use Rattle.names.specs.declared.table.Found.TheVariants.{Symbol, Unknown}
 
 -- a line is empty or a name
-unfoldable pub lineFits? : List ℕ → Bool
-lineFits? l = eqb (length l) 0 || name? l
+unfoldable pub line_fits? : List ℕ → Bool
+line_fits? l = eqb (length l) 0 || name? l
 
 -- 61: at most 64 lines, each empty or a name
-unfoldable pub listFits? : List ℕ → Bool
-listFits? s = leb (lineCount s) maxSymbols && all_below (lineCount s) (λ i. lineFits? (line_at s i))
+unfoldable pub list_fits? : List ℕ → Bool
+list_fits? s = leb (line_count s) max_symbols && all_below (line_count s) (λ i. line_fits? (line_at s i))
 
 -- no symbol before i has i's name
 unfoldable pub new? : (ℕ → List ℕ) → ℕ → Bool
@@ -28,20 +28,20 @@ unfoldable pub distinct? : ℕ → (ℕ → List ℕ) → Bool
 distinct? n names = all_below n (new? names)
 
 -- 62, of a set's symbols, of which there are at most 64
-abbrev pub shownApart? : ℕ → List ℕ → List ℕ → Bool
-shownApart? symbols site builtIn = distinct? (min symbols maxSymbols) (shownName site builtIn)
+abbrev pub shown_apart? : ℕ → List ℕ → List ℕ → Bool
+shown_apart? symbols site built_in = distinct? (min symbols max_symbols) (shown_name site built_in)
 
 -- the first number that refuses the lists, else 0
-unfoldable pub namesCheckOf : ℕ → List ℕ → List ℕ → ℕ
-namesCheckOf symbols site builtIn =
-    demand (listFits? site && listFits? builtIn) 61 (demand (shownApart? symbols site builtIn) 62 0)
+unfoldable pub names_check_of : ℕ → List ℕ → List ℕ → ℕ
+names_check_of symbols site built_in =
+    demand (list_fits? site && list_fits? built_in) 61 (demand (shown_apart? symbols site built_in) 62 0)
 
 -- the check's answer: nothing is refused, or a refusal by its number
-abbrev pub namesAnswer : NamesChecked → Answer (Unit {0})
-namesAnswer Distinct = gives tt
-namesAnswer (Refused n) = refuses n
+abbrev pub names_answer : NamesChecked → Answer (Unit {0})
+names_answer Distinct = gives tt
+names_answer (Refused n) = refuses n
 
 -- the symbol that was found, if one was
-abbrev pub foundOf : Found → Option ℕ
-foundOf (Symbol i) = some i
-foundOf Unknown = none
+abbrev pub found_of : Found → Option ℕ
+found_of (Symbol i) = some i
+found_of Unknown = none

@@ -34,5 +34,5 @@ unfoldable pub line_at : List ℕ → ℕ → List ℕ
 line_at s i = trimmed (get_or (lines s) i [])
 
 -- how many lines there are
-unfoldable pub lineCount : List ℕ → ℕ
-lineCount s = length (lines s)
+unfoldable pub line_count : List ℕ → ℕ
+line_count s = length (lines s)

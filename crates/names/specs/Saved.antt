@@ -29,6 +29,6 @@ abbrev pub SavedAlike : List ℕ → List ℕ → Type 0
 SavedAlike s s' = SameLines (lines s) (lines s')
 
 -- a list with byte 13 put before each byte 10
-unfoldable pub onWindows : List ℕ → List ℕ
-onWindows [] = []
-onWindows (x ∷ xs) = elim (eqb x newline) [ true ↦ 13 ∷ newline ∷ onWindows xs | false ↦ x ∷ onWindows xs ]
+unfoldable pub on_windows : List ℕ → List ℕ
+on_windows [] = []
+on_windows (x ∷ xs) = elim (eqb x newline) [ true ↦ 13 ∷ newline ∷ on_windows xs | false ↦ x ∷ on_windows xs ]

@@ -1,11 +1,11 @@
 // The lines of a name list, what a name is, and the lookup of a symbol's name in the two lists.
 ghost use Rattle.std.specs.Prelude.{◌≡◌, ℕ, ◌+◌, ◌≤◌, min, length, get_or};
 ghost use Rattle.model.specs.Lists.{all_below};
-ghost use Rattle.classes.specs.Classes.{classTable};
+ghost use Rattle.classes.specs.Classes.{class_table};
 ghost use Rattle.names.specs.Lines.{blank?, trimmed, line_at};
 ghost use Rattle.names.specs.Places.{Ended, Starts};
-ghost use Rattle.names.specs.Names.{nameByte?, name?, name_of};
-ghost use Rattle.names.specs.Check.{lineFits?, listFits?};
+ghost use Rattle.names.specs.Names.{name_byte?, name?, name_of};
+ghost use Rattle.names.specs.Check.{line_fits?, list_fits?};
 
 use base::limits::MAX_SYMBOLS;
 use classes::{is_letter, is_letter_or_digit};
@@ -92,16 +92,16 @@ fn line<'a>(s: &'a [u8], i: usize) -> &'a [u8]
 
 // Whether a byte may stand in a name.
 fn in_name(classes: &[u8; 256], b: u8) -> bool
-    requires lent { classes.now ≡ classTable }
-    ensures { result ≡ nameByte? b }
+    requires lent { classes.now ≡ class_table }
+    ensures { result ≡ name_byte? b }
 {
     is_letter_or_digit(classes, b)
 }
 
 // Whether each byte may stand in a name.
 fn all_in_name(s: &[u8], classes: &[u8; 256]) -> bool
-    requires lent { classes.now ≡ classTable }
-    ensures { result ≡ all_below (length s.now) (λ k. nameByte? (get_or s.now k 0)) }
+    requires lent { classes.now ≡ class_table }
+    ensures { result ≡ all_below (length s.now) (λ k. name_byte? (get_or s.now k 0)) }
 {
     let n = s.len();
     let mut i = 0;
@@ -117,7 +117,7 @@ fn all_in_name(s: &[u8], classes: &[u8; 256]) -> bool
 
 // Whether some bytes are a name.
 fn is_name(s: &[u8], classes: &[u8; 256]) -> bool
-    requires lent { classes.now ≡ classTable }
+    requires lent { classes.now ≡ class_table }
     ensures { result ≡ name? s.now }
 {
     if s.len() == 0 {
@@ -134,8 +134,8 @@ fn is_name(s: &[u8], classes: &[u8; 256]) -> bool
 
 // Whether a line is empty or a name.
 fn line_fits(s: &[u8], classes: &[u8; 256]) -> bool
-    requires lent { classes.now ≡ classTable }
-    ensures { result ≡ lineFits? s.now }
+    requires lent { classes.now ≡ class_table }
+    ensures { result ≡ line_fits? s.now }
 {
     if s.len() == 0 {
         return true;
@@ -145,8 +145,8 @@ fn line_fits(s: &[u8], classes: &[u8; 256]) -> bool
 
 // Whether a list has at most 64 lines, as many as a set has symbols, each empty or a name. Line 0 of what is left of the list is asked for, so that the list is not scanned from its start again.
 pub(crate) fn list_fits(s: &[u8], classes: &[u8; 256]) -> bool
-    requires lent { classes.now ≡ classTable }
-    ensures { result ≡ listFits? s.now }
+    requires lent { classes.now ≡ class_table }
+    ensures { result ≡ list_fits? s.now }
 {
     let mut a = 0;
     let mut k = 0;

@@ -1,9 +1,9 @@
 // The names shown, in a table of cells of one width, and the search for a symbol by its name.
 ghost use Rattle.std.specs.Prelude.{◌≡◌, ◌*◌, ◌<◌, length, get_or};
 ghost use Rattle.model.specs.Space.{put_at};
-ghost use Rattle.names.specs.Names.{unlessEmpty, defaultName, findIn};
-ghost use Rattle.names.specs.Table.{cellBytes, cell_of, nameIn, table_of};
-ghost use Rattle.names.specs.Check.{foundOf};
+ghost use Rattle.names.specs.Names.{unless_empty, default_name, find_in};
+ghost use Rattle.names.specs.Table.{cell_bytes, cell_of, name_in, table_of};
+ghost use Rattle.names.specs.Check.{found_of};
 
 use crate::bytes::same;
 use crate::lines::{MAX_NAME, name, next_line};
@@ -27,7 +27,7 @@ pub enum Found {
 // A name into cell `i`, where the cell fits into the space.
 fn put_cell(t: &mut [u8], i: u16, bytes: &[u8])
     requires { i < 64 }
-    ensures { t.new ≡ put_at t.old (i * cellBytes) (cell_of bytes.now) }
+    ensures { t.new ≡ put_at t.old (i * cell_bytes) (cell_of bytes.now) }
 {
     let at = size(i) * CELL;
     let n = smaller(MAX_NAME, bytes.len());
@@ -40,7 +40,7 @@ fn put_cell(t: &mut [u8], i: u16, bytes: &[u8])
 // A part of a list into cell `i`; where it is empty, `s` and the number.
 fn put_shown(t: &mut [u8], i: u16, part: &[u8])
     requires { i < 64 }
-    ensures { t.new ≡ put_at t.old (i * cellBytes) (cell_of (unlessEmpty part.now (defaultName i))) }
+    ensures { t.new ≡ put_at t.old (i * cell_bytes) (cell_of (unless_empty part.now (default_name i))) }
 {
     if part.len() > 0 {
         put_cell(t, i, part);
@@ -80,7 +80,7 @@ fn byte_at(t: &[u8], at: usize) -> usize
 
 // The name in the cell of symbol `i`.
 pub fn shown<'a>(t: &'a [u8], i: u16) -> &'a [u8]
-    ensures { result.now ≡ nameIn t.now i }
+    ensures { result.now ≡ name_in t.now i }
 {
     let at = size(i) * CELL;
     let n = byte_at(t, at);
@@ -91,21 +91,21 @@ pub fn shown<'a>(t: &'a [u8], i: u16) -> &'a [u8]
 
 // How many bytes the name of symbol `i` has.
 pub fn shown_length(t: &[u8], i: u16) -> usize
-    ensures { result ≡ length (nameIn t.now i) }
+    ensures { result ≡ length (name_in t.now i) }
 {
     shown(t, i).len()
 }
 
 // The name of symbol `i` at a place of a space, where it fits; else the space stays as it is.
 pub fn put_name(out: &mut [u8], at: usize, t: &[u8], i: u16)
-    ensures { out.new ≡ put_at out.old at (nameIn t.now i) }
+    ensures { out.new ≡ put_at out.old at (name_in t.now i) }
 {
     put(out, at, shown(t, i));
 }
 
 // The first of so many symbols whose name is these bytes.
 pub fn find(t: &[u8], symbols: u16, bytes: &[u8]) -> Found
-    ensures { foundOf result ≡ findIn symbols (nameIn t.now) bytes.now }
+    ensures { found_of result ≡ find_in symbols (name_in t.now) bytes.now }
 {
     let mut i = 0;
     while i < symbols {

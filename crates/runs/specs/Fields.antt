@@ -4,9 +4,9 @@ use Rattle.document.specs.declared.rows.Step.{Step}
 use Rattle.runs.specs.declared.steps.StepFields.{StepFields}
 
 -- the numbers of steps by value
-abbrev pub stepNumbers : List Step → List ℕ
-stepNumbers steps = map (λ s. s.0) steps
+abbrev pub step_numbers : List Step → List ℕ
+step_numbers steps = map (λ s. s.0) steps
 
 -- the six cells of a step
-abbrev pub fieldCells : StepFields → List ℕ
-fieldCells f = f.rule ∷ f.row.0 ∷ stepNumbers f.places
+abbrev pub field_cells : StepFields → List ℕ
+field_cells f = f.rule ∷ f.row.0 ∷ step_numbers f.places

@@ -1,27 +1,27 @@
 -- What the passes of the run check ask. Assumes nothing.
 use Rattle.std.specs.Prelude.{◌≡◌, List, true, ℕ, ◌<◌, ◌≤◌, length}
-use Rattle.model.specs.Limits.{maxSteps}
+use Rattle.model.specs.Limits.{max_steps}
 use Rattle.model.specs.Lists.{all_below}
 use Rattle.model.specs.Written.{Step}
 use Rattle.model.specs.WrittenTest.{known?}
 use Rattle.automaton.specs.Stored.{decode}
-use Rattle.document.specs.Rows.{decodeRows}
-use Rattle.document.specs.Check.{documentCheckOf}
-use Rattle.runs.specs.Steps.{decodeSteps}
+use Rattle.document.specs.Rows.{decode_rows}
+use Rattle.document.specs.Check.{document_check_of}
+use Rattle.runs.specs.Steps.{decode_steps}
 
 -- n is the number of steps, and 21 does not refuse them for it
 pub record Counted (run : List Step) (n : ℕ) : Type 0 where
   pub steps : n ≡ length run
   pub some : 0 < n
-  pub few : n ≤ maxSteps
+  pub few : n ≤ max_steps
 
 -- the set and the table are sound, and the rule and the row of step i are known
 pub record Known (set rows run : List ℕ) (i : ℕ) : Type 0 where
-  pub sound : documentCheckOf set rows ≡ 0
-  pub known : known? (decode set) (decodeRows rows) (decodeSteps run) i ≡ true
+  pub sound : document_check_of set rows ≡ 0
+  pub known : known? (decode set) (decode_rows rows) (decode_steps run) i ≡ true
 
 -- the same at each of the n steps
 pub record Ready (set rows run : List ℕ) (n : ℕ) : Type 0 where
-  pub sound : documentCheckOf set rows ≡ 0
-  pub counted : Counted (decodeSteps run) n
-  pub known : all_below n (known? (decode set) (decodeRows rows) (decodeSteps run)) ≡ true
+  pub sound : document_check_of set rows ≡ 0
+  pub counted : Counted (decode_steps run) n
+  pub known : all_below n (known? (decode set) (decode_rows rows) (decode_steps run)) ≡ true

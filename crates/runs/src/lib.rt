@@ -2,10 +2,10 @@
 ghost use Rattle.std.specs.Prelude.{◌≡◌};
 ghost use Rattle.model.specs.Refusal.{unless};
 ghost use Rattle.automaton.specs.Stored.{decode};
-ghost use Rattle.automaton.specs.Answer.{checkAnswer};
-ghost use Rattle.document.specs.Rows.{decodeRows};
-ghost use Rattle.document.specs.Check.{documentCheckOf};
-ghost use Rattle.runs.specs.Check.{runCheckOf, checkRunOf};
+ghost use Rattle.automaton.specs.Answer.{check_answer};
+ghost use Rattle.document.specs.Rows.{decode_rows};
+ghost use Rattle.document.specs.Check.{document_check_of};
+ghost use Rattle.runs.specs.Check.{run_check_of, check_run_of};
 
 pub mod steps; // steps.rt: lent steps, by index
 mod memories; // memories.rt: the test 24, tag by tag
@@ -15,8 +15,8 @@ use automaton::Checked;
 
 // The tests of the run, in their order, where the set and the table are sound.
 fn tried(set: &[u8], rows: &[u16], run: &[u16]) -> Checked
-    requires { documentCheckOf set.now rows.now ≡ 0 }
-    ensures { checkAnswer result ≡ unless (runCheckOf (decode set.now) (decodeRows rows.now) run.now) tt }
+    requires { document_check_of set.now rows.now ≡ 0 }
+    ensures { check_answer result ≡ unless (run_check_of (decode set.now) (decode_rows rows.now) run.now) tt }
 {
     if !tests::counted(run) {
         return Checked::Refused(21);
@@ -42,7 +42,7 @@ fn tried(set: &[u8], rows: &[u16], run: &[u16]) -> Checked
 
 // Whether the run shows that the set lets the document in; else the number that refuses the set, the table or the run, in this order.
 pub fn check(set: &[u8], rows: &[u16], run: &[u16]) -> Checked
-    ensures { checkAnswer result ≡ unless (checkRunOf set.now rows.now run.now) tt }
+    ensures { check_answer result ≡ unless (check_run_of set.now rows.now run.now) tt }
 {
     match document::check(set, rows) {
         Checked::Passed => tried(set, rows, run),

@@ -1,14 +1,14 @@
 // The run check's test 24: the memories that steps leave, one tag after the other, so that a cell for each step is enough.
 ghost use Rattle.std.specs.Prelude.{◌≡◌, map, cond, suc, ◌<◌, ◌≤◌, length, get_or};
-ghost use Rattle.model.specs.Limits.{maxTags, unused};
+ghost use Rattle.model.specs.Limits.{max_tags, unused};
 ghost use Rattle.model.specs.Lists.{all_below};
 ghost use Rattle.model.specs.Automaton.{Automaton, bit?};
-ghost use Rattle.model.specs.Annotation.{placesAgree, joinedPlace};
-ghost use Rattle.model.specs.WrittenTest.{oneRow?};
-ghost use Rattle.model.specs.ByTag.{tagClear?, oneRowByTag?};
+ghost use Rattle.model.specs.Annotation.{places_agree, joined_place};
+ghost use Rattle.model.specs.WrittenTest.{one_row?};
+ghost use Rattle.model.specs.ByTag.{tag_clear?, one_row_by_tag?};
 ghost use Rattle.automaton.specs.Stored.{decode};
 ghost use Rattle.document.specs.Rows.{used};
-ghost use Rattle.runs.specs.Steps.{placesIn, decodeSteps};
+ghost use Rattle.runs.specs.Steps.{places_in, decode_steps};
 ghost use Rattle.runs.specs.Memories.{Placed, Fitted, Noted, With, AllJoined, Left};
 
 use crate::steps;
@@ -33,20 +33,20 @@ struct Joined {
 }
 
 fn has_tag(mask: u16, k: u16) -> bool
-    requires { k < maxTags }
+    requires { k < max_tags }
     ensures { result ≡ bit? mask k }
 {
     (mask >> k) % 2 == 1
 }
 
 fn agree(x: Place, y: Place) -> bool
-    ensures { result ≡ placesAgree x.0 y.0 }
+    ensures { result ≡ places_agree x.0 y.0 }
 {
     (x.0 == 0) | ((y.0 == 0) | (x.0 == y.0))
 }
 
 fn join(x: Place, y: Place) -> Place
-    ensures { result.0 ≡ joinedPlace x.0 y.0 }
+    ensures { result.0 ≡ joined_place x.0 y.0 }
 {
     if x.0 == 0 { y } else { x }
 }
@@ -75,7 +75,7 @@ fn place_of(cells: &[u16], c: Step) -> Place
 
 // The places of the child steps of step i, joined.
 fn from_children(run: &[u16], cells: &[u16], i: Step) -> Joined
-    ensures { AllJoined (map (λ c. get_or cells.now c 0) (used (placesIn run.now i.0))) result }
+    ensures { AllJoined (map (λ c. get_or cells.now c 0) (used (places_in run.now i.0))) result }
 {
     let n = MAX_CHILDREN;
     let mut k = 0;
@@ -96,7 +96,7 @@ fn from_children(run: &[u16], cells: &[u16], i: Step) -> Joined
 
 // Tag k after the tags of the mask are dropped.
 fn kept(x: Place, forget: u16, k: u16) -> Place
-    requires { k < maxTags }
+    requires { k < max_tags }
     ensures { result.0 ≡ cond (bit? forget k) 0 x.0 }
 {
     if has_tag(forget, k) { Place(0) } else { x }
@@ -104,7 +104,7 @@ fn kept(x: Place, forget: u16, k: u16) -> Place
 
 // Tag k of a state with the mask, on the row.
 fn own(mask: u16, on: Row, k: u16) -> Place
-    requires { (k < maxTags) × (on.0 < unused) }
+    requires { (k < max_tags) × (on.0 < unused) }
     ensures { result.0 ≡ cond (bit? mask k) (suc on.0) 0 }
 {
     if has_tag(mask, k) {
@@ -116,7 +116,7 @@ fn own(mask: u16, on: Row, k: u16) -> Place
 
 // Tag k in the memory that a step on the row leaves: the children's places joined, the rule's tags dropped, then the state's added.
 fn left(j: Joined, forget: u16, mask: u16, on: Row, k: u16) -> Joined
-    requires { (k < maxTags) × (on.0 < unused) }
+    requires { (k < max_tags) × (on.0 < unused) }
     ensures { Left j forget mask on.0 k result }
 {
     let x = j.place;
@@ -130,7 +130,7 @@ fn left(j: Joined, forget: u16, mask: u16, on: Row, k: u16) -> Joined
 // Notes the tags that the state of each step carries, and those that its rule forgets.
 fn note(set: &[u8], run: &[u16], n: u16, masks: &mut [u16], forgets: &mut [u16])
     requires { (n ≤ length masks.old) × (n ≤ length forgets.old) }
-    ensures { Noted (decode set.now) (decodeSteps run.now) n masks.new forgets.new }
+    ensures { Noted (decode set.now) (decode_steps run.now) n masks.new forgets.new }
 {
     let mut i = 0;
     while i < n {
@@ -150,8 +150,8 @@ fn tag_clear(
     n: u16,
     k: u16,
 ) -> bool
-    requires { Placed (decodeSteps run.now) n × (k < maxTags) × (n ≤ length cells.old) }
-    ensures { (A : Automaton) → Noted A (decodeSteps run.now) n masks.now forgets.now → result ≡ all_below (length (decodeSteps run.now)) (tagClear? A (decodeSteps run.now) k) }
+    requires { Placed (decode_steps run.now) n × (k < max_tags) × (n ≤ length cells.old) }
+    ensures { (A : Automaton) → Noted A (decode_steps run.now) n masks.now forgets.now → result ≡ all_below (length (decode_steps run.now)) (tag_clear? A (decode_steps run.now) k) }
 {
     let mut i = 0;
     while i < n {
@@ -170,8 +170,8 @@ fn tag_clear(
 
 // 24, from what was noted of the steps once.
 fn tags_clear(set: &[u8], run: &[u16], n: u16, tags: u16) -> bool
-    requires { Placed (decodeSteps run.now) n × (tags ≡ (decode set.now).tags) × (tags ≤ maxTags) }
-    ensures { result ≡ oneRowByTag? (decode set.now) (decodeSteps run.now) }
+    requires { Placed (decode_steps run.now) n × (tags ≡ (decode set.now).tags) × (tags ≤ max_tags) }
+    ensures { result ≡ one_row_by_tag? (decode set.now) (decode_steps run.now) }
 {
     let mut masks = [0u16; STEPS];
     let mut forgets = [0u16; STEPS];
@@ -190,8 +190,8 @@ fn tags_clear(set: &[u8], run: &[u16], n: u16, tags: u16) -> bool
 
 // 24: no step's memory gets a tag with two rows.
 pub(crate) fn one_row(set: &[u8], run: &[u16], n: u16) -> bool
-    requires { Fitted (decode set.now) (decodeSteps run.now) n }
-    ensures { result ≡ oneRow? (decode set.now) (decodeSteps run.now) }
+    requires { Fitted (decode set.now) (decode_steps run.now) n }
+    ensures { result ≡ one_row? (decode set.now) (decode_steps run.now) }
 {
     let h = header(set);
     let tags = h.tags;

@@ -1,10 +1,10 @@
 // Lent steps, by index: every function answers for every slice. A step past the last whole one has rule 0 and row 0.
 ghost use Rattle.std.specs.Prelude.{◌≡◌, ◌*◌, length};
 ghost use Rattle.model.specs.Space.{put_at};
-ghost use Rattle.model.specs.Written.{stepAt, ruleOf};
+ghost use Rattle.model.specs.Written.{step_at, rule_of};
 ghost use Rattle.automaton.specs.Stored.{decode};
-ghost use Rattle.runs.specs.Steps.{stepCells, cellIn, placesIn, place_in, decodeSteps};
-ghost use Rattle.runs.specs.Fields.{stepNumbers, fieldCells};
+ghost use Rattle.runs.specs.Steps.{step_cells, cell_in, places_in, place_in, decode_steps};
+ghost use Rattle.runs.specs.Fields.{step_numbers, field_cells};
 
 use automaton::{State, rule_target};
 use base::limits::{MAX_CHILDREN, PLACES, UNUSED};
@@ -24,14 +24,14 @@ pub const STEP_CELLS: usize = 6;
 
 // As many steps as fit whole.
 pub fn count(run: &[u16]) -> usize
-    ensures { result ≡ length (decodeSteps run.now) }
+    ensures { result ≡ length (decode_steps run.now) }
 {
     run.len() / STEP_CELLS
 }
 
 // Cell k of step i.
 fn cell(run: &[u16], i: Step, k: u16) -> u16
-    ensures { result ≡ cellIn run.now i.0 k }
+    ensures { result ≡ cell_in run.now i.0 k }
 {
     let at = size(i.0) * STEP_CELLS + size(k);
     if at < run.len() {
@@ -41,7 +41,7 @@ fn cell(run: &[u16], i: Step, k: u16) -> u16
 }
 
 pub fn rule(run: &[u16], i: Step) -> u16
-    ensures { result ≡ (stepAt (decodeSteps run.now) i.0).rule }
+    ensures { result ≡ (step_at (decode_steps run.now) i.0).rule }
 {
     if size(i.0) < count(run) {
         return cell(run, i, 0);
@@ -50,7 +50,7 @@ pub fn rule(run: &[u16], i: Step) -> u16
 }
 
 pub fn row(run: &[u16], i: Step) -> Row
-    ensures { result.0 ≡ (stepAt (decodeSteps run.now) i.0).row }
+    ensures { result.0 ≡ (step_at (decode_steps run.now) i.0).row }
 {
     if size(i.0) < count(run) {
         return Row(cell(run, i, 1));
@@ -70,7 +70,7 @@ pub fn place(run: &[u16], i: Step, k: u16) -> Step
 
 // The four places of step i.
 pub fn places(run: &[u16], i: Step) -> [Step; PLACES]
-    ensures { stepNumbers result ≡ placesIn run.now i.0 }
+    ensures { step_numbers result ≡ places_in run.now i.0 }
 {
     [
         Step(cell(run, i, 2)),
@@ -82,14 +82,14 @@ pub fn places(run: &[u16], i: Step) -> [Step; PLACES]
 
 // The state that step i leads to.
 pub fn target(set: &[u8], run: &[u16], i: Step) -> State
-    ensures { result.0 ≡ (ruleOf (decode set.now) (decodeSteps run.now) i.0).target }
+    ensures { result.0 ≡ (rule_of (decode set.now) (decode_steps run.now) i.0).target }
 {
     rule_target(set, rule(run, i))
 }
 
 // Makes it step i of the space; where its cells do not fit whole, nothing is written.
 pub fn put_step(out: &mut [u16], i: Step, f: StepFields)
-    ensures { out.new ≡ put_at out.old (i.0 * stepCells) (fieldCells f) }
+    ensures { out.new ≡ put_at out.old (i.0 * step_cells) (field_cells f) }
 {
     let row = f.row;
     let places = f.places;

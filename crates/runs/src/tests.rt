@@ -1,13 +1,13 @@
 // The run check's tests 21 to 23, 25 and 26, each over the whole run.
 ghost use Rattle.std.specs.Prelude.{◌≡◌, ◌-◌, length};
-ghost use Rattle.model.specs.Limits.{maxChildren};
+ghost use Rattle.model.specs.Limits.{max_children};
 ghost use Rattle.model.specs.Lists.{all_below};
-ghost use Rattle.model.specs.WrittenTest.{known?, placeFits?, stepFits?, ends?, used?};
+ghost use Rattle.model.specs.WrittenTest.{known?, place_fits?, step_fits?, ends?, used?};
 ghost use Rattle.automaton.specs.Stored.{decode};
-ghost use Rattle.document.specs.Rows.{used, decodeRows};
+ghost use Rattle.document.specs.Rows.{used, decode_rows};
 ghost use Rattle.document.specs.Marks.{Marked};
-ghost use Rattle.runs.specs.Steps.{place_in, decodeSteps};
-ghost use Rattle.runs.specs.Fields.{stepNumbers};
+ghost use Rattle.runs.specs.Steps.{place_in, decode_steps};
+ghost use Rattle.runs.specs.Fields.{step_numbers};
 ghost use Rattle.runs.specs.Check.{counted?};
 ghost use Rattle.runs.specs.Passes.{Counted, Known, Ready};
 
@@ -29,7 +29,7 @@ pub(crate) fn counted(run: &[u16]) -> bool
 
 // 22 at step i.
 fn step_known(set: &[u8], rows: &[u16], run: &[u16], i: Step) -> bool
-    ensures { result ≡ known? (decode set.now) (decodeRows rows.now) (decodeSteps run.now) i.0 }
+    ensures { result ≡ known? (decode set.now) (decode_rows rows.now) (decode_steps run.now) i.0 }
 {
     let h = header(set);
     let on = row(run, i);
@@ -37,8 +37,8 @@ fn step_known(set: &[u8], rows: &[u16], run: &[u16], i: Step) -> bool
 }
 
 pub(crate) fn all_known(set: &[u8], rows: &[u16], run: &[u16], n: u16) -> bool
-    requires { n ≡ length (decodeSteps run.now) }
-    ensures { result ≡ all_below (length (decodeSteps run.now)) (known? (decode set.now) (decodeRows rows.now) (decodeSteps run.now)) }
+    requires { n ≡ length (decode_steps run.now) }
+    ensures { result ≡ all_below (length (decode_steps run.now)) (known? (decode set.now) (decode_rows rows.now) (decode_steps run.now)) }
 {
     let mut i = 0;
     while i < n {
@@ -54,7 +54,7 @@ pub(crate) fn all_known(set: &[u8], rows: &[u16], run: &[u16], n: u16) -> bool
 // 23 at place k of step i: a lower step for the child that the row has there, in the state that the rule asks.
 fn place_fits(set: &[u8], rows: &[u16], run: &[u16], i: Step, k: u16) -> bool
     requires { Known set.now rows.now run.now i.0 }
-    ensures { result ≡ placeFits? (decode set.now) (decodeRows rows.now) (decodeSteps run.now) i.0 k (place_in run.now i.0 k) }
+    ensures { result ≡ place_fits? (decode set.now) (decode_rows rows.now) (decode_steps run.now) i.0 k (place_in run.now i.0 k) }
 {
     let x = place(run, i, k);
     let child = rows::place(rows, row(run, i), k);
@@ -72,7 +72,7 @@ fn place_fits(set: &[u8], rows: &[u16], run: &[u16], i: Step, k: u16) -> bool
 
 fn places_fit(set: &[u8], rows: &[u16], run: &[u16], i: Step) -> bool
     requires { Known set.now rows.now run.now i.0 }
-    ensures { result ≡ all_below maxChildren (λ k. placeFits? (decode set.now) (decodeRows rows.now) (decodeSteps run.now) i.0 k (place_in run.now i.0 k)) }
+    ensures { result ≡ all_below max_children (λ k. place_fits? (decode set.now) (decode_rows rows.now) (decode_steps run.now) i.0 k (place_in run.now i.0 k)) }
 {
     let n = MAX_CHILDREN;
     let mut k = 0;
@@ -89,7 +89,7 @@ fn places_fit(set: &[u8], rows: &[u16], run: &[u16], i: Step) -> bool
 // 23 at step i.
 fn step_fits(set: &[u8], rows: &[u16], run: &[u16], i: Step) -> bool
     requires { Known set.now rows.now run.now i.0 }
-    ensures { result ≡ stepFits? (decode set.now) (decodeRows rows.now) (decodeSteps run.now) (place_in run.now) i.0 }
+    ensures { result ≡ step_fits? (decode set.now) (decode_rows rows.now) (decode_steps run.now) (place_in run.now) i.0 }
 {
     if rule_symbol(set, rule(run, i)) == rows::symbol(rows, row(run, i)) {
         return places_fit(set, rows, run, i);
@@ -99,7 +99,7 @@ fn step_fits(set: &[u8], rows: &[u16], run: &[u16], i: Step) -> bool
 
 pub(crate) fn all_fit(set: &[u8], rows: &[u16], run: &[u16], n: u16) -> bool
     requires { Ready set.now rows.now run.now n }
-    ensures { result ≡ all_below (length (decodeSteps run.now)) (stepFits? (decode set.now) (decodeRows rows.now) (decodeSteps run.now) (place_in run.now)) }
+    ensures { result ≡ all_below (length (decode_steps run.now)) (step_fits? (decode set.now) (decode_rows rows.now) (decode_steps run.now) (place_in run.now)) }
 {
     let mut i = 0;
     while i < n {
@@ -115,7 +115,7 @@ pub(crate) fn all_fit(set: &[u8], rows: &[u16], run: &[u16], n: u16) -> bool
 // 25: the last step is on the last row, in a final state.
 pub(crate) fn ends(set: &[u8], rows: &[u16], run: &[u16], n: u16) -> bool
     requires { Ready set.now rows.now run.now n }
-    ensures { result ≡ ends? (decode set.now) (decodeRows rows.now) (decodeSteps run.now) }
+    ensures { result ≡ ends? (decode set.now) (decode_rows rows.now) (decode_steps run.now) }
 {
     let last = Step(n - 1);
     let on = row(run, last);
@@ -124,7 +124,7 @@ pub(crate) fn ends(set: &[u8], rows: &[u16], run: &[u16], n: u16) -> bool
 
 // Marks each of the places of step j, up to the first unused one, that is lower than j.
 fn mark(marks: &mut [bool], j: Step, places: [Step; PLACES])
-    ensures { Marked j.0 (used (stepNumbers places)) marks.old marks.new }
+    ensures { Marked j.0 (used (step_numbers places)) marks.old marks.new }
 {
     let mut k = 0;
     while k < PLACES {
@@ -141,8 +141,8 @@ fn mark(marks: &mut [bool], j: Step, places: [Step; PLACES])
 
 // 26: one pass marks what every step uses, then every step but the last must be marked.
 pub(crate) fn all_used(run: &[u16], n: u16) -> bool
-    requires { Counted (decodeSteps run.now) n }
-    ensures { result ≡ all_below (length (decodeSteps run.now) - 1) (used? (decodeSteps run.now)) }
+    requires { Counted (decode_steps run.now) n }
+    ensures { result ≡ all_below (length (decode_steps run.now) - 1) (used? (decode_steps run.now)) }
 {
     let mut marks = [false; MAX_STEPS as usize];
     let mut j = 0;

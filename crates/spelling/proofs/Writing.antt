@@ -5,175 +5,175 @@ use Prim.Native.Nat.{ℕ, zero, suc, ◌+◌, ◌-◌, ◌*◌, ◌<◌, ◌≤�
 use native.Mathlib.Omega.{arith}
 use borrow.Author.Tests.{le-leb, lt-leb}
 use lib.ListN.{length}
-use Rattle.model.specs.Limits.{maxSymbols}
-use Rattle.model.specs.Refusal.{andAfter, Answer, gives, refuses, unless, answerMap}
+use Rattle.model.specs.Limits.{max_symbols}
+use Rattle.model.specs.Refusal.{and_after, Answer, gives, refuses, unless, answer_map}
 use Rattle.model.specs.Tree.{Tree, Forest, node, fnil, fcons}
 use Rattle.model.specs.Automaton.{Automaton}
-use Rattle.model.specs.Table.{treeAt, tree_of, SoundTable}
+use Rattle.model.specs.Table.{tree_at, tree_of, SoundTable}
 use Rattle.model.specs.Fit.{FitTree, FitForest}
 use Rattle.model.proofs.Space.{put_front}
-use Rattle.model.proofs.BuiltTable.{fit-tree}
+use Rattle.model.proofs.BuiltTable.{fit_tree}
 use Rattle.automaton.specs.declared.Checked.{Checked}
 use Rattle.automaton.specs.declared.Checked.TheVariants.{Passed, Refused as Stopped}
 use Rattle.automaton.specs.Stored.{decode}
-use Rattle.automaton.specs.Check.{checkOf}
-use Rattle.automaton.specs.Answer.{checkAnswer}
-use Rattle.automaton.proofs.Sound.{sound-decode}
-use Rattle.automaton.proofs.Verdict.{checkedOf, answer-is, passed-zero}
+use Rattle.automaton.specs.Check.{check_of}
+use Rattle.automaton.specs.Answer.{check_answer}
+use Rattle.automaton.proofs.Sound.{sound_decode}
+use Rattle.automaton.proofs.Verdict.{checked_of, answer_is, passed_zero}
 use Rattle.names.specs.declared.NamesChecked.{NamesChecked}
 use Rattle.names.specs.declared.NamesChecked.TheVariants.{Distinct, Refused as Unfit}
-use Rattle.names.specs.Names.{shownName}
-use Rattle.names.specs.Table.{nameIn, cellBytes, table_of}
-use Rattle.names.specs.Check.{namesCheckOf, namesAnswer}
-use Rattle.names.proofs.Checked.{names_of, answer-is as names-is, distinct-zero}
-use Rattle.names.proofs.Shown.{table-shows}
-use Rattle.document.specs.Rows.{decodeRows}
-use Rattle.document.specs.Check.{rowCount, tableCheckOf, documentCheckOf}
-use Rattle.document.proofs.Places.{rows-length}
-use Rattle.document.proofs.Sound.{sound-document}
+use Rattle.names.specs.Names.{shown_name}
+use Rattle.names.specs.Table.{name_in, cell_bytes, table_of}
+use Rattle.names.specs.Check.{names_check_of, names_answer}
+use Rattle.names.proofs.Checked.{names_of, answer_is as names-is, distinct_zero}
+use Rattle.names.proofs.Shown.{table_shows}
+use Rattle.document.specs.Rows.{decode_rows}
+use Rattle.document.specs.Check.{row_count, table_check_of, document_check_of}
+use Rattle.document.proofs.Places.{rows_length}
+use Rattle.document.proofs.Sound.{sound_document}
 use Rattle.spelling.specs.declared.lengths.Length.{Length}
 use Rattle.spelling.specs.declared.lengths.Length.TheVariants.{Fits, Over}
 use Rattle.spelling.specs.declared.TermWritten.{TermWritten}
 use Rattle.spelling.specs.declared.TermWritten.TheVariants.{Bytes, Refused}
-use Rattle.spelling.specs.Text.{scalarText, termText, behindText, restText}
-use Rattle.spelling.specs.Rows.{SoundCells, rowText, within}
+use Rattle.spelling.specs.Text.{scalar_text, term_text, behind_text, rest_text}
+use Rattle.spelling.specs.Rows.{SoundCells, row_text, within}
 use Rattle.spelling.specs.Parts.{Wrote}
-use Rattle.spelling.specs.Write.{fitted, unlessRefused, tableText, writeOf, writeAnswer, spaceAfter, Answers}
-use Rattle.spelling.proofs.Texts.{some-rows}
-use Rattle.spelling.proofs.Summing.{is-over, is-fits}
+use Rattle.spelling.specs.Write.{fitted, unless_refused, table_text, write_of, write_answer, space_after, Answers}
+use Rattle.spelling.proofs.Texts.{some_rows}
+use Rattle.spelling.proofs.Summing.{is_over, is_fits}
 
 -- the length decides
 module _ (space : ℕ) (text : List ℕ) (r : Length) (e : r ≡ within space (length text)) where
   pub too_long : r ≡ Over → (before : List ℕ) → Answers (fitted space text) (Refused 68) before before
   unfolding fitted
-  too_long o before = let l = is-over space (length text) r e o in rw (lt-leb _ _ l) (record { answer = refl; space = refl })
+  too_long o before = let l = is_over space (length text) r e o in rw (lt-leb _ _ l) (record { answer = refl; space = refl })
 
-  short-enough : (m : ℕ) → r ≡ Fits m → length text ≤ space
-  short-enough m f = (is-fits space (length text) r m e f).1
+  short_enough : (m : ℕ) → r ≡ Fits m → length text ≤ space
+  short_enough m f = (is_fits space (length text) r m e f).1
 
-  all-written : (m : ℕ) → r ≡ Fits m → (before after : List ℕ) (n : ℕ) → space ≡ length before → Wrote before 0 text after n → Answers (fitted space text) (Bytes n) before after
+  all_written : (m : ℕ) → r ≡ Fits m → (before after : List ℕ) (n : ℕ) → space ≡ length before → Wrote before 0 text after n → Answers (fitted space text) (Bytes n) before after
   unfolding fitted
-  all-written m f before after n q w =
-      let l = short-enough m f in
+  all_written m f before after n q w =
+      let l = short_enough m f in
       let z : n ≡ length text = omega (arith, w.place) in
       rw (le-leb _ _ l) (record { answer = ap gives z; space = w.is ∙ put_front before text (omega arith) })
 
 -- the last row, by the number of rows
-module _ (cells : List ℕ) (s : SoundCells cells) (n : ℕ) (e : n ≡ rowCount cells) where
-  pub last-inside : n - 1 < rowCount cells
-  last-inside = omega (arith, some-rows cells s)
+module _ (cells : List ℕ) (s : SoundCells cells) (n : ℕ) (e : n ≡ row_count cells) where
+  pub last_inside : n - 1 < row_count cells
+  last_inside = omega (arith, some_rows cells s)
 
-  module _ (name : ℕ → List ℕ) (before : List ℕ) (r : Length) (m : ℕ) (is : r ≡ within (length before) (length (rowText name cells (rowCount cells - 1)))) (fits : r ≡ Fits m) where
-    pub last_fits : 0 + length (rowText name cells (n - 1)) ≤ length before
-    last_fits = let l = short-enough (length before) (rowText name cells (rowCount cells - 1)) r is m fits in let q = ap (λ k. length (rowText name cells (k - 1))) e in omega arith
+  module _ (name : ℕ → List ℕ) (before : List ℕ) (r : Length) (m : ℕ) (is : r ≡ within (length before) (length (row_text name cells (row_count cells - 1)))) (fits : r ≡ Fits m) where
+    pub last_fits : 0 + length (row_text name cells (n - 1)) ≤ length before
+    last_fits = let l = short_enough (length before) (row_text name cells (row_count cells - 1)) r is m fits in let q = ap (λ k. length (row_text name cells (k - 1))) e in omega arith
 
-    pub last_written : (after : List ℕ) (k : ℕ) → Wrote before 0 (rowText name cells (n - 1)) after k → Answers (fitted (length before) (rowText name cells (rowCount cells - 1))) (Bytes k) before after
+    pub last_written : (after : List ℕ) (k : ℕ) → Wrote before 0 (row_text name cells (n - 1)) after k → Answers (fitted (length before) (row_text name cells (row_count cells - 1))) (Bytes k) before after
     last_written after k w =
-        all-written (length before) (rowText name cells (rowCount cells - 1)) r is m fits before after k refl
-        (subst (λ x. Wrote before 0 (rowText name cells (x - 1)) after k) e w)
+        all_written (length before) (row_text name cells (row_count cells - 1)) r is m fits before after k refl
+        (subst (λ x. Wrote before 0 (row_text name cells (x - 1)) after k) e w)
 
 -- symbols that are shown alike by two tables of names make the same text
 module _ (A : Automaton) (f g : ℕ → List ℕ) (same : (s : ℕ) → s < length A.arities → f s ≡ g s) where
   mutual
-    unfolding FitTree termText
+    unfolding FitTree term_text
 
-    term-same : (t : Tree) → FitTree A t → termText f t ≡ termText g t
-    term-same (node s k p ts) h = ap (λ l. l ++ behindText f (scalarText k p) ts) (same s h.0.known) ∙ ap (λ l. g s ++ l) (behind-same (scalarText k p) ts h.1)
+    term_same : (t : Tree) → FitTree A t → term_text f t ≡ term_text g t
+    term_same (node s k p ts) h = ap (λ l. l ++ behind_text f (scalar_text k p) ts) (same s h.0.known) ∙ ap (λ l. g s ++ l) (behind_same (scalar_text k p) ts h.1)
 
-    behind-same : (x : List ℕ) (ts : Forest) → FitForest A ts → behindText f x ts ≡ behindText g x ts
-    behind-same x fnil h = refl
-    behind-same x (fcons t ts) h = λ i. 40 ∷ term-same t h.0 i ++ rest-same ts h.1 i
+    behind_same : (x : List ℕ) (ts : Forest) → FitForest A ts → behind_text f x ts ≡ behind_text g x ts
+    behind_same x fnil h = refl
+    behind_same x (fcons t ts) h = λ i. 40 ∷ term_same t h.0 i ++ rest_same ts h.1 i
 
-    rest-same : (ts : Forest) → FitForest A ts → restText f ts ≡ restText g ts
-    rest-same fnil h = refl
-    rest-same (fcons t ts) h = λ i. 44 ∷ term-same t h.0 i ++ rest-same ts h.1 i
+    rest_same : (ts : Forest) → FitForest A ts → rest_text f ts ≡ rest_text g ts
+    rest_same fnil h = refl
+    rest_same (fcons t ts) h = λ i. 44 ∷ term_same t h.0 i ++ rest_same ts h.1 i
 
 -- a number that is refused, and one that is not
-stops : (a : Checked) (n m : ℕ) (w : Answer (List ℕ)) → checkAnswer a ≡ unless n tt → a ≡ Stopped m → unlessRefused n w ≡ refuses m
-stops a n m w e h = go n (answer-is a n e)
+stops : (a : Checked) (n m : ℕ) (w : Answer (List ℕ)) → check_answer a ≡ unless n tt → a ≡ Stopped m → unless_refused n w ≡ refuses m
+stops a n m w e h = go n (answer_is a n e)
   where
-    go : (k : ℕ) → a ≡ checkedOf k → unlessRefused k w ≡ refuses m
+    go : (k : ℕ) → a ≡ checked_of k → unless_refused k w ≡ refuses m
     go zero f = let z : ◌≡◌ {A = ℕ} 0 1 = cc in absurd (omega arith)
     go (suc k) f = cc
 
-names-stop : (a : NamesChecked) (n m : ℕ) (w : Answer (List ℕ)) → namesAnswer a ≡ unless n tt → a ≡ Unfit m → unlessRefused n w ≡ refuses m
-names-stop a n m w e h = go n (names-is a n e)
+names_stop : (a : NamesChecked) (n m : ℕ) (w : Answer (List ℕ)) → names_answer a ≡ unless n tt → a ≡ Unfit m → unless_refused n w ≡ refuses m
+names_stop a n m w e h = go n (names-is a n e)
   where
-    go : (k : ℕ) → a ≡ names_of k → unlessRefused k w ≡ refuses m
+    go : (k : ℕ) → a ≡ names_of k → unless_refused k w ≡ refuses m
     go zero f = let z : ◌≡◌ {A = ℕ} 0 1 = cc in absurd (omega arith)
     go (suc k) f = cc
 
-goes_on : (n : ℕ) (w : Answer (List ℕ)) → n ≡ 0 → unlessRefused n w ≡ w
+goes_on : (n : ℕ) (w : Answer (List ℕ)) → n ≡ 0 → unless_refused n w ≡ w
 goes_on n w e = rw e
 
 -- an answer by what is to be written
-pub answers : (w v : Answer (List ℕ)) (r : TermWritten) (before after : List ℕ) → w ≡ v → Answers v r before after → (writeAnswer r ≡ answerMap length w) × (after ≡ spaceAfter w before)
-answers w v r before after e h = (h.answer ∙ ap (answerMap length) (sym e), h.space ∙ ap (λ x. spaceAfter x before) (sym e))
+pub answers : (w v : Answer (List ℕ)) (r : TermWritten) (before after : List ℕ) → w ≡ v → Answers v r before after → (write_answer r ≡ answer_map length w) × (after ≡ space_after w before)
+answers w v r before after e h = (h.answer ∙ ap (answer_map length) (sym e), h.space ∙ ap (λ x. space_after x before) (sym e))
 
-pub refused-answers : (w : Answer (List ℕ)) (n : ℕ) (before : List ℕ) → w ≡ refuses n → (writeAnswer (Refused n) ≡ answerMap length w) × (before ≡ spaceAfter w before)
-refused-answers w n before e = answers w (refuses n) (Refused n) before before e (record { answer = refl; space = refl })
+pub refused_answers : (w : Answer (List ℕ)) (n : ℕ) (before : List ℕ) → w ≡ refuses n → (write_answer (Refused n) ≡ answer_map length w) × (before ≡ space_after w before)
+refused_answers w n before e = answers w (refuses n) (Refused n) before before e (record { answer = refl; space = refl })
 
-module _ (set site builtIn cells : List ℕ) (space : ℕ) (a : Checked) (ea : checkAnswer a ≡ unless (checkOf set) tt) where
-  abbrev tableOn : Answer (List ℕ)
-  tableOn = unlessRefused (tableCheckOf (decode set) cells) (fitted space (tableText site builtIn cells))
+module _ (set site built_in cells : List ℕ) (space : ℕ) (a : Checked) (ea : check_answer a ≡ unless (check_of set) tt) where
+  abbrev table_on : Answer (List ℕ)
+  table_on = unless_refused (table_check_of (decode set) cells) (fitted space (table_text site built_in cells))
 
-  abbrev namesOn : Answer (List ℕ)
-  namesOn = unlessRefused (namesCheckOf (length (decode set).arities) site builtIn) tableOn
+  abbrev names_on : Answer (List ℕ)
+  names_on = unless_refused (names_check_of (length (decode set).arities) site built_in) table_on
 
-  pub set-refused : (n : ℕ) → a ≡ Stopped n → writeOf set site builtIn cells space ≡ refuses n
-  unfolding writeOf
-  set-refused n h = stops a (checkOf set) n namesOn ea h
+  pub set_refused : (n : ℕ) → a ≡ Stopped n → write_of set site built_in cells space ≡ refuses n
+  unfolding write_of
+  set_refused n h = stops a (check_of set) n names_on ea h
 
-  module _ (pa : a ≡ Passed) (symbols : ℕ) (es : symbols ≡ length (decode set).arities) (b : NamesChecked) (eb : namesAnswer b ≡ unless (namesCheckOf symbols site builtIn) tt) where
-    set-passed : checkOf set ≡ 0
-    set-passed = passed-zero a (checkOf set) ea pa
+  module _ (pa : a ≡ Passed) (symbols : ℕ) (es : symbols ≡ length (decode set).arities) (b : NamesChecked) (eb : names_answer b ≡ unless (names_check_of symbols site built_in) tt) where
+    set_passed : check_of set ≡ 0
+    set_passed = passed_zero a (check_of set) ea pa
 
-    by_names : namesAnswer b ≡ unless (namesCheckOf (length (decode set).arities) site builtIn) tt
-    by_names = eb ∙ ap (λ n. unless (namesCheckOf n site builtIn) tt) es
+    by_names : names_answer b ≡ unless (names_check_of (length (decode set).arities) site built_in) tt
+    by_names = eb ∙ ap (λ n. unless (names_check_of n site built_in) tt) es
 
-    on-names : writeOf set site builtIn cells space ≡ namesOn
-    unfolding writeOf
-    on-names = goes_on (checkOf set) namesOn set-passed
+    on_names : write_of set site built_in cells space ≡ names_on
+    unfolding write_of
+    on_names = goes_on (check_of set) names_on set_passed
 
-    pub names-refused : (n : ℕ) → b ≡ Unfit n → writeOf set site builtIn cells space ≡ refuses n
-    names-refused n h = on-names ∙ names-stop b (namesCheckOf (length (decode set).arities) site builtIn) n tableOn by_names h
+    pub names_refused : (n : ℕ) → b ≡ Unfit n → write_of set site built_in cells space ≡ refuses n
+    names_refused n h = on_names ∙ names_stop b (names_check_of (length (decode set).arities) site built_in) n table_on by_names h
 
-    module _ (pb : b ≡ Distinct) (d : Checked) (ed : checkAnswer d ≡ unless (documentCheckOf set cells) tt) where
-      names-passed : namesCheckOf (length (decode set).arities) site builtIn ≡ 0
-      names-passed = distinct-zero b (namesCheckOf (length (decode set).arities) site builtIn) by_names pb
+    module _ (pb : b ≡ Distinct) (d : Checked) (ed : check_answer d ≡ unless (document_check_of set cells) tt) where
+      names_passed : names_check_of (length (decode set).arities) site built_in ≡ 0
+      names_passed = distinct_zero b (names_check_of (length (decode set).arities) site built_in) by_names pb
 
-      on-table : writeOf set site builtIn cells space ≡ tableOn
-      on-table = on-names ∙ goes_on (namesCheckOf (length (decode set).arities) site builtIn) tableOn names-passed
+      on_table : write_of set site built_in cells space ≡ table_on
+      on_table = on_names ∙ goes_on (names_check_of (length (decode set).arities) site built_in) table_on names_passed
 
-      by-table : checkAnswer d ≡ unless (tableCheckOf (decode set) cells) tt
-      unfolding andAfter
-      by-table = ed ∙ ap (λ n. unless (andAfter n (tableCheckOf (decode set) cells)) tt) set-passed
+      by_table : check_answer d ≡ unless (table_check_of (decode set) cells) tt
+      unfolding and_after
+      by_table = ed ∙ ap (λ n. unless (and_after n (table_check_of (decode set) cells)) tt) set_passed
 
-      pub table-refused : (n : ℕ) → d ≡ Stopped n → writeOf set site builtIn cells space ≡ refuses n
-      table-refused n h = on-table ∙ stops d (tableCheckOf (decode set) cells) n (fitted space (tableText site builtIn cells)) by-table h
+      pub table_refused : (n : ℕ) → d ≡ Stopped n → write_of set site built_in cells space ≡ refuses n
+      table_refused n h = on_table ∙ stops d (table_check_of (decode set) cells) n (fitted space (table_text site built_in cells)) by_table h
 
       module _ (pd : d ≡ Passed) where
-        table-sound : SoundTable (decode set) (decodeRows cells)
-        table-sound = (sound-document set cells (passed-zero d (documentCheckOf set cells) ed pd)).1
+        table_sound : SoundTable (decode set) (decode_rows cells)
+        table_sound = (sound_document set cells (passed_zero d (document_check_of set cells) ed pd)).1
 
         pub sound : SoundCells cells
-        sound = record { set = decode set; table = table-sound }
+        sound = record { set = decode set; table = table_sound }
 
-        on-text : writeOf set site builtIn cells space ≡ fitted space (tableText site builtIn cells)
-        on-text = on-table ∙ goes_on (tableCheckOf (decode set) cells) (fitted space (tableText site builtIn cells)) (passed-zero d (tableCheckOf (decode set) cells) by-table pd)
+        on_text : write_of set site built_in cells space ≡ fitted space (table_text site built_in cells)
+        on_text = on_table ∙ goes_on (table_check_of (decode set) cells) (fitted space (table_text site built_in cells)) (passed_zero d (table_check_of (decode set) cells) by_table pd)
 
         -- the last row's text by a filled table is that of the tree by the names shown
-        as-shown : (zeros : List ℕ) → maxSymbols * cellBytes ≤ length zeros → rowText (nameIn (table_of site builtIn zeros)) cells (rowCount cells - 1) ≡ tableText site builtIn cells
-        unfolding rowText
-        as-shown zeros room =
-            ap (λ k. termText (nameIn (table_of site builtIn zeros)) (treeAt (decodeRows cells) (k - 1))) (sym (rows-length cells))
-            ∙ term-same (decode set) (nameIn (table_of site builtIn zeros)) (shownName site builtIn)
-            (table-shows (length (decode set).arities) site builtIn names-passed (sound-decode set set-passed).few-symbols zeros room)
-            (tree_of (decodeRows cells)) (fit-tree (decode set) (decodeRows cells) table-sound)
+        as_shown : (zeros : List ℕ) → max_symbols * cell_bytes ≤ length zeros → row_text (name_in (table_of site built_in zeros)) cells (row_count cells - 1) ≡ table_text site built_in cells
+        unfolding row_text
+        as_shown zeros room =
+            ap (λ k. term_text (name_in (table_of site built_in zeros)) (tree_at (decode_rows cells) (k - 1))) (sym (rows_length cells))
+            ∙ term_same (decode set) (name_in (table_of site built_in zeros)) (shown_name site built_in)
+            (table_shows (length (decode set).arities) site built_in names_passed (sound_decode set set_passed).few_symbols zeros room)
+            (tree_of (decode_rows cells)) (fit_tree (decode set) (decode_rows cells) table_sound)
 
-        pub text-answers : (zeros table : List ℕ) (r : TermWritten) (before after : List ℕ) → maxSymbols * cellBytes ≤ length zeros → table ≡ table_of site builtIn zeros
-            → Answers (fitted space (rowText (nameIn table) cells (rowCount cells - 1))) r before after
-            → (writeAnswer r ≡ answerMap length (writeOf set site builtIn cells space)) × (after ≡ spaceAfter (writeOf set site builtIn cells space) before)
-        text-answers zeros table r before after room e h =
-            answers (writeOf set site builtIn cells space) (fitted space (rowText (nameIn table) cells (rowCount cells - 1))) r before after
-            (on-text ∙ ap (fitted space) (sym (as-shown zeros room)) ∙ ap (λ t. fitted space (rowText (nameIn t) cells (rowCount cells - 1))) (sym e)) h
+        pub text_answers : (zeros table : List ℕ) (r : TermWritten) (before after : List ℕ) → max_symbols * cell_bytes ≤ length zeros → table ≡ table_of site built_in zeros
+            → Answers (fitted space (row_text (name_in table) cells (row_count cells - 1))) r before after
+            → (write_answer r ≡ answer_map length (write_of set site built_in cells space)) × (after ≡ space_after (write_of set site built_in cells space) before)
+        text_answers zeros table r before after room e h =
+            answers (write_of set site built_in cells space) (fitted space (row_text (name_in table) cells (row_count cells - 1))) r before after
+            (on_text ∙ ap (fitted space) (sym (as_shown zeros room)) ∙ ap (λ t. fitted space (row_text (name_in t) cells (row_count cells - 1))) (sym e)) h

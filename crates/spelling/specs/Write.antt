@@ -1,14 +1,14 @@
 -- Writing a table as text against a stored set and two name lists. Assumes nothing.
 use Rattle.std.specs.Prelude.{◌≡◌, List, ◌++◌, cond, ℕ, zero, suc, leb, length, drop}
-use Rattle.model.specs.Refusal.{Answer, gives, refuses, answerMap}
+use Rattle.model.specs.Refusal.{Answer, gives, refuses, answer_map}
 use Rattle.model.specs.Table.{tree_of}
 use Rattle.automaton.specs.Stored.{decode}
-use Rattle.automaton.specs.Check.{checkOf}
-use Rattle.names.specs.Names.{shownName}
-use Rattle.names.specs.Check.{namesCheckOf}
-use Rattle.document.specs.Rows.{decodeRows}
-use Rattle.document.specs.Check.{tableCheckOf}
-use Rattle.spelling.specs.Text.{termText}
+use Rattle.automaton.specs.Check.{check_of}
+use Rattle.names.specs.Names.{shown_name}
+use Rattle.names.specs.Check.{names_check_of}
+use Rattle.document.specs.Rows.{decode_rows}
+use Rattle.document.specs.Check.{table_check_of}
+use Rattle.spelling.specs.Text.{term_text}
 use Rattle.spelling.specs.declared.TermWritten.{TermWritten}
 use Rattle.spelling.specs.declared.TermWritten.TheVariants.{Bytes, Refused}
 
@@ -17,32 +17,32 @@ unfoldable pub fitted : ℕ → List ℕ → Answer (List ℕ)
 fitted space text = cond (leb (length text) space) (gives text) (refuses 68)
 
 -- the number of an earlier place, or what follows
-abbrev pub unlessRefused : ℕ → Answer (List ℕ) → Answer (List ℕ)
-unlessRefused zero w = w
-unlessRefused (suc n) w = refuses (suc n)
+abbrev pub unless_refused : ℕ → Answer (List ℕ) → Answer (List ℕ)
+unless_refused zero w = w
+unless_refused (suc n) w = refuses (suc n)
 
 -- the text of a table's tree, by the names shown
-abbrev pub tableText : List ℕ → List ℕ → List ℕ → List ℕ
-tableText site builtIn cells = termText (shownName site builtIn) (tree_of (decodeRows cells))
+abbrev pub table_text : List ℕ → List ℕ → List ℕ → List ℕ
+table_text site built_in cells = term_text (shown_name site built_in) (tree_of (decode_rows cells))
 
 -- The text of a table, or the number that refuses it: the set, the names, the table, the space.
-unfoldable pub writeOf : List ℕ → List ℕ → List ℕ → List ℕ → ℕ → Answer (List ℕ)
-writeOf set site builtIn cells space =
-    unlessRefused (checkOf set)
-    (unlessRefused (namesCheckOf (length (decode set).arities) site builtIn)
-    (unlessRefused (tableCheckOf (decode set) cells) (fitted space (tableText site builtIn cells))))
+unfoldable pub write_of : List ℕ → List ℕ → List ℕ → List ℕ → ℕ → Answer (List ℕ)
+write_of set site built_in cells space =
+    unless_refused (check_of set)
+    (unless_refused (names_check_of (length (decode set).arities) site built_in)
+    (unless_refused (table_check_of (decode set) cells) (fitted space (table_text site built_in cells))))
 
 -- what writing answers: a number of bytes, or a refusal by its number
-abbrev pub writeAnswer : TermWritten → Answer ℕ
-writeAnswer (Bytes n) = gives n
-writeAnswer (Refused n) = refuses n
+abbrev pub write_answer : TermWritten → Answer ℕ
+write_answer (Bytes n) = gives n
+write_answer (Refused n) = refuses n
 
 -- what lies in the lent space afterwards: the text goes to its front, a refusal writes nothing
-abbrev pub spaceAfter : Answer (List ℕ) → List ℕ → List ℕ
-spaceAfter (gives text) space = text ++ drop (length text) space
-spaceAfter (refuses n) space = space
+abbrev pub space_after : Answer (List ℕ) → List ℕ → List ℕ
+space_after (gives text) space = text ++ drop (length text) space
+space_after (refuses n) space = space
 
 -- an answer, and the space after it
 pub record Answers (w : Answer (List ℕ)) (r : TermWritten) (before after : List ℕ) : Type 0 where
-  pub answer : writeAnswer r ≡ answerMap length w
-  pub space : after ≡ spaceAfter w before
+  pub answer : write_answer r ≡ answer_map length w
+  pub space : after ≡ space_after w before

@@ -1,10 +1,10 @@
 // How long a table's text is: each row's length once, from those of its children, which are lower.
 ghost use Rattle.std.specs.Prelude.{◌≡◌, ◌+◌, ◌-◌, ◌<◌, T, length, get_or};
 ghost use Rattle.model.specs.Table.{scalar?};
-ghost use Rattle.names.specs.Table.{nameIn};
+ghost use Rattle.names.specs.Table.{name_in};
 ghost use Rattle.document.specs.Rows.{row_in};
-ghost use Rattle.document.specs.Check.{rowCount};
-ghost use Rattle.spelling.specs.Rows.{SoundCells, rowText, listLength, rowLength, within};
+ghost use Rattle.document.specs.Check.{row_count};
+ghost use Rattle.spelling.specs.Rows.{SoundCells, row_text, list_length, row_length, within};
 
 use crate::piece::{PIECE, scalar_at};
 use base::limits::{MAX_ROWS, UNUSED};
@@ -47,7 +47,7 @@ fn length_at(lengths: &[usize], i: Row) -> usize
 
 // The children of row i in brackets, after so many bytes.
 fn list_length(rows: &[u16], lengths: &[usize], i: Row, first: usize, space: usize) -> Length
-    ensures { result ≡ within space (first + listLength lengths.now (row_in rows.now i.0).children) }
+    ensures { result ≡ within space (first + list_length lengths.now (row_in rows.now i.0).children) }
 {
     let mut n = first;
     let mut k = 0;
@@ -67,7 +67,7 @@ fn list_length(rows: &[u16], lengths: &[usize], i: Row, first: usize, space: usi
 // Row i: its name, then its scalar or its children.
 fn row_length(rows: &[u16], names: &[u8], lengths: &[usize], i: Row, space: usize) -> Length
     requires { T (scalar? (row_in rows.now i.0).kind (row_in rows.now i.0).payload) }
-    ensures { result ≡ within space (rowLength (nameIn names.now) lengths.now rows.now i.0) }
+    ensures { result ≡ within space (row_length (name_in names.now) lengths.now rows.now i.0) }
 {
     let n = shown_length(names, symbol(rows, i));
     let c = place(rows, i, 0);
@@ -81,7 +81,7 @@ fn row_length(rows: &[u16], names: &[u8], lengths: &[usize], i: Row, space: usiz
 // The last row's text. A row that is longer than the space makes the last one so too, since each other row is part of it.
 pub(crate) fn text_length(rows: &[u16], names: &[u8], space: usize) -> Length
     requires { SoundCells rows.now }
-    ensures { result ≡ within space (length (rowText (nameIn names.now) rows.now (rowCount rows.now - 1))) }
+    ensures { result ≡ within space (length (row_text (name_in names.now) rows.now (row_count rows.now - 1))) }
 {
     let mut lengths = [0usize; ROWS];
     let n = count(rows);

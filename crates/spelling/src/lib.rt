@@ -5,11 +5,11 @@ mod piece; // piece.rt: the text of a scalar
 mod writer; // writer.rt: terms and argument lists
 
 ghost use Rattle.std.specs.Prelude.{◌≡◌, ◌-◌, length};
-ghost use Rattle.model.specs.Refusal.{answerMap};
-ghost use Rattle.names.specs.Table.{nameIn};
-ghost use Rattle.document.specs.Check.{rowCount};
-ghost use Rattle.spelling.specs.Rows.{SoundCells, rowText};
-ghost use Rattle.spelling.specs.Write.{fitted, writeOf, writeAnswer, spaceAfter, Answers};
+ghost use Rattle.model.specs.Refusal.{answer_map};
+ghost use Rattle.names.specs.Table.{name_in};
+ghost use Rattle.document.specs.Check.{row_count};
+ghost use Rattle.spelling.specs.Rows.{SoundCells, row_text};
+ghost use Rattle.spelling.specs.Write.{fitted, write_of, write_answer, space_after, Answers};
 
 use automaton::{Checked, header};
 use document::rows::{Row, count};
@@ -28,7 +28,7 @@ pub enum TermWritten {
 // The text of a sound table by the names of a filled table. The length is known before the first byte is written.
 fn write_text(rows: &[u16], names: &[u8], text: &mut [u8]) -> TermWritten
     requires { SoundCells rows.now }
-    ensures { Answers (fitted (length text.old) (rowText (nameIn names.now) rows.now (rowCount rows.now - 1))) result text.old text.new }
+    ensures { Answers (fitted (length text.old) (row_text (name_in names.now) rows.now (row_count rows.now - 1))) result text.old text.new }
 {
     match text_length(rows, names, text.len()) {
         Length::Over => TermWritten::Refused(68),
@@ -47,8 +47,8 @@ pub fn write<'a>(
     rows: &[u16],
     text: &mut [u8],
 ) -> TermWritten
-    ensures answer { writeAnswer result ≡ answerMap length (writeOf set.now site.now built_in.now rows.now (length text.old)) }
-    ensures space { text.new ≡ spaceAfter (writeOf set.now site.now built_in.now rows.now (length text.old)) text.old }
+    ensures answer { write_answer result ≡ answer_map length (write_of set.now site.now built_in.now rows.now (length text.old)) }
+    ensures space { text.new ≡ space_after (write_of set.now site.now built_in.now rows.now (length text.old)) text.old }
 {
     match automaton::check(set) {
         Checked::Refused(n) => TermWritten::Refused(n),

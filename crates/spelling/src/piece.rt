@@ -4,10 +4,10 @@ ghost use Rattle.model.specs.Space.{put_at};
 ghost use Rattle.model.specs.Table.{scalar?};
 ghost use Rattle.names.specs.Names.{decimal};
 ghost use Rattle.document.specs.Rows.{row_in};
-ghost use Rattle.document.specs.Scalars.{payloadOf};
+ghost use Rattle.document.specs.Scalars.{payload_of};
 ghost use Rattle.document.specs.declared.scalar.Scalar.TheVariants.{Flag};
-ghost use Rattle.spelling.specs.Text.{hexDigit, hexDigits, scalarText};
-ghost use Rattle.spelling.specs.Parts.{pieceBytes, text_of, Holds};
+ghost use Rattle.spelling.specs.Text.{hex_digit, hex_digits, scalar_text};
+ghost use Rattle.spelling.specs.Parts.{piece_bytes, text_of, Holds};
 
 use base::numbers::digit;
 use base::space::put;
@@ -36,7 +36,7 @@ fn nothing() -> Piece
 
 // A byte before a text.
 fn before(b: u8, p: Piece) -> Piece
-    requires { (0 < p.start) × (p.start ≤ pieceBytes) }
+    requires { (0 < p.start) × (p.start ≤ piece_bytes) }
     ensures { (text : List ℕ) → Holds p text → Holds result (b ∷ text) }
 {
     let mut bytes = p.bytes;
@@ -48,7 +48,7 @@ fn before(b: u8, p: Piece) -> Piece
 // The hex digit of a number below sixteen, by a sum and without a choice: the whole part of a tenth is 1 from ten on, and `a` stands 39 bytes behind the byte after `9`.
 fn hex_digit(n: u64) -> u8
     requires { n < 16 }
-    ensures { result ≡ hexDigit n }
+    ensures { result ≡ hex_digit n }
 {
     let d = n as u8;
     d + 48 + 39 * (d / 10)
@@ -69,7 +69,7 @@ pub(crate) fn decimal_of(n: u64) -> Piece
 
 // All bits of a number in hex.
 fn hex_of(n: u64) -> Piece
-    ensures { Holds result (hexDigits 16 n) }
+    ensures { Holds result (hex_digits 16 n) }
 {
     let mut rest = n;
     let mut left = HEX_DIGITS;
@@ -83,7 +83,7 @@ fn hex_of(n: u64) -> Piece
 }
 
 fn flag_of(b: bool) -> Piece
-    ensures { Holds result (scalarText 1 (payloadOf (Flag b))) }
+    ensures { Holds result (scalar_text 1 (payload_of (Flag b))) }
 {
     if b {
         return Piece {
@@ -99,7 +99,7 @@ fn flag_of(b: bool) -> Piece
 
 // The text of a scalar of a kind (0 bare, 1 flag, 2 count, 3 rate, 4 name) and a payload. A rate's bits become its digits without a choice on their values.
 fn scalar_text(kind: u16, payload: u64) -> Piece
-    ensures { Holds result (scalarText kind payload) }
+    ensures { Holds result (scalar_text kind payload) }
 {
     match kind {
         0 => nothing(),
@@ -113,14 +113,14 @@ fn scalar_text(kind: u16, payload: u64) -> Piece
 // The text of a row's scalar.
 pub(crate) fn scalar_at(rows: &[u16], i: Row) -> Piece
     requires { T (scalar? (row_in rows.now i.0).kind (row_in rows.now i.0).payload) }
-    ensures { Holds result (scalarText (row_in rows.now i.0).kind (row_in rows.now i.0).payload) }
+    ensures { Holds result (scalar_text (row_in rows.now i.0).kind (row_in rows.now i.0).payload) }
 {
     scalar_text(kind(rows, i), payload(rows, i))
 }
 
 // The text of a piece, put at a place of a space, where it fits whole; its length comes back.
 pub(crate) fn put_piece(out: &mut [u8], at: usize, p: Piece) -> usize
-    requires { p.start ≤ pieceBytes }
+    requires { p.start ≤ piece_bytes }
     ensures count { result ≡ length (text_of p) }
     ensures space { out.new ≡ put_at out.old at (text_of p) }
 {

@@ -1,11 +1,11 @@
 // Terms and argument lists: the two writers call each other, row numbers falling; siblings are a loop.
 ghost use Rattle.std.specs.Prelude.{[], ◌∷◌, ◌+◌, ◌<◌, ◌≤◌, T, length};
 ghost use Rattle.model.specs.Table.{scalar?};
-ghost use Rattle.names.specs.Table.{nameIn};
+ghost use Rattle.names.specs.Table.{name_in};
 ghost use Rattle.document.specs.Rows.{row_in};
-ghost use Rattle.document.specs.Check.{rowCount};
-ghost use Rattle.spelling.specs.Text.{scalarText};
-ghost use Rattle.spelling.specs.Rows.{SoundCells, rowText, listText};
+ghost use Rattle.document.specs.Check.{row_count};
+ghost use Rattle.spelling.specs.Text.{scalar_text};
+ghost use Rattle.spelling.specs.Rows.{SoundCells, row_text, list_text};
 ghost use Rattle.spelling.specs.Parts.{Wrote};
 
 use crate::piece::{put_piece, scalar_at};
@@ -22,8 +22,8 @@ fn byte(out: &mut [u8], at: usize, b: u8) -> usize
 }
 
 fn name(names: &[u8], s: u16, out: &mut [u8], at: usize) -> usize
-    requires { at + length (nameIn names.now s) ≤ length out.old }
-    ensures { Wrote out.old at (nameIn names.now s) out.new result }
+    requires { at + length (name_in names.now s) ≤ length out.old }
+    ensures { Wrote out.old at (name_in names.now s) out.new result }
 {
     put_name(out, at, names, s);
     at + shown_length(names, s)
@@ -32,8 +32,8 @@ fn name(names: &[u8], s: u16, out: &mut [u8], at: usize) -> usize
 // The scalar of row i.
 fn scalar(rows: &[u16], i: Row, out: &mut [u8], at: usize) -> usize
     requires known { T (scalar? (row_in rows.now i.0).kind (row_in rows.now i.0).payload) }
-    requires fits { at + length (scalarText (row_in rows.now i.0).kind (row_in rows.now i.0).payload) ≤ length out.old }
-    ensures { Wrote out.old at (scalarText (row_in rows.now i.0).kind (row_in rows.now i.0).payload) out.new result }
+    requires fits { at + length (scalar_text (row_in rows.now i.0).kind (row_in rows.now i.0).payload) ≤ length out.old }
+    ensures { Wrote out.old at (scalar_text (row_in rows.now i.0).kind (row_in rows.now i.0).payload) out.new result }
 {
     let p = scalar_at(rows, i);
     at + put_piece(out, at, p)
@@ -43,9 +43,9 @@ fn scalar(rows: &[u16], i: Row, out: &mut [u8], at: usize) -> usize
 #[cycle(arguments_term)]
 pub(crate) fn term(rows: &[u16], names: &[u8], i: Row, out: &mut [u8], at: usize) -> usize
     requires sound { SoundCells rows.now }
-    requires inside { i.0 < rowCount rows.now }
-    requires fits { at + length (rowText (nameIn names.now) rows.now i.0) ≤ length out.old }
-    ensures { Wrote out.old at (rowText (nameIn names.now) rows.now i.0) out.new result }
+    requires inside { i.0 < row_count rows.now }
+    requires fits { at + length (row_text (name_in names.now) rows.now i.0) ≤ length out.old }
+    ensures { Wrote out.old at (row_text (name_in names.now) rows.now i.0) out.new result }
 {
     let p = name(names, symbol(rows, i), out, at);
     let c = place(rows, i, 0);
@@ -59,9 +59,9 @@ pub(crate) fn term(rows: &[u16], names: &[u8], i: Row, out: &mut [u8], at: usize
 #[cycle(arguments_term)]
 fn arguments(rows: &[u16], names: &[u8], i: Row, out: &mut [u8], at: usize) -> usize
     requires sound { SoundCells rows.now }
-    requires inside { i.0 < rowCount rows.now }
-    requires fits { at + length (listText (rowText (nameIn names.now) rows.now) 40 (row_in rows.now i.0).children) ≤ length out.old }
-    ensures { Wrote out.old at (listText (rowText (nameIn names.now) rows.now) 40 (row_in rows.now i.0).children) out.new result }
+    requires inside { i.0 < row_count rows.now }
+    requires fits { at + length (list_text (row_text (name_in names.now) rows.now) 40 (row_in rows.now i.0).children) ≤ length out.old }
+    ensures { Wrote out.old at (list_text (row_text (name_in names.now) rows.now) 40 (row_in rows.now i.0).children) out.new result }
 {
     let mut p = at;
     let mut lead = b'(';

@@ -4,7 +4,7 @@ use Prim.Native.Nat.{ℕ, zero, suc, ◌+◌}
 use lib.IntN.{ℤ, pos, negsuc}
 use Rattle.stream.specs.declared.Heard.{Heard}
 use Rattle.stream.specs.declared.Heard.TheVariants.{Now, Ended, Broken}
-use Rattle.stream.specs.Reading.{afterRead}
+use Rattle.stream.specs.Reading.{after_read}
 
 abbrev IsNow : Heard → Type 0
 IsNow (Now n) = Unit
@@ -27,17 +27,17 @@ bytes_of Ended = 0
 bytes_of Broken = 0
 
 -- a failed read is never the end
-pub ended-only : (done : ℕ) (z : ℤ) → afterRead done z ≡ Ended → z ≡ pos 0
-ended-only done (pos zero) e = refl
-ended-only done (pos (suc k)) e = absurd (subst IsEnded (sym e) tt)
-ended-only done (negsuc k) e = absurd (subst IsEnded (sym e) tt)
+pub ended_only : (done : ℕ) (z : ℤ) → after_read done z ≡ Ended → z ≡ pos 0
+ended_only done (pos zero) e = refl
+ended_only done (pos (suc k)) e = absurd (subst IsEnded (sym e) tt)
+ended_only done (negsuc k) e = absurd (subst IsEnded (sym e) tt)
 
-pub failed-only : (done : ℕ) (z : ℤ) → afterRead done z ≡ Broken → (k : ℕ) × (z ≡ negsuc k)
-failed-only done (pos zero) e = absurd (subst IsBroken (sym e) tt)
-failed-only done (pos (suc k)) e = absurd (subst IsBroken (sym e) tt)
-failed-only done (negsuc k) e = (k, refl)
+pub failed_only : (done : ℕ) (z : ℤ) → after_read done z ≡ Broken → (k : ℕ) × (z ≡ negsuc k)
+failed_only done (pos zero) e = absurd (subst IsBroken (sym e) tt)
+failed_only done (pos (suc k)) e = absurd (subst IsBroken (sym e) tt)
+failed_only done (negsuc k) e = (k, refl)
 
-pub more-only : (done : ℕ) (z : ℤ) (n : ℕ) → afterRead done z ≡ Now n → (k : ℕ) × (z ≡ pos (suc k)) × (n ≡ done + suc k)
-more-only done (pos zero) n e = absurd (subst IsNow (sym e) tt)
-more-only done (pos (suc k)) n e = (k, refl, sym (ap bytes_of e))
-more-only done (negsuc k) n e = absurd (subst IsNow (sym e) tt)
+pub more_only : (done : ℕ) (z : ℤ) (n : ℕ) → after_read done z ≡ Now n → (k : ℕ) × (z ≡ pos (suc k)) × (n ≡ done + suc k)
+more_only done (pos zero) n e = absurd (subst IsNow (sym e) tt)
+more_only done (pos (suc k)) n e = (k, refl, sym (ap bytes_of e))
+more_only done (negsuc k) n e = absurd (subst IsNow (sym e) tt)

@@ -17,18 +17,18 @@ use borrow.Author.Tests.{ltb-false}
 use Rattle.libc.specs.Io.{Moved}
 use Rattle.stream.specs.declared.Heard.{Heard}
 use Rattle.stream.specs.declared.Heard.TheVariants.{Now, Ended, Broken}
-use Rattle.stream.specs.Reading.{afterRead, Ahead}
+use Rattle.stream.specs.Reading.{after_read, Ahead}
 
 none : {n : ℕ} → n < 0 → ⊥
 none l = omega arith
 
 -- below 0: the read failed
-pub below : (z : ℤ) (done : ℕ) → lt_z z (pos 0) ≡ true → Broken ≡ afterRead done z
+pub below : (z : ℤ) (done : ℕ) → lt_z z (pos 0) ≡ true → Broken ≡ after_read done z
 below (pos n) done e = absurd (none (ltb→lt n 0 (subst T (sym e) tt)))
 below (negsuc n) done e = refl
 
 -- above 0: as many bytes more
-pub above : (z : ℤ) (done : ℕ) → lt_z (pos 0) z ≡ true → Now (done + nat_abs z) ≡ afterRead done z
+pub above : (z : ℤ) (done : ℕ) → lt_z (pos 0) z ≡ true → Now (done + nat_abs z) ≡ after_read done z
 above (pos zero) done e = absurd (subst T (sym e) tt)
 above (pos (suc n)) done e = refl
 above (negsuc n) done e = absurd (subst T (sym e) tt)
@@ -38,7 +38,7 @@ positive (pos n) e = tt
 positive (negsuc n) e = subst T (sym e) tt
 
 -- neither: the input has ended
-pub neither : (z : ℤ) (done : ℕ) → lt_z z (pos 0) ≡ false → lt_z (pos 0) z ≡ false → Ended ≡ afterRead done z
+pub neither : (z : ℤ) (done : ℕ) → lt_z z (pos 0) ≡ false → lt_z (pos 0) z ≡ false → Ended ≡ after_read done z
 neither (pos zero) done e f = refl
 neither (pos (suc n)) done e f = absurd (none (ltb-false 0 (suc n) f))
 neither (negsuc n) done e f = absurd (subst T e tt)
@@ -49,10 +49,10 @@ moved (pos n) most t m = m
 moved (negsuc n) most t m = absurd t
 
 -- what is heard is ahead of what was there, and fits
-pub ahead : (done most : ℕ) (z : ℤ) (r : Heard) → done ≤ most → Moved (most - done) z → r ≡ afterRead done z → Ahead done most r
+pub ahead : (done most : ℕ) (z : ℤ) (r : Heard) → done ≤ most → Moved (most - done) z → r ≡ after_read done z → Ahead done most r
 ahead done most z r l m e = subst (Ahead done most) (sym e) (told z m)
   where
-    told : (z : ℤ) → Moved (most - done) z → Ahead done most (afterRead done z)
+    told : (z : ℤ) → Moved (most - done) z → Ahead done most (after_read done z)
     told (pos zero) m = tt
     told (pos (suc n)) m = omega (arith, m, l)
     told (negsuc n) m = tt

@@ -7,5 +7,5 @@ use Rattle.stream.specs.declared.Received.TheVariants.{Whole}
 use Rattle.stream.specs.Reading.{Within}
 
 -- its bytes stand at the front of the space
-pub whole-within : (r : Received) (n : ℕ) (space : List ℕ) → Within r space → r ≡ Whole n → Within (Whole n) space
-whole-within r n space w e = subst (λ (x : Received). Within x space) e w
+pub whole_within : (r : Received) (n : ℕ) (space : List ℕ) → Within r space → r ≡ Whole n → Within (Whole n) space
+whole_within r n space w e = subst (λ (x : Received). Within x space) e w

@@ -6,10 +6,10 @@ use Rattle.stream.specs.declared.Received.{Received}
 use Rattle.stream.specs.declared.Received.TheVariants.{Whole, Failed}
 
 -- POSIX: a negative answer is a failure and never the end, 0 is the end, any other is so many bytes more
-abbrev pub afterRead : ℕ → ℤ → Heard
-afterRead done (pos zero) = Ended
-afterRead done (pos (suc k)) = Now (done + suc k)
-afterRead done (negsuc k) = Broken
+abbrev pub after_read : ℕ → ℤ → Heard
+after_read done (pos zero) = Ended
+after_read done (pos (suc k)) = Now (done + suc k)
+after_read done (negsuc k) = Broken
 
 -- bytes that come are more than there were, and fit
 abbrev pub Ahead : ℕ → ℕ → Heard → Type 0

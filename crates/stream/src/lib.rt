@@ -1,7 +1,7 @@
 // A program's input, read to its end. A read that fails is told, and is never taken for the end.
 ghost use Rattle.std.specs.Prelude.{◌≡◌, ◌-◌, ◌≤◌, ◌<◌, length};
 ghost use Rattle.libc.specs.Io.{Moved};
-ghost use Rattle.stream.specs.Reading.{afterRead, Ahead, Within};
+ghost use Rattle.stream.specs.Reading.{after_read, Ahead, Within};
 
 // What one answer of `read` means: so many bytes are there now, the input has ended, or the read failed.
 #[derive(Drop)]
@@ -21,7 +21,7 @@ pub enum Received {
 // An answer of `read`, with so many bytes there before and space for no more than `most`.
 fn after(done: usize, most: usize, got: isize) -> Heard
     requires { (done ≤ most) × Moved (most - done) got }
-    ensures { result ≡ afterRead done got }
+    ensures { result ≡ after_read done got }
 {
     if got < 0 {
         return Heard::Broken;

@@ -6,65 +6,65 @@ use Prim.Native.Nat.{ℕ, zero, suc, ◌≤◌}
 use native.Mathlib.Omega.{arith}
 use lib.Dec.{eqb}
 use lib.ListN.{length}
-use Rattle.model.specs.Limits.{maxLevels}
+use Rattle.model.specs.Limits.{max_levels}
 use Rattle.model.specs.Refusal.{demand}
 use Rattle.model.specs.Table.{Row}
 use Rattle.automaton.specs.Stored.{decode}
-use Rattle.automaton.specs.Check.{checkOf}
-use Rattle.automaton.proofs.Passes.{check-most}
-use Rattle.names.specs.Check.{namesCheckOf}
+use Rattle.automaton.specs.Check.{check_of}
+use Rattle.automaton.proofs.Passes.{check_most}
+use Rattle.names.specs.Check.{names_check_of}
 use Rattle.term.specs.Grammar.{Outcome}
-use Rattle.term.specs.Read.{Reading, rowsRead, refusedAt, wholeText, readText, settingFor, unlessRefused, read_of, readingMap, readAnswer}
+use Rattle.term.specs.Read.{Reading, rows_read, refused_at, whole_text, read_text, setting_for, unless_refused, read_of, reading_map, read_answer}
 use Rattle.term.specs.declared.TermRead.{TermRead}
 use Rattle.term.specs.declared.TermRead.TheVariants.{Refused}
-use Rattle.term.proofs.Meaning.{Gives, gives, gives_none, IsTerm, term-gives}
+use Rattle.term.proofs.Meaning.{Gives, gives, gives_none, IsTerm, term_gives}
 use Rattle.term.proofs.TextTable.{known}
 
-demand-most : (t : Bool) (n rest : ℕ) → n ≤ 67 → rest ≤ 67 → demand t n rest ≤ 67
+demand_most : (t : Bool) (n rest : ℕ) → n ≤ 67 → rest ≤ 67 → demand t n rest ≤ 67
 unfolding demand
-demand-most true n rest h k = k
-demand-most false n rest h k = h
+demand_most true n rest h k = k
+demand_most false n rest h k = h
 
-set-most : (set : List ℕ) → checkOf set ≤ 67
-set-most set = let h = check-most set in omega arith
+set_most : (set : List ℕ) → check_of set ≤ 67
+set_most set = let h = check_most set in omega arith
 
-names-most : (n : ℕ) (site builtIn : List ℕ) → namesCheckOf n site builtIn ≤ 67
-unfolding namesCheckOf
-names-most n site builtIn = demand-most _ 61 _ (omega arith) (demand-most _ 62 _ (omega arith) (omega arith))
+names_most : (n : ℕ) (site built_in : List ℕ) → names_check_of n site built_in ≤ 67
+unfolding names_check_of
+names_most n site built_in = demand_most _ 61 _ (omega arith) (demand_most _ 62 _ (omega arith) (omega arith))
 
 -- a reading's refusal number, 0 for none
 abbrev number : Reading (List Row) → ℕ
-number (rowsRead rows) = 0
-number (refusedAt w p) = w
+number (rows_read rows) = 0
+number (refused_at w p) = w
 
-end-most : (P : ℕ → ℕ → List Row → Type 0) (end : ℕ) {o : Outcome ℕ} → Gives P o → number (wholeText end o) ≤ 67
-end-most P end (gives {v = j} {n = next} {rows = rows} h) = go (eqb next end)
+end_most : (P : ℕ → ℕ → List Row → Type 0) (end : ℕ) {o : Outcome ℕ} → Gives P o → number (whole_text end o) ≤ 67
+end_most P end (gives {v = j} {n = next} {rows = rows} h) = go (eqb next end)
   where
-    go : (b : Bool) → number (cond b (rowsRead rows) (refusedAt 63 next)) ≤ 67
+    go : (b : Bool) → number (cond b (rows_read rows) (refused_at 63 next)) ≤ 67
     go true = omega arith
     go false = omega arith
-end-most P end (gives_none l) = l
+end_most P end (gives_none l) = l
 
-after-most : (n : ℕ) (v : Reading (List Row)) → n ≤ 67 → number v ≤ 67 → number (unlessRefused n v) ≤ 67
-after-most zero v h k = k
-after-most (suc n) v h k = h
+after_most : (n : ℕ) (v : Reading (List Row)) → n ≤ 67 → number v ≤ 67 → number (unless_refused n v) ≤ 67
+after_most zero v h k = k
+after_most (suc n) v h k = h
 
-module _ (set site builtIn text : List ℕ) (space : ℕ) where
-  text-most : number (readText (settingFor set site builtIn space) text) ≤ 67
-  unfolding readText
-  text-most =
-      end-most (IsTerm (decode set) (settingFor set site builtIn space) text (known set site builtIn) (λ s. refl) maxLevels 0 []) (length text)
-      (term-gives (decode set) (settingFor set site builtIn space) text (known set site builtIn) (λ s. refl) maxLevels 0 [])
+module _ (set site built_in text : List ℕ) (space : ℕ) where
+  text_most : number (read_text (setting_for set site built_in space) text) ≤ 67
+  unfolding read_text
+  text_most =
+      end_most (IsTerm (decode set) (setting_for set site built_in space) text (known set site built_in) (λ s. refl) max_levels 0 []) (length text)
+      (term_gives (decode set) (setting_for set site built_in space) text (known set site built_in) (λ s. refl) max_levels 0 [])
 
-  read-most : number (read_of set site builtIn text space) ≤ 67
+  read_most : number (read_of set site built_in text space) ≤ 67
   unfolding read_of
-  read-most =
-      after-most (checkOf set) _ (set-most set)
-      (after-most (namesCheckOf (length (decode set).arities) site builtIn) _ (names-most (length (decode set).arities) site builtIn) text-most)
+  read_most =
+      after_most (check_of set) _ (set_most set)
+      (after_most (names_check_of (length (decode set).arities) site built_in) _ (names_most (length (decode set).arities) site built_in) text_most)
 
-  pub refused-most : (r : TermRead) (n p : ℕ) → readAnswer r ≡ readingMap length (read_of set site builtIn text space) → r ≡ Refused n p → n ≤ 67
-  refused-most r n p = go (read_of set site builtIn text space) read-most
+  pub refused_most : (r : TermRead) (n p : ℕ) → read_answer r ≡ reading_map length (read_of set site built_in text space) → r ≡ Refused n p → n ≤ 67
+  refused_most r n p = go (read_of set site built_in text space) read_most
     where
-      go : (v : Reading (List Row)) → number v ≤ 67 → readAnswer r ≡ readingMap length v → r ≡ Refused n p → n ≤ 67
-      go (rowsRead rows) l e q = let f : ◌≡◌ {A = Reading ℕ} (rowsRead (length rows)) (refusedAt n p) = sym e ∙ ap readAnswer q in let z : ◌≡◌ {A = ℕ} 0 1 = cc in absurd (omega arith)
-      go (refusedAt w s) l e q = let f : ◌≡◌ {A = Reading ℕ} (refusedAt w s) (refusedAt n p) = sym e ∙ ap readAnswer q in let g : w ≡ n = cc in omega arith
+      go : (v : Reading (List Row)) → number v ≤ 67 → read_answer r ≡ reading_map length v → r ≡ Refused n p → n ≤ 67
+      go (rows_read rows) l e q = let f : ◌≡◌ {A = Reading ℕ} (rows_read (length rows)) (refused_at n p) = sym e ∙ ap read_answer q in let z : ◌≡◌ {A = ℕ} 0 1 = cc in absurd (omega arith)
+      go (refused_at w s) l e q = let f : ◌≡◌ {A = Reading ℕ} (refused_at w s) (refused_at n p) = sym e ∙ ap read_answer q in let g : w ≡ n = cc in omega arith

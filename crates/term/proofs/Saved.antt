@@ -3,29 +3,29 @@ use mathlib.Core.Path.{◌≡◌, ap, ◌∙◌}
 use mathlib.Core.List.{List}
 use Prim.Native.Nat.{ℕ, ◌/◌, min}
 use lib.ListN.{length}
-use Rattle.model.specs.Limits.{maxRows}
-use Rattle.model.specs.Automaton.{arityOf}
+use Rattle.model.specs.Limits.{max_rows}
+use Rattle.model.specs.Automaton.{arity_of}
 use Rattle.automaton.specs.Stored.{decode}
-use Rattle.automaton.specs.Check.{checkOf}
-use Rattle.names.specs.Names.{findIn}
-use Rattle.names.specs.Check.{namesCheckOf}
+use Rattle.automaton.specs.Check.{check_of}
+use Rattle.names.specs.Names.{find_in}
+use Rattle.names.specs.Check.{names_check_of}
 use Rattle.names.specs.Saved.{SavedAlike}
 use Rattle.names.proofs.Saved.{same_names, same_check}
-use Rattle.document.specs.Rows.{rowCells}
+use Rattle.document.specs.Rows.{row_cells}
 use Rattle.term.specs.Grammar.{Setting}
-use Rattle.term.specs.Read.{settingFor, readText, unlessRefused, read_of}
+use Rattle.term.specs.Read.{setting_for, read_text, unless_refused, read_of}
 
-module _ (set text site site' builtIn builtIn' : List ℕ) (space : ℕ) (v : SavedAlike site site') (w : SavedAlike builtIn builtIn') where
+module _ (set text site site' built_in builtIn' : List ℕ) (space : ℕ) (v : SavedAlike site site') (w : SavedAlike built_in builtIn') where
   abbrev symbols : ℕ
   symbols = length (decode set).arities
 
-  same-setting : settingFor set site builtIn space ≡ settingFor set site' builtIn' space
-  same-setting =
-      ap {B = Setting} (λ names. record { symbol = findIn symbols names; arity = arityOf (decode set); limit = min maxRows (space / rowCells) })
-      (same_names site site' builtIn builtIn' v w)
+  same_setting : setting_for set site built_in space ≡ setting_for set site' builtIn' space
+  same_setting =
+      ap {B = Setting} (λ names. record { symbol = find_in symbols names; arity = arity_of (decode set); limit = min max_rows (space / row_cells) })
+      (same_names site site' built_in builtIn' v w)
 
-  pub same-reading : read_of set site builtIn text space ≡ read_of set site' builtIn' text space
+  pub same_reading : read_of set site built_in text space ≡ read_of set site' builtIn' text space
   unfolding read_of
-  same-reading =
-      ap (λ n. unlessRefused (checkOf set) (unlessRefused n (readText (settingFor set site builtIn space) text))) (same_check site site' builtIn builtIn' v w symbols)
-      ∙ ap (λ S. unlessRefused (checkOf set) (unlessRefused (namesCheckOf symbols site' builtIn') (readText S text))) same-setting
+  same_reading =
+      ap (λ n. unless_refused (check_of set) (unless_refused n (read_text (setting_for set site built_in space) text))) (same_check site site' built_in builtIn' v w symbols)
+      ∙ ap (λ S. unless_refused (check_of set) (unless_refused (names_check_of symbols site' builtIn') (read_text S text))) same_setting

@@ -8,76 +8,76 @@ use native.Mathlib.Omega.{arith}
 use borrow.Author.Tests.{le-leb, lt-leb, leb-true, leb-false}
 use lib.Dec.{leb}
 use lib.ListN.{length, take, drop}
-use Rattle.names.specs.Names.{letter?, nameByte?, maxName}
-use Rattle.names.specs.Check.{foundOf}
+use Rattle.names.specs.Names.{letter?, name_byte?, max_name}
+use Rattle.names.specs.Check.{found_of}
 use Rattle.names.specs.declared.table.Found.{Found}
 use Rattle.names.specs.declared.table.Found.TheVariants.{Symbol, Unknown}
-use Rattle.term.specs.Scan.{byteAt, leading, nameBytes, name_at}
-use Rattle.term.specs.Grammar.{named, unnamed, knownAs, symbol_of}
-use Rattle.term.proofs.Bytes.{name-inside}
+use Rattle.term.specs.Scan.{byte_at, leading, name_bytes, name_at}
+use Rattle.term.specs.Grammar.{named, unnamed, known_as, symbol_of}
+use Rattle.term.proofs.Bytes.{name_inside}
 use Rattle.base.proofs.Leading.{counted}
 
-letter-in-name : (b : ℕ) → letter? b ≡ true → nameByte? b ≡ true
-unfolding nameByte?
-letter-in-name b e = rw e
+letter_in_name : (b : ℕ) → letter? b ≡ true → name_byte? b ≡ true
+unfolding name_byte?
+letter_in_name b e = rw e
 
 -- the first test passes, so some do
-first-counts : (p : ℕ → Bool) (m : ℕ) → p 0 ≡ true → 0 < leading (suc m) p
+first_counts : (p : ℕ → Bool) (m : ℕ) → p 0 ≡ true → 0 < leading (suc m) p
 unfolding leading
-first-counts p m e = rw (leading, e) (omega arith)
+first_counts p m e = rw (leading, e) (omega arith)
 
-module _ (t : List ℕ) (at : ℕ) (letter : letter? (byteAt t at) ≡ true) where
-  pub name-some : 0 < nameBytes t at
-  unfolding nameBytes
-  name-some =
+module _ (t : List ℕ) (at : ℕ) (letter : letter? (byte_at t at) ≡ true) where
+  pub name_some : 0 < name_bytes t at
+  unfolding name_bytes
+  name_some =
       let z : at + 0 ≡ at = omega arith in
-      first-counts (λ k. nameByte? (byteAt t (at + k))) maxName (letter-in-name (byteAt t (at + 0)) (rw z letter))
+      first_counts (λ k. name_byte? (byte_at t (at + k))) max_name (letter_in_name (byte_at t (at + 0)) (rw z letter))
 
-  pub name-fits : at + nameBytes t at ≤ length t
-  unfolding nameBytes
-  name-fits =
-      let n = nameBytes t at in
-      let s = name-some in
-      let l = name-inside t (at + (n - 1)) ((counted (λ k. nameByte? (byteAt t (at + k))) (suc maxName)).passed (n - 1) (omega arith)) in
+  pub name_fits : at + name_bytes t at ≤ length t
+  unfolding name_bytes
+  name_fits =
+      let n = name_bytes t at in
+      let s = name_some in
+      let l = name_inside t (at + (n - 1)) ((counted (λ k. name_byte? (byte_at t (at + k))) (suc max_name)).passed (n - 1) (omega arith)) in
       omega (arith, l)
 
-  module _ (symbol : List ℕ → Option ℕ) (n : ℕ) (count : n ≡ nameBytes t at) where
-    pub name-long : maxName < n → unnamed 63 (at + maxName) ≡ symbol_of symbol at (name_at t at)
+  module _ (symbol : List ℕ → Option ℕ) (n : ℕ) (count : n ≡ name_bytes t at) where
+    pub name_long : max_name < n → unnamed 63 (at + max_name) ≡ symbol_of symbol at (name_at t at)
     unfolding name_at
-    name-long h = let f : leb (nameBytes t at) maxName ≡ false = lt-leb (nameBytes t at) maxName (omega arith) in rw f
+    name_long h = let f : leb (name_bytes t at) max_name ≡ false = lt-leb (name_bytes t at) max_name (omega arith) in rw f
 
-    pub name-whole : n ≤ maxName → knownAs at (at + n) (symbol (take n (drop at t))) ≡ symbol_of symbol at (name_at t at)
+    pub name_whole : n ≤ max_name → known_as at (at + n) (symbol (take n (drop at t))) ≡ symbol_of symbol at (name_at t at)
     unfolding name_at
-    name-whole h = let f : leb (nameBytes t at) maxName ≡ true = le-leb (nameBytes t at) maxName (omega arith) in rw (f, ← count)
+    name_whole h = let f : leb (name_bytes t at) max_name ≡ true = le-leb (name_bytes t at) max_name (omega arith) in rw (f, ← count)
 
     -- the bytes up to place at + n were looked up
-    module _ (short : n ≤ maxName) (r : Found) (look : foundOf r ≡ symbol (take (at + n - at) (drop at t))) where
-      looked : foundOf r ≡ symbol (take n (drop at t))
+    module _ (short : n ≤ max_name) (r : Found) (look : found_of r ≡ symbol (take (at + n - at) (drop at t))) where
+      looked : found_of r ≡ symbol (take n (drop at t))
       looked = let e : at + n - at ≡ n = omega arith in rw e at look
 
-      pub symbol-found : (s : ℕ) → r ≡ Symbol s → named s (at + n) ≡ symbol_of symbol at (name_at t at)
-      symbol-found s q = ap (knownAs at (at + n)) (sym (ap foundOf q) ∙ looked) ∙ name-whole short
+      pub symbol_found : (s : ℕ) → r ≡ Symbol s → named s (at + n) ≡ symbol_of symbol at (name_at t at)
+      symbol_found s q = ap (known_as at (at + n)) (sym (ap found_of q) ∙ looked) ∙ name_whole short
 
-      pub symbol-unknown : r ≡ Unknown → unnamed 65 at ≡ symbol_of symbol at (name_at t at)
-      symbol-unknown q = ap (knownAs at (at + n)) (sym (ap foundOf q) ∙ looked) ∙ name-whole short
+      pub symbol_unknown : r ≡ Unknown → unnamed 65 at ≡ symbol_of symbol at (name_at t at)
+      symbol_unknown q = ap (known_as at (at + n)) (sym (ap found_of q) ∙ looked) ∙ name_whole short
 
   -- the bytes that stand for a symbol
-  pub named-bytes : (symbol : List ℕ → Option ℕ) (s next : ℕ) → symbol_of symbol at (name_at t at) ≡ named s next → (at + nameBytes t at ≡ next) × (symbol (take (nameBytes t at) (drop at t)) ≡ some s)
-  named-bytes symbol s next e = go (leb (nameBytes t at) maxName) refl
+  pub named_bytes : (symbol : List ℕ → Option ℕ) (s next : ℕ) → symbol_of symbol at (name_at t at) ≡ named s next → (at + name_bytes t at ≡ next) × (symbol (take (name_bytes t at) (drop at t)) ≡ some s)
+  named_bytes symbol s next e = go (leb (name_bytes t at) max_name) refl
     where
       name : List ℕ
-      name = take (nameBytes t at) (drop at t)
+      name = take (name_bytes t at) (drop at t)
 
-      known : (o : Option ℕ) → symbol name ≡ o → knownAs at (at + nameBytes t at) o ≡ named s next → (at + nameBytes t at ≡ next) × (symbol name ≡ some s)
+      known : (o : Option ℕ) → symbol name ≡ o → known_as at (at + name_bytes t at) o ≡ named s next → (at + name_bytes t at ≡ next) × (symbol name ≡ some s)
       known (some k) q h = let b : k ≡ s = cc in (cc, q ∙ ap some b)
       known none q h = let z : ◌≡◌ {A = ℕ} 0 1 = cc in absurd (omega arith)
 
-      go : (b : Bool) → leb (nameBytes t at) maxName ≡ b → (at + nameBytes t at ≡ next) × (symbol name ≡ some s)
-      go true f = known (symbol name) refl (name-whole symbol (nameBytes t at) refl (leb-true _ _ f) ∙ e)
-      go false f = let h : unnamed 63 (at + maxName) ≡ named s next = name-long symbol (nameBytes t at) refl (leb-false _ _ f) ∙ e in let z : ◌≡◌ {A = ℕ} 0 1 = cc in absurd (omega arith)
+      go : (b : Bool) → leb (name_bytes t at) max_name ≡ b → (at + name_bytes t at ≡ next) × (symbol name ≡ some s)
+      go true f = known (symbol name) refl (name_whole symbol (name_bytes t at) refl (leb-true _ _ f) ∙ e)
+      go false f = let h : unnamed 63 (at + max_name) ≡ named s next = name_long symbol (name_bytes t at) refl (leb-false _ _ f) ∙ e in let z : ◌≡◌ {A = ℕ} 0 1 = cc in absurd (omega arith)
 
   -- where a name stands for a symbol
-  pub named-after : (symbol : List ℕ → Option ℕ) (s next : ℕ) → symbol_of symbol at (name_at t at) ≡ named s next → (at < next) × (next ≤ length t) × (name : List ℕ) × (symbol name ≡ some s)
-  named-after symbol s next e =
-      let (a, q) = named-bytes symbol s next e in
-      (omega (arith, name-some), omega (arith, name-fits), take (nameBytes t at) (drop at t), q)
+  pub named_after : (symbol : List ℕ → Option ℕ) (s next : ℕ) → symbol_of symbol at (name_at t at) ≡ named s next → (at < next) × (next ≤ length t) × (name : List ℕ) × (symbol name ≡ some s)
+  named_after symbol s next e =
+      let (a, q) = named_bytes symbol s next e in
+      (omega (arith, name_some), omega (arith, name_fits), take (name_bytes t at) (drop at t), q)

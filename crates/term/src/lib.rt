@@ -1,11 +1,11 @@
 // Term text: the reader of a text into a row table.
 ghost use Rattle.std.specs.Prelude.{◌≡◌, ◌/◌, min, length};
-ghost use Rattle.model.specs.Limits.{maxRows};
+ghost use Rattle.model.specs.Limits.{max_rows};
 ghost use Rattle.automaton.specs.Stored.{decode};
-ghost use Rattle.automaton.specs.Check.{checkOf};
-ghost use Rattle.document.specs.Rows.{rowCells};
+ghost use Rattle.automaton.specs.Check.{check_of};
+ghost use Rattle.document.specs.Rows.{row_cells};
 ghost use Rattle.term.specs.State.{setting_of};
-ghost use Rattle.term.specs.Read.{readText, read_of, readingMap, readAnswer, spaceAfter, Answers};
+ghost use Rattle.term.specs.Read.{read_text, read_of, reading_map, read_answer, space_after, Answers};
 
 use automaton::{Checked, check, header};
 use base::limits::{MAX_LEVELS, MAX_ROWS};
@@ -33,16 +33,16 @@ pub enum TermRead {
 
 // The most rows: as many as a table has, and as fit into the space.
 fn row_limit(rows: &[u16]) -> u16
-    ensures { result ≡ min maxRows (length rows.now / rowCells) }
+    ensures { result ≡ min max_rows (length rows.now / row_cells) }
 {
     smaller(size(MAX_ROWS), count(rows)) as u16
 }
 
 // A text against a sound set and a table of its symbols' names. The rows are built in local cells, and copied where the text is whole.
 fn read_text(set: &[u8], names: &[u8], symbols: u16, text: &[u8], rows: &mut [u16]) -> TermRead
-    requires sound { checkOf set.now ≡ 0 }
+    requires sound { check_of set.now ≡ 0 }
     requires counted { symbols ≡ length (decode set.now).arities }
-    ensures { Answers (readText (setting_of set.now names.now symbols (min maxRows (length rows.old / rowCells))) text.now) result rows.old rows.new }
+    ensures { Answers (read_text (setting_of set.now names.now symbols (min max_rows (length rows.old / row_cells))) text.now) result rows.old rows.new }
 {
     let mut cells = [0u16; CELLS];
     let mut slots = [0u16; SLOTS];
@@ -80,8 +80,8 @@ pub fn read<'a>(
     text: &[u8],
     rows: &mut [u16],
 ) -> TermRead
-    ensures answer { readAnswer result ≡ readingMap length (read_of set.now site.now built_in.now text.now (length rows.old)) }
-    ensures space { rows.new ≡ spaceAfter (read_of set.now site.now built_in.now text.now (length rows.old)) rows.old }
+    ensures answer { read_answer result ≡ reading_map length (read_of set.now site.now built_in.now text.now (length rows.old)) }
+    ensures space { rows.new ≡ space_after (read_of set.now site.now built_in.now text.now (length rows.old)) rows.old }
 {
     match check(set) {
         Checked::Refused(n) => TermRead::Refused(n, 0),

@@ -1,17 +1,17 @@
 // Terms and argument lists: the two readers call each other, the level falling; siblings are a loop.
 ghost use Rattle.std.specs.Prelude.{◌≡◌, true, List, ℕ, ◌-◌, length};
 ghost use Rattle.std.proofs.Math.Option.{Option};
-ghost use Rattle.model.specs.Automaton.{arityOf};
-ghost use Rattle.classes.specs.Classes.{classTable};
+ghost use Rattle.model.specs.Automaton.{arity_of};
+ghost use Rattle.classes.specs.Classes.{class_table};
 ghost use Rattle.automaton.specs.Stored.{decode};
-ghost use Rattle.automaton.specs.Check.{checkOf};
-ghost use Rattle.document.specs.Rows.{rowsBelow};
-ghost use Rattle.document.specs.Scalars.{kind_of, payloadOf};
-ghost use Rattle.names.specs.Names.{letter?, findIn};
-ghost use Rattle.names.specs.Table.{nameIn};
-ghost use Rattle.term.specs.Scan.{byteAt, name_at, scalar, scalarAt};
-ghost use Rattle.term.specs.Grammar.{row_of, endTerm, afterArgs, afterScalar, readArgs, symbol_of, readTerm};
-ghost use Rattle.term.specs.State.{setting_of, Ready, childless, withChild, Held, Says, named_of};
+ghost use Rattle.automaton.specs.Check.{check_of};
+ghost use Rattle.document.specs.Rows.{rows_below};
+ghost use Rattle.document.specs.Scalars.{kind_of, payload_of};
+ghost use Rattle.names.specs.Names.{letter?, find_in};
+ghost use Rattle.names.specs.Table.{name_in};
+ghost use Rattle.term.specs.Scan.{byte_at, name_at, scalar, scalar_at};
+ghost use Rattle.term.specs.Grammar.{row_of, end_term, after_args, after_scalar, read_args, symbol_of, read_term};
+ghost use Rattle.term.specs.State.{setting_of, Ready, childless, with_child, Held, Says, named_of};
 
 use crate::scan::{ScalarRead, name_bytes, scalar_at};
 use automaton::arity;
@@ -43,9 +43,9 @@ pub(crate) enum TermPart {
 
 // The symbol that is named at a place, where a letter stands.
 fn symbol_at(text: &[u8], classes: &[u8; 256], names: &[u8], symbols: u16, at: usize) -> SymbolRead
-    requires at_value { letter? (byteAt text.now at) ≡ true }
-    requires lent { classes.now ≡ classTable }
-    ensures { named_of result ≡ symbol_of (findIn symbols (nameIn names.now)) at (name_at text.now at) }
+    requires at_value { letter? (byte_at text.now at) ≡ true }
+    requires lent { classes.now ≡ class_table }
+    ensures { named_of result ≡ symbol_of (find_in symbols (name_in names.now)) at (name_at text.now at) }
 {
     let n = name_bytes(text, classes, at);
     if n > MAX_NAME {
@@ -71,8 +71,8 @@ fn end_term(
     fields: RowFields,
 ) -> TermPart
     requires ready { Ready rows.old slots.old used limit }
-    requires sound { checkOf set.now ≡ 0 }
-    ensures { (js : List ℕ) → Held js count fields.places → Says rows.new slots.new limit result (endTerm (arityOf (decode set.now)) limit at (row_of fields.symbol (scalar (kind_of fields.scalar) (payloadOf fields.scalar)) js) next (rowsBelow rows.old used)) }
+    requires sound { check_of set.now ≡ 0 }
+    ensures { (js : List ℕ) → Held js count fields.places → Says rows.new slots.new limit result (end_term (arity_of (decode set.now)) limit at (row_of fields.symbol (scalar (kind_of fields.scalar) (payload_of fields.scalar)) js) next (rows_below rows.old used)) }
 {
     if count != size(arity(set, fields.symbol)) {
         return TermPart::Refused(66, at);
@@ -97,7 +97,7 @@ fn no_children(symbol: u16, value: Scalar) -> RowFields
 
 // A row by value with row j as child k; past the last place the places stay as they are.
 fn with_child(fields: RowFields, k: usize, j: Row) -> RowFields
-    ensures { result ≡ withChild fields k j }
+    ensures { result ≡ with_child fields k j }
 {
     if k >= PLACES {
         return fields;
@@ -126,9 +126,9 @@ fn leaf(
     end: usize,
 ) -> TermPart
     requires ready { Ready rows.old slots.old used limit }
-    requires sound { checkOf set.now ≡ 0 }
-    requires lent { classes.now ≡ classTable }
-    ensures { (find : List ℕ → Option ℕ) → Says rows.new slots.new limit result (afterScalar (record { symbol = find; arity = arityOf (decode set.now); limit = limit }) at symbol (rowsBelow rows.old used) (scalarAt text.now end)) }
+    requires sound { check_of set.now ≡ 0 }
+    requires lent { classes.now ≡ class_table }
+    ensures { (find : List ℕ → Option ℕ) → Says rows.new slots.new limit result (after_scalar (record { symbol = find; arity = arity_of (decode set.now); limit = limit }) at symbol (rows_below rows.old used) (scalar_at text.now end)) }
 {
     match scalar_at(text, classes, end) {
         ScalarRead::Is(s, next) => {
@@ -155,10 +155,10 @@ pub(crate) fn term(
     at: usize,
 ) -> TermPart
     requires ready { Ready rows.old slots.old used limit }
-    requires sound { checkOf set.now ≡ 0 }
+    requires sound { check_of set.now ≡ 0 }
     requires counted { symbols ≡ length (decode set.now).arities }
-    requires lent { classes.now ≡ classTable }
-    ensures { Says rows.new slots.new limit result (readTerm (setting_of set.now names.now symbols limit) text.now level at (rowsBelow rows.old used)) }
+    requires lent { classes.now ≡ class_table }
+    ensures { Says rows.new slots.new limit result (read_term (setting_of set.now names.now symbols limit) text.now level at (rows_below rows.old used)) }
 {
     if !is_letter(classes, byte_at(text, at)) {
         return TermPart::Refused(63, at);
@@ -209,10 +209,10 @@ fn arguments(
     symbol: u16,
 ) -> TermPart
     requires ready { Ready rows.old slots.old used limit }
-    requires sound { checkOf set.now ≡ 0 }
+    requires sound { check_of set.now ≡ 0 }
     requires counted { symbols ≡ length (decode set.now).arities }
-    requires lent { classes.now ≡ classTable }
-    ensures { Says rows.new slots.new limit result (afterArgs (setting_of set.now names.now symbols limit) first symbol (readArgs (readTerm (setting_of set.now names.now symbols limit) text.now level) text.now (length text.now - start) start (rowsBelow rows.old used))) }
+    requires lent { classes.now ≡ class_table }
+    ensures { Says rows.new slots.new limit result (after_args (setting_of set.now names.now symbols limit) first symbol (read_args (read_term (setting_of set.now names.now symbols limit) text.now level) text.now (length text.now - start) start (rows_below rows.old used))) }
 {
     let mut at = start;
     let mut known = used;

@@ -1,9 +1,9 @@
 // Names and scalars at a place of a text; a byte past the end counts as 0, which no rule allows.
 ghost use Rattle.std.specs.Prelude.{◌≡◌, true, cond, ◌+◌, ◌-◌, ◌<◌, ◌≤◌, ◌^◌, length};
-ghost use Rattle.classes.specs.Classes.{classTable};
+ghost use Rattle.classes.specs.Classes.{class_table};
 ghost use Rattle.names.specs.Names.{digit?};
-ghost use Rattle.term.specs.Scan.{nameBytes, word_at, digitValue, digitsFrom, number_at, hexDigit?, hexValue, hexFrom, scalar, ofKind, ofRate, value_at, scalarAt};
-ghost use Rattle.term.specs.Answer.{number_of, scalarOf};
+ghost use Rattle.term.specs.Scan.{name_bytes, word_at, digit_value, digits_from, number_at, hex_digit?, hex_value, hex_from, scalar, of_kind, of_rate, value_at, scalar_at};
+ghost use Rattle.term.specs.Answer.{number_of, scalar_of};
 
 use base::text::{byte_at, word_bytes};
 use classes::{is_digit, is_hex_digit, is_letter_or_digit};
@@ -33,8 +33,8 @@ pub(crate) enum ScalarRead {
 
 // How many name bytes stand at a place, counted up to one more than a name may have.
 pub(crate) fn name_bytes(text: &[u8], classes: &[u8; 256], at: usize) -> usize
-    requires lent { classes.now ≡ classTable }
-    ensures { result ≡ nameBytes text.now at }
+    requires lent { classes.now ≡ class_table }
+    ensures { result ≡ name_bytes text.now at }
 {
     let mut n = 0;
     let mut i = at;
@@ -51,7 +51,7 @@ pub(crate) fn name_bytes(text: &[u8], classes: &[u8; 256], at: usize) -> usize
 // A word that says a flag.
 fn flag(text: &[u8], at: usize, word: &[u8], value: bool) -> ScalarRead
     requires { at + length word.now < 2 ^ 64 }
-    ensures { scalarOf result ≡ word_at (scalar 1 (cond value 1 0)) word.now text.now at }
+    ensures { scalar_of result ≡ word_at (scalar 1 (cond value 1 0)) word.now text.now at }
 {
     let n = word_bytes(text, at, word);
     if n == word.len() {
@@ -62,7 +62,7 @@ fn flag(text: &[u8], at: usize, word: &[u8], value: bool) -> ScalarRead
 
 fn digit_value(b: u8) -> u64
     requires { digit? b ≡ true }
-    ensures { (result ≡ digitValue b) × (result < 10) }
+    ensures { (result ≡ digit_value b) × (result < 10) }
 {
     (b - b'0') as u64
 }
@@ -70,8 +70,8 @@ fn digit_value(b: u8) -> u64
 // The digits at a place, after a number; the whole number is at most `most`.
 fn digits(text: &[u8], classes: &[u8; 256], at: usize, most: u64, first: u64) -> NumberRead
     requires le_most { 9 ≤ most }
-    requires lent { classes.now ≡ classTable }
-    ensures { number_of result ≡ digitsFrom (length text.now - at) (most + 1) text.now first at }
+    requires lent { classes.now ≡ class_table }
+    ensures { number_of result ≡ digits_from (length text.now - at) (most + 1) text.now first at }
 {
     let mut v = first;
     let mut i = at;
@@ -93,7 +93,7 @@ fn digits(text: &[u8], classes: &[u8; 256], at: usize, most: u64, first: u64) ->
 // The decimal number at a place, at most `most`.
 fn number(text: &[u8], classes: &[u8; 256], at: usize, most: u64) -> NumberRead
     requires le_most { 9 ≤ most }
-    requires lent { classes.now ≡ classTable }
+    requires lent { classes.now ≡ class_table }
     ensures { number_of result ≡ number_at (most + 1) text.now at }
 {
     let b = byte_at(text, at);
@@ -111,16 +111,16 @@ fn number(text: &[u8], classes: &[u8; 256], at: usize, most: u64) -> NumberRead
 
 // Whether a byte is a hex digit in lowercase: a hex digit that is a digit or a letter.
 fn is_lower_hex(classes: &[u8; 256], b: u8) -> bool
-    requires lent { classes.now ≡ classTable }
-    ensures { result ≡ hexDigit? b }
+    requires lent { classes.now ≡ class_table }
+    ensures { result ≡ hex_digit? b }
 {
     is_hex_digit(classes, b) & is_letter_or_digit(classes, b)
 }
 
 fn hex_value(classes: &[u8; 256], b: u8) -> u64
-    requires b_value { hexDigit? b ≡ true }
-    requires lent { classes.now ≡ classTable }
-    ensures { (result ≡ hexValue b) × (result < 16) }
+    requires b_value { hex_digit? b ≡ true }
+    requires lent { classes.now ≡ class_table }
+    ensures { (result ≡ hex_value b) × (result < 16) }
 {
     if is_digit(classes, b) {
         return (b - b'0') as u64;
@@ -130,8 +130,8 @@ fn hex_value(classes: &[u8; 256], b: u8) -> u64
 
 // The bits that 16 hex digits at a place say.
 fn hex_bits(text: &[u8], classes: &[u8; 256], at: usize) -> NumberRead
-    requires lent { classes.now ≡ classTable }
-    ensures { number_of result ≡ hexFrom 16 text.now 0 at }
+    requires lent { classes.now ≡ class_table }
+    ensures { number_of result ≡ hex_from 16 text.now 0 at }
 {
     let mut v = 0;
     let mut n = 0;
@@ -150,8 +150,8 @@ fn hex_bits(text: &[u8], classes: &[u8; 256], at: usize) -> NumberRead
 
 // The rate that 16 hex digits say; minus zero is taken for zero.
 fn rate(text: &[u8], classes: &[u8; 256], at: usize) -> ScalarRead
-    requires lent { classes.now ≡ classTable }
-    ensures { scalarOf result ≡ ofRate (hexFrom 16 text.now 0 at) }
+    requires lent { classes.now ≡ class_table }
+    ensures { scalar_of result ≡ of_rate (hex_from 16 text.now 0 at) }
 {
     match hex_bits(text, classes, at) {
         NumberRead::Number(n, e) => ScalarRead::Is(row_rate(n), e),
@@ -160,8 +160,8 @@ fn rate(text: &[u8], classes: &[u8; 256], at: usize) -> ScalarRead
 }
 
 fn name_number(text: &[u8], classes: &[u8; 256], at: usize) -> ScalarRead
-    requires lent { classes.now ≡ classTable }
-    ensures { scalarOf result ≡ ofKind 4 (number_at (2 ^ 32) text.now at) }
+    requires lent { classes.now ≡ class_table }
+    ensures { scalar_of result ≡ of_kind 4 (number_at (2 ^ 32) text.now at) }
 {
     match number(text, classes, at, MAX_NAME_NUMBER) {
         NumberRead::Number(n, e) => ScalarRead::Is(Scalar::Name(n as u32), e),
@@ -171,8 +171,8 @@ fn name_number(text: &[u8], classes: &[u8; 256], at: usize) -> ScalarRead
 
 // What stands after `=`.
 fn value(text: &[u8], classes: &[u8; 256], at: usize) -> ScalarRead
-    requires lent { classes.now ≡ classTable }
-    ensures { scalarOf result ≡ value_at text.now at }
+    requires lent { classes.now ≡ class_table }
+    ensures { scalar_of result ≡ value_at text.now at }
 {
     let b = byte_at(text, at);
     if b == b't' {
@@ -189,8 +189,8 @@ fn value(text: &[u8], classes: &[u8; 256], at: usize) -> ScalarRead
 
 // The scalar behind a name; a bare one where there is none.
 pub(crate) fn scalar_at(text: &[u8], classes: &[u8; 256], at: usize) -> ScalarRead
-    requires lent { classes.now ≡ classTable }
-    ensures { scalarOf result ≡ scalarAt text.now at }
+    requires lent { classes.now ≡ class_table }
+    ensures { scalar_of result ≡ scalar_at text.now at }
 {
     let b = byte_at(text, at);
     if b == b'=' {

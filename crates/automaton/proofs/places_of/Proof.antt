@@ -1,16 +1,16 @@
 -- `automaton::places_of` meets its contract: the loop has filled every place before its index. Assumes nothing.
 use Prim.Native.Nat.{◌-◌}
-use Rattle.model.specs.Limits.{maxChildren}
+use Rattle.model.specs.Limits.{max_children}
 use Rattle.automaton.specs.Stored.{place_of}
 use Rattle.automaton.proofs.Loops.{Filled, fills}
 use Rattle.automaton.proofs.places_of.Statement.{statement}
 use Rattle.automaton.proofs.places_of.Tie as tie
 
 abbrev invariant-loop : tie.invariant-loop
-invariant-loop set form first i n places₀ k₀ places k = Filled (λ q. q.0) (place_of set i n) maxChildren places k
+invariant-loop set form first i n places₀ k₀ places k = Filled (λ q. q.0) (place_of set i n) max_children places k
 
 abbrev decreases-loop : tie.decreases-loop
-decreases-loop set form first i n places₀ k₀ places k = maxChildren - k
+decreases-loop set form first i n places₀ k₀ places k = max_children - k
 
 pub places-of-spec : {M : Type 1} → statement M
 places-of-spec =

@@ -1,5 +1,5 @@
 -- `automaton::rule` meets its contract: an unknown rule has what nothing has. Assumes nothing.
-use Rattle.automaton.proofs.Decode.{reads, read-places, no-places}
+use Rattle.automaton.proofs.Decode.{reads, read_places, no_places}
 use Rattle.automaton.proofs.rule.Statement.{statement}
 use Rattle.automaton.proofs.rule.Tie as tie
 
@@ -18,12 +18,12 @@ rule-spec =
     (λ c. let f = c.before.before.before.before in record {
       symbol = search reads;
       target = search reads;
-      places = read-places _ _ _ _ _ f.before.before.before.before.rules.ensures f.before.before.before.if1.true f.rule-word.ensures c.before.before.before.arity.ensures _ c.before.before.places_of.ensures;
+      places = read_places _ _ _ _ _ f.before.before.before.before.rules.ensures f.before.before.before.if1.true f.rule_word_lem.ensures c.before.before.before.arity.ensures _ c.before.before.places_of.ensures;
       forget = search reads;
     })
     (λ c. record {
       symbol = search reads;
       target = search reads;
-      places = no-places _ _ _ c.before.rules.ensures c.if1.false;
+      places = no_places _ _ _ c.before.rules.ensures c.if1.false;
       forget = search reads;
     }))

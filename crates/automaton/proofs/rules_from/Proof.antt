@@ -1,7 +1,7 @@
 -- `automaton::rules_from` meets its contract: from each turn's bounds on, bisection ends where the whole one does. Assumes nothing.
 use Prim.Native.Nat.{◌-◌, ◌<◌}
 use native.Mathlib.Omega.{arith}
-use Rattle.automaton.proofs.Window.{Sought, sought-low, sought-high, seeks}
+use Rattle.automaton.proofs.Window.{Sought, sought_low, sought_high, seeks}
 use Rattle.automaton.proofs.rules_from.Statement.{statement}
 use Rattle.automaton.proofs.rules_from.Tie as tie
 
@@ -29,10 +29,10 @@ rules-from-spec =
     (λ c. let a = c.before.before.before.before.before.before.before.before.args in
     let w = c.before.before.before.loop in
     let i = w.invariant.0.inside in
-    (sought-low a.set.now a.symbol w.low w.high _ w.invariant.0 c.before.before.loop-test.true c.before.rule-word.ensures c.if1.true, w.invariant.1))
+    (sought_low a.set.now a.symbol w.low w.high _ w.invariant.0 c.before.before.loop-test.true c.before.rule_word_lem.ensures c.if1.true, w.invariant.1))
     (λ c. search seeks)
     (λ c. let a = c.before.before.before.before.before.before.before.before.args in
     let w = c.before.before.before.loop in
     let i = w.invariant.0.inside in
-    (sought-high a.set.now a.symbol w.low w.high _ w.invariant.0 c.before.before.loop-test.true c.before.rule-word.ensures c.if1.false, omega arith))
+    (sought_high a.set.now a.symbol w.low w.high _ w.invariant.0 c.before.before.loop-test.true c.before.rule_word_lem.ensures c.if1.false, omega arith))
     (λ c. search seeks))

@@ -4,10 +4,10 @@ use Prim.Native.Nat.{ℕ, ◌*◌}
 use native.Mathlib.Omega.{arith}
 use borrow.Author.Rules.{rules}
 use lib.ListN.{length}
-use Rattle.model.proofs.SoundProduct.{product-states}
+use Rattle.model.proofs.SoundProduct.{product_states}
 use Rattle.automaton.specs.Stored.{decode}
-use Rattle.automaton.proofs.Sound.{sound-decode}
-use Rattle.boolean.proofs.Packing.{product-low}
+use Rattle.automaton.proofs.Sound.{sound_decode}
+use Rattle.boolean.proofs.Packing.{product_low}
 use Rattle.boolean.proofs.product_size.Statement.{statement}
 use Rattle.boolean.proofs.product_size.Tie as tie
 
@@ -15,9 +15,9 @@ mul-t8 : tie.Need-overflow-mul-t8
 mul-t8 c =
     let a = c.before.before.before.before.header.ensures.states in
     let d = c.before.before.before.header2.ensures.states in
-    let la = (sound-decode _ c.before.before.before.before.before.before.before.requires.0).few-states in
-    let lb = (sound-decode _ c.before.before.before.before.before.before.before.requires.1).few-states in
-    let e = product-low c.before.before.before.before.header.result.states c.before.before.before.header2.result.states (omega arith) (omega arith) in
+    let la = (sound_decode _ c.before.before.before.before.before.before.before.requires.0).few_states in
+    let lb = (sound_decode _ c.before.before.before.before.before.before.before.requires.1).few_states in
+    let e = product_low c.before.before.before.before.header.result.states c.before.before.before.header2.result.states (omega arith) (omega arith) in
     omega arith
 
 returns : tie.Need-returns
@@ -27,7 +27,7 @@ returns c =
     let a = c.before.before.before.before.before.before.header.ensures in
     let d = c.before.before.before.before.before.header2.ensures in
     record {
-      states = ap (λ (z : ℕ). z * c.before.before.before.before.before.header2.result.states) a.states ∙ ap (length A.states *◌) d.states ∙ sym (product-states A B);
+      states = ap (λ (z : ℕ). z * c.before.before.before.before.before.header2.result.states) a.states ∙ ap (length A.states *◌) d.states ∙ sym (product_states A B);
       tags = omega (arith, a.tags, d.tags);
       rules = c.before.before.before.before.count.ensures;
     }

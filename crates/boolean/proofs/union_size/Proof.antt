@@ -1,7 +1,7 @@
 -- `boolean::union_size` meets its contract. Assumes nothing.
 use native.Mathlib.Omega.{arith}
 use borrow.Author.Rules.{rules}
-use Rattle.model.proofs.SoundUnion.{union-states, union-rules}
+use Rattle.model.proofs.SoundUnion.{union_states, union_rules_lem}
 use Rattle.automaton.specs.Stored.{decode}
 use Rattle.boolean.proofs.union_size.Statement.{statement}
 use Rattle.boolean.proofs.union_size.Tie as tie
@@ -13,9 +13,9 @@ returns c =
     let a = c.before.before.before.before.before.before.before.header.ensures in
     let d = c.before.before.before.before.before.before.header2.ensures in
     record {
-      states = omega (arith, a.states, d.states, union-states A B);
+      states = omega (arith, a.states, d.states, union_states A B);
       tags = omega (arith, a.tags, d.tags);
-      rules = omega (arith, a.rules, d.rules, union-rules A B);
+      rules = omega (arith, a.rules, d.rules, union_rules_lem A B);
     }
 
 pub union-size-spec : {M : Type 1} → statement M

@@ -2,20 +2,20 @@
 use mathlib.Core.Path.{sym, ap, ◌∙◌}
 use native.Mathlib.Omega.{arith}
 use borrow.Author.Rules.{rules}
-use Rattle.term.specs.Read.{readAnswer}
-use Rattle.term.proofs.Refusals.{refused-most}
+use Rattle.term.specs.Read.{read_answer}
+use Rattle.term.proofs.Refusals.{refused_most}
 use Rattle.cidhomba.specs.Code.{read_code}
 use Rattle.cidhomba.proofs.cidhomba_read_term.Statement.{statement}
 use Rattle.cidhomba.proofs.cidhomba_read_term.Tie as tie
 
 refusal-code-requires : tie.Need-refusal-code-requires
-refusal-code-requires c κs = omega (arith, refused-most _ _ _ _ _ _ _ _ c.before.before.before.before.before.read.ensures.0 c.before.n2.given.1)
+refusal-code-requires c κs = omega (arith, refused_most _ _ _ _ _ _ _ _ c.before.before.before.before.before.read.ensures.0 c.before.n2.given.1)
 
 returns : tie.Need-returns
-returns c = (ap read_code (ap readAnswer (sym c.before.n.given.1) ∙ c.before.before.before.before.before.read.ensures.0), c.before.before.before.before.before.read.ensures.1)
+returns c = (ap read_code (ap read_answer (sym c.before.n.given.1) ∙ c.before.before.before.before.before.read.ensures.0), c.before.before.before.before.before.read.ensures.1)
 
 returns-2 : tie.Need-returns-2
-returns-2 c = (c.refusal-code.ensures ∙ ap read_code (ap readAnswer (sym c.before.before.n2.given.1) ∙ c.before.before.before.before.before.before.read.ensures.0), c.before.before.before.before.before.before.read.ensures.1)
+returns-2 c = (c.refusal-code.ensures ∙ ap read_code (ap read_answer (sym c.before.before.n2.given.1) ∙ c.before.before.before.before.before.before.read.ensures.0), c.before.before.before.before.before.before.read.ensures.1)
 
 pub cidhomba-read-term-spec : {M : Type 1} → statement M
 cidhomba-read-term-spec =

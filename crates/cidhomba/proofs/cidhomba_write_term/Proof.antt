@@ -1,7 +1,7 @@
 -- `cidhomba::cidhomba_write_term` meets its contract: the writer's answer, as a number, and the space as it was left. Assumes nothing.
 use mathlib.Core.Path.{ap, ◌∙◌}
 use borrow.Author.Rules.{rules}
-use Rattle.cidhomba.specs.Code.{countCode}
+use Rattle.cidhomba.specs.Code.{count_code}
 use Rattle.cidhomba.proofs.cidhomba_write_term.Statement.{statement}
 use Rattle.cidhomba.proofs.cidhomba_write_term.Tie as tie
 
@@ -13,6 +13,6 @@ cidhomba-write-term-spec =
     (λ c κs. search rules)
     (λ c. search rules)
     (λ c. (
-      c.write-code.ensures ∙ ap countCode c.before.before.before.write.ensures.0,
+      c.write-code.ensures ∙ ap count_code c.before.before.before.write.ensures.0,
       c.before.before.before.write.ensures.1,
     )))

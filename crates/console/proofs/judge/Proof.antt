@@ -3,18 +3,18 @@ use mathlib.Core.Path.{sym}
 use native.Mathlib.Omega.{arith}
 use borrow.Author.Rules.{rules}
 use lib.Seq.{length-take-le}
-use Rattle.console.proofs.Outputs.{judge-beyond, judge-within}
+use Rattle.console.proofs.Outputs.{judge_beyond, judge_within}
 use Rattle.console.proofs.judge.Statement.{statement}
 use Rattle.console.proofs.judge.Tie as tie
 
 returns : tie.Need-returns
-returns c = judge-beyond _ _ _ _ c.before.before.if1.true c.Put-refused.ensures
+returns c = judge_beyond _ _ _ _ c.before.before.if1.true c.Put-refused.ensures
 
 slice-aggregate-judge-text : tie.Need-slice-aggregate-judge-text
 slice-aggregate-judge-text c = sym (length-take-le _ _ (omega (arith, c.before.smaller.ensures)))
 
 returns-2 : tie.Need-returns-2
-returns-2 c = judge-within _ _ _ _ _ _ c.before.before.before.before.before.before.before.if1.false c.before.before.before.before.before.before.header.ensures.total c.before.before.before.before.smaller.ensures c.judge-text.ensures
+returns-2 c = judge_within _ _ _ _ _ _ c.before.before.before.before.before.before.before.if1.false c.before.before.before.before.before.before.header.ensures.total c.before.before.before.before.smaller.ensures c.judge-text.ensures
 
 pub judge-spec : {M : Type 1} → statement M
 judge-spec =

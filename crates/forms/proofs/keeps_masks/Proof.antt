@@ -1,5 +1,5 @@
 -- `forms::keeps_masks` meets its contract: the form has a place for masks, the set's own form has none, or the masks were looked at. Assumes nothing.
-use Rattle.forms.proofs.Moving.{kept-unseen, kept_seen}
+use Rattle.forms.proofs.Moving.{kept_unseen, kept_seen}
 use borrow.Author.Rules.{rules}
 use Rattle.forms.proofs.keeps_masks.Statement.{statement}
 use Rattle.forms.proofs.keeps_masks.Tie as tie
@@ -7,7 +7,7 @@ use Rattle.forms.proofs.keeps_masks.Tie as tie
 returns : tie.Need-returns
 returns c =
     let f = c.before.before in let a = f.before.before.before.args in
-    kept-unseen a.form a.set.now _ f.form_of.ensures _ _ f.before.isolating.ensures c.before.isolating2.ensures c.if1.true
+    kept_unseen a.form a.set.now _ f.form_of.ensures _ _ f.before.isolating.ensures c.before.isolating2.ensures c.if1.true
 
 returns-2 : tie.Need-returns-2
 returns-2 c =

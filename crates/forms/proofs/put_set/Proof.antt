@@ -1,6 +1,6 @@
 -- `forms::put_set` meets its contract: each part is put where the one before it ends. Assumes nothing.
 use Rattle.automaton.specs.Stored.{decode}
-use Rattle.forms.proofs.Moving.{set-put, header-put}
+use Rattle.forms.proofs.Moving.{set_put, header_put}
 use borrow.Author.Rules.{rules}
 use Rattle.forms.proofs.put_set.Statement.{statement}
 use Rattle.forms.proofs.put_set.Tie as tie
@@ -9,8 +9,8 @@ returns : tie.Need-returns
 returns c =
     let a = c.before.before.before.before.before.before.before.before.before.before.before.before.before.before.before.before.before.before.before.args in
     let h = c.before.before.before.before.before.before.before.before.before.before.before.before.before.before.before.before.header.ensures in
-    let p = header-put a.form (decode a.set.now) _ _ _ _ h.symbols h.states h.tags h.rules a.out.now _ _ c.before.before.before.before.before.before.before.before.before.before.before.before.before.before.put-header.ensures in
-    set-put a.form (decode a.set.now) a.out.now c.before.before.before.before.before.before.before.before.before.before.before.before.before.before.before.before.before.before.before.requires _ _ _ _ _ _ _ _ p c.before.before.before.before.before.before.before.before.before.before.put-symbols.ensures c.before.before.before.before.before.before.put-states.ensures c.before.before.put-rules.ensures
+    let p = header_put a.form (decode a.set.now) _ _ _ _ h.symbols h.states h.tags h.rules a.out.now _ _ c.before.before.before.before.before.before.before.before.before.before.before.before.before.before.put-header.ensures in
+    set_put a.form (decode a.set.now) a.out.now c.before.before.before.before.before.before.before.before.before.before.before.before.before.before.before.before.before.before.before.requires _ _ _ _ _ _ _ _ p c.before.before.before.before.before.before.before.before.before.before.put-symbols.ensures c.before.before.before.before.before.before.put-states.ensures c.before.before.put-rules.ensures
 
 pub put-set-spec : {M : Type 1} → statement M
 put-set-spec =

@@ -1,7 +1,7 @@
 -- The key list, then the text: the first place that refuses decides. Assumes nothing.
 use mathlib.Core.Path.{sym, ◌∙◌}
 use borrow.Author.Rules.{rules}
-use Rattle.json.proofs.WholeTexts.{list-refused, text-answers}
+use Rattle.json.proofs.WholeTexts.{list_refused, text_answers}
 use Rattle.json.proofs.read.Statement.{statement}
 use Rattle.json.proofs.read.Tie as tie
 
@@ -9,10 +9,10 @@ read-text-requires : tie.Need-read-text-requires
 read-text-requires c κs = (c.before.before.before.before.before.before.before.before.class-table.ensures, c.before.before.before.before.before.fill-keys.ensures.1 c.before.before.before.before.if1.true)
 
 returns : tie.Need-returns
-returns c = text-answers _ _ _ (sym c.before.before.before.before.before.before.before.if1.true ∙ c.before.before.before.before.before.before.before.before.fill-keys.ensures.0) _ _ c.before.before.read-text.ensures
+returns c = text_answers _ _ _ (sym c.before.before.before.before.before.before.before.if1.true ∙ c.before.before.before.before.before.before.before.before.fill-keys.ensures.0) _ _ c.before.before.read_text_lem.ensures
 
 returns-2 : tie.Need-returns-2
-returns-2 c = list-refused _ _ _ (sym c.if1.false ∙ c.before.fill-keys.ensures.0)
+returns-2 c = list_refused _ _ _ (sym c.if1.false ∙ c.before.fill-keys.ensures.0)
 
 pub read_spec : {M : Type 1} → statement M
 read_spec =

@@ -5,36 +5,36 @@ use Prim.Native.Nat.{ℕ, ◌*◌}
 use borrow.Author.Rules.{rules}
 use lib.ListN.{length-replicate}
 use lib.Seq.{length-take-le}
-use Rattle.model.specs.Limits.{maxRows, maxLevels}
-use Rattle.document.specs.Rows.{rowCells}
-use Rattle.json.proofs.CycleWays.{no-object}
-use Rattle.json.proofs.WholeTexts.{holds-none, text-refused, text-inside, text-more, text-rows}
+use Rattle.model.specs.Limits.{max_rows, max_levels}
+use Rattle.document.specs.Rows.{row_cells}
+use Rattle.json.proofs.CycleWays.{no_object}
+use Rattle.json.proofs.WholeTexts.{holds_none, text_refused, text_inside, text_more, text_rows}
 use Rattle.json.proofs.read_text.Statement.{statement}
 use Rattle.json.proofs.read_text.Tie as tie
 
 items-requires : tie.Need-items-requires
-items-requires c κs = (holds-none c.before.before.before.before.before.before.before.before.before.before.before.before.before.before.before.before.args.rows.now _ c.before.before.before.before.before.before.before.before.before.row-limit.ensures _ _ _ (length-replicate {A = ℕ} (maxRows * rowCells) 0) (length-replicate {A = ℕ} (2 * maxRows) 0), (c.before.before.before.before.before.before.before.before.before.before.before.before.before.before.before.before.requires.0, (c.before.before.before.before.before.before.before.before.before.before.before.before.before.before.before.before.requires.1, ((omega arith, omega (arith, length-replicate {A = ℕ} maxLevels 0), omega (arith, length-replicate {A = ℕ} (maxLevels * 3) 0)), (λ a. no-object (sym a), λ a. refl)))))
+items-requires c κs = (holds_none c.before.before.before.before.before.before.before.before.before.before.before.before.before.before.before.before.args.rows.now _ c.before.before.before.before.before.before.before.before.before.row-limit.ensures _ _ _ (length-replicate {A = ℕ} (max_rows * row_cells) 0) (length-replicate {A = ℕ} (2 * max_rows) 0), (c.before.before.before.before.before.before.before.before.before.before.before.before.before.before.before.before.requires.0, (c.before.before.before.before.before.before.before.before.before.before.before.before.before.before.before.before.requires.1, ((omega arith, omega (arith, length-replicate {A = ℕ} max_levels 0), omega (arith, length-replicate {A = ℕ} (max_levels * 3) 0)), (λ a. no_object (sym a), λ a. refl)))))
 
 returns : tie.Need-returns
 returns c =
-    text-more _ _ _ _ _ c.before.before.before.before.before.before.before.before.before.before.before.before.before.before.before.before.before.row-limit.ensures (c.before.before.before.before.before.before.before.before.before.before.before.before.before.before.before.before.space-end.ensures c.before.before.before.before.before.before.before.before.before.before.before.before.before.before.before.before.before.before.before.before.before.before.before.before.requires.0) c.before.before.before.before.before.before.before.items.ensures.0 c.before.before.before.next.given.1 (c.before.space-end2.ensures c.before.before.before.before.before.before.before.before.before.before.before.before.before.before.before.before.before.before.before.before.before.before.before.before.requires.0) c.if1.true
+    text_more _ _ _ _ _ c.before.before.before.before.before.before.before.before.before.before.before.before.before.before.before.before.before.row-limit.ensures (c.before.before.before.before.before.before.before.before.before.before.before.before.before.before.before.before.space-end.ensures c.before.before.before.before.before.before.before.before.before.before.before.before.before.before.before.before.before.before.before.before.before.before.before.before.requires.0) c.before.before.before.before.before.before.before.items.ensures.0 c.before.before.before.next.given.1 (c.before.space-end2.ensures c.before.before.before.before.before.before.before.before.before.before.before.before.before.before.before.before.before.before.before.before.before.before.before.before.requires.0) c.if1.true
 
 array-share-prefix-cells : tie.Need-array-share-prefix-cells
 array-share-prefix-cells c =
-    text-inside _ _ c.before.before.before.before.before.before.before.before.before.before.before.before.before.before.before.before.before.before.before.before.before.before.before.before.before.before.args.rows.now _ _ c.before.before.before.before.before.before.before.before.before.before.before.before.before.before.before.before.before.before.before.row-limit.ensures (c.before.before.before.before.before.before.before.before.before.before.before.before.before.before.before.before.before.before.space-end.ensures c.before.before.before.before.before.before.before.before.before.before.before.before.before.before.before.before.before.before.before.before.before.before.before.before.before.before.requires.0) c.before.before.before.before.before.before.before.before.before.items.ensures.0 c.before.before.before.before.before.next.given.1 _ (ap (λ n. n * rowCells) c.size.ensures.0)
+    text_inside _ _ c.before.before.before.before.before.before.before.before.before.before.before.before.before.before.before.before.before.before.before.before.before.before.before.before.before.before.args.rows.now _ _ c.before.before.before.before.before.before.before.before.before.before.before.before.before.before.before.before.before.before.before.row-limit.ensures (c.before.before.before.before.before.before.before.before.before.before.before.before.before.before.before.before.before.before.space-end.ensures c.before.before.before.before.before.before.before.before.before.before.before.before.before.before.before.before.before.before.before.before.before.before.before.before.before.before.requires.0) c.before.before.before.before.before.before.before.before.before.items.ensures.0 c.before.before.before.before.before.next.given.1 _ (ap (λ n. n * row_cells) c.size.ensures.0)
 
 slice-aggregate-put-cells : tie.Need-slice-aggregate-put-cells
 slice-aggregate-put-cells c =
     sym (length-take-le _ _
-    (text-inside _ _ c.before.before.before.before.before.before.before.before.before.before.before.before.before.before.before.before.before.before.before.before.before.before.before.before.before.before.before.args.rows.now _ _ c.before.before.before.before.before.before.before.before.before.before.before.before.before.before.before.before.before.before.before.before.row-limit.ensures (c.before.before.before.before.before.before.before.before.before.before.before.before.before.before.before.before.before.before.before.space-end.ensures c.before.before.before.before.before.before.before.before.before.before.before.before.before.before.before.before.before.before.before.before.before.before.before.before.before.before.before.requires.0) c.before.before.before.before.before.before.before.before.before.before.items.ensures.0 c.before.before.before.before.before.before.next.given.1 _ (ap (λ n. n * rowCells) c.before.size.ensures.0)))
+    (text_inside _ _ c.before.before.before.before.before.before.before.before.before.before.before.before.before.before.before.before.before.before.before.before.before.before.before.before.before.before.before.args.rows.now _ _ c.before.before.before.before.before.before.before.before.before.before.before.before.before.before.before.before.before.before.before.before.row-limit.ensures (c.before.before.before.before.before.before.before.before.before.before.before.before.before.before.before.before.before.before.before.space-end.ensures c.before.before.before.before.before.before.before.before.before.before.before.before.before.before.before.before.before.before.before.before.before.before.before.before.before.before.before.requires.0) c.before.before.before.before.before.before.before.before.before.before.items.ensures.0 c.before.before.before.before.before.before.next.given.1 _ (ap (λ n. n * row_cells) c.before.size.ensures.0)))
 
 returns-2 : tie.Need-returns-2
 returns-2 c =
-    text-refused _ _ _ _ _ c.before.before.before.before.before.before.before.before.before.before.before.before.before.before.before.row-limit.ensures (c.before.before.before.before.before.before.before.before.before.before.before.before.before.before.space-end.ensures c.before.before.before.before.before.before.before.before.before.before.before.before.before.before.before.before.before.before.before.before.before.before.requires.0) c.before.before.before.before.before.items.ensures.0 c.before.w.given.1
+    text_refused _ _ _ _ _ c.before.before.before.before.before.before.before.before.before.before.before.before.before.before.before.row-limit.ensures (c.before.before.before.before.before.before.before.before.before.before.before.before.before.before.space-end.ensures c.before.before.before.before.before.before.before.before.before.before.before.before.before.before.before.before.before.before.before.before.before.before.requires.0) c.before.before.before.before.before.items.ensures.0 c.before.w.given.1
 
 returns-3 : tie.Need-returns-3
 returns-3 c =
-    text-rows _ _ _ _ _ c.before.before.before.before.before.before.before.before.before.before.before.before.before.before.before.before.before.before.before.before.before.before.before.row-limit.ensures (c.before.before.before.before.before.before.before.before.before.before.before.before.before.before.before.before.before.before.before.before.before.before.space-end.ensures c.before.before.before.before.before.before.before.before.before.before.before.before.before.before.before.before.before.before.before.before.before.before.before.before.before.before.before.before.before.before.requires.0) c.before.before.before.before.before.before.before.before.before.before.before.before.before.items.ensures.0 c.before.before.before.before.before.before.before.before.before.next.given.1 (c.before.before.before.before.before.before.before.space-end2.ensures c.before.before.before.before.before.before.before.before.before.before.before.before.before.before.before.before.before.before.before.before.before.before.before.before.before.before.before.before.before.before.requires.0) c.before.before.before.before.before.before.if1.false _ _ (ap (λ n. n * rowCells) c.before.before.before.before.size.ensures.0) c.before.before.put-cells.ensures
+    text_rows _ _ _ _ _ c.before.before.before.before.before.before.before.before.before.before.before.before.before.before.before.before.before.before.before.before.before.before.before.row-limit.ensures (c.before.before.before.before.before.before.before.before.before.before.before.before.before.before.before.before.before.before.before.before.before.before.space-end.ensures c.before.before.before.before.before.before.before.before.before.before.before.before.before.before.before.before.before.before.before.before.before.before.before.before.before.before.before.before.before.before.requires.0) c.before.before.before.before.before.before.before.before.before.before.before.before.before.items.ensures.0 c.before.before.before.before.before.before.before.before.before.next.given.1 (c.before.before.before.before.before.before.before.space-end2.ensures c.before.before.before.before.before.before.before.before.before.before.before.before.before.before.before.before.before.before.before.before.before.before.before.before.before.before.before.before.before.before.requires.0) c.before.before.before.before.before.before.if1.false _ _ (ap (λ n. n * row_cells) c.before.before.before.before.size.ensures.0) c.before.before.put-cells.ensures
 
 pub read-text-spec : {M : Type 1} → statement M
 read-text-spec =

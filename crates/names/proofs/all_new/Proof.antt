@@ -1,13 +1,13 @@
 -- A loop that tests every index. Assumes nothing.
 use Prim.Native.Nat.{◌-◌}
 use Rattle.model.proofs.Below.{Passed, loops}
-use Rattle.names.specs.Table.{nameIn}
+use Rattle.names.specs.Table.{name_in}
 use Rattle.names.specs.Check.{new?, distinct?}
 use Rattle.names.proofs.all_new.Statement.{statement}
 use Rattle.names.proofs.all_new.Tie as tie
 
 abbrev invariant-loop : tie.invariant-loop
-invariant-loop t n i₀ i = Passed (new? (nameIn t)) n n i
+invariant-loop t n i₀ i = Passed (new? (name_in t)) n n i
 
 abbrev decreases-loop : tie.decreases-loop
 decreases-loop t n i₀ i = n - i

@@ -7,7 +7,7 @@ use Rattle.names.proofs.check.Tie as tie
 
 distinct-requires : tie.Need-are-distinct-requires
 distinct-requires c κs =
-    let site = sym c.before.before.before.before.before.list-fits.ensures ∙ c.before.before.before.before.if1.true in
+    let site = sym c.before.before.before.before.before.list_fits.ensures ∙ c.before.before.before.before.if1.true in
     let built_in = sym c.before.before.list-fits2.ensures ∙ c.before.if2.true in
     (search rules, (site, built_in))
 

@@ -2,7 +2,7 @@
 use borrow.Author.Rules.{rules}
 use borrow.Author.Tests.{not-false}
 use Rattle.automaton.proofs.Verdict.{verdicts, answered}
-use Rattle.runs.specs.Check.{runCheckOf}
+use Rattle.runs.specs.Check.{run_check_of}
 use Rattle.runs.proofs.Verdict.{counted, count_fits, ready, fitting}
 use Rattle.runs.proofs.tried.Statement.{statement}
 use Rattle.runs.proofs.tried.Tie as tie
@@ -21,7 +21,7 @@ all-used-requires : tie.Need-all-used-requires
 all-used-requires c κs = counted _ _ _ c.before.before.before.before.before.before.before.before.before.before.counted.ensures (not-false _ c.before.before.before.before.before.before.before.before.before.if1.false) c.before.before.before.before.before.before.before.before.count.ensures
 
 pub tried-spec : {M : Type 1} → statement M
-unfolding runCheckOf
+unfolding run_check_of
 tried-spec =
     tie.close
     (tie.spec

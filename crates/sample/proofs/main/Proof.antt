@@ -2,15 +2,15 @@
 use mathlib.Core.Path.{sym}
 use borrow.Author.Rules.{rules}
 use lib.Seq.{length-take-le}
-use Rattle.stream.proofs.Wholes.{whole-within}
+use Rattle.stream.proofs.Wholes.{whole_within}
 use Rattle.sample.proofs.main.Statement.{statement}
 use Rattle.sample.proofs.main.Tie as tie
 
 array-share-prefix-input : tie.Need-array-share-prefix-input
-array-share-prefix-input c = (whole-within _ _ _ c.before.before.before.before.receive.ensures c.before.n.given.1).0
+array-share-prefix-input c = (whole_within _ _ _ c.before.before.before.before.receive.ensures c.before.n.given.1).0
 
 slice-aggregate-sample : tie.Need-slice-aggregate-sample
-slice-aggregate-sample c = (whole-within _ _ _ c.before.before.before.before.before.receive.ensures c.before.before.n.given.1).1
+slice-aggregate-sample c = (whole_within _ _ _ c.before.before.before.before.before.receive.ensures c.before.before.n.given.1).1
 
 slice-aggregate-write-all-2 : tie.Need-slice-aggregate-write-all-2
 slice-aggregate-write-all-2 c = sym (length-take-le _ _ c.before.sample.ensures.1)

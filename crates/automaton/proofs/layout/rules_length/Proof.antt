@@ -11,5 +11,5 @@ rules-length-spec =
     (tie.spec
     (λ c κs. search rules)
     (λ c κs. search rules)
-    (λ c. let w = few_bytes _ 14 c.size.result c.before.rule-width.ensures.1 in let n = c.size.ensures.1 in omega arith)
-    (λ c. let w = few_bytes _ 14 c.size.result c.before.rule-width.ensures.1 in let n = c.size.ensures.1 in (cc (c.before.rule-width.ensures.0, c.size.ensures.0), omega arith)))
+    (λ c. let w = few_bytes _ 14 c.size.result c.before.rule_width_lem.ensures.1 in let n = c.size.ensures.1 in omega arith)
+    (λ c. let w = few_bytes _ 14 c.size.result c.before.rule_width_lem.ensures.1 in let n = c.size.ensures.1 in (cc (c.before.rule_width_lem.ensures.0, c.size.ensures.0), omega arith)))

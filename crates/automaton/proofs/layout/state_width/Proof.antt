@@ -1,12 +1,12 @@
 -- `automaton::layout::state_width` meets its contract: each form has its width. Assumes nothing.
-use Rattle.automaton.specs.Form.{tagsWidth, stateWidth}
+use Rattle.automaton.specs.Form.{tags_width, state_width}
 use native.Mathlib.Omega.{arith}
 use borrow.Author.Rules.{rules}
 use Rattle.automaton.proofs.layout.state_width.Statement.{statement}
 use Rattle.automaton.proofs.layout.state_width.Tie as tie
 
 pub state-width-spec : {M : Type 1} → statement M
-unfolding stateWidth tagsWidth
+unfolding state_width tags_width
 state-width-spec =
     tie.close
     (tie.spec

@@ -11,5 +11,5 @@ states-length-spec =
     (tie.spec
     (λ c κs. search rules)
     (λ c κs. search rules)
-    (λ c. let w = few_bytes _ 3 c.size.result c.before.state-width.ensures.1 in let n = c.size.ensures.1 in omega arith)
-    (λ c. let w = few_bytes _ 3 c.size.result c.before.state-width.ensures.1 in let n = c.size.ensures.1 in (cc (c.before.state-width.ensures.0, c.size.ensures.0), omega arith)))
+    (λ c. let w = few_bytes _ 3 c.size.result c.before.state_width_lem.ensures.1 in let n = c.size.ensures.1 in omega arith)
+    (λ c. let w = few_bytes _ 3 c.size.result c.before.state_width_lem.ensures.1 in let n = c.size.ensures.1 in (cc (c.before.state_width_lem.ensures.0, c.size.ensures.0), omega arith)))

@@ -1,11 +1,11 @@
 -- `automaton::raw::symbol_byte` meets its contract: the offset is the header's. Assumes nothing.
-use Rattle.automaton.specs.Stored.{symbolByte}
+use Rattle.automaton.specs.Stored.{symbol_byte}
 use borrow.Author.Rules.{rules}
 use Rattle.automaton.proofs.raw.symbol_byte.Statement.{statement}
 use Rattle.automaton.proofs.raw.symbol_byte.Tie as tie
 
 pub symbol-byte-spec : {M : Type 1} → statement M
-unfolding symbolByte
+unfolding symbol_byte
 symbol-byte-spec =
     tie.close
     (tie.spec

@@ -1,11 +1,11 @@
 -- `automaton::raw::tags_at` meets its contract: a byte or a number, as the form has it. Assumes nothing.
-use Rattle.automaton.specs.Stored.{tagsAt}
+use Rattle.automaton.specs.Stored.{tags_at}
 use borrow.Author.Rules.{rules}
 use Rattle.automaton.proofs.raw.tags_at.Statement.{statement}
 use Rattle.automaton.proofs.raw.tags_at.Tie as tie
 
 pub tags-at-spec : {M : Type 1} → statement M
-unfolding tagsAt
+unfolding tags_at
 tags-at-spec =
     tie.close
     (tie.spec

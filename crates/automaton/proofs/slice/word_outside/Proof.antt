@@ -2,7 +2,7 @@
 use native.Mathlib.Omega.{arith}
 use Prim.Native.Nat.{◌+◌, ◌≤◌}
 use lib.ListN.{length}
-use Rattle.automaton.proofs.Words.{number-last, number_past}
+use Rattle.automaton.proofs.Words.{number_last, number_past}
 use borrow.Author.Rules.{rules}
 use Rattle.automaton.proofs.slice.word_outside.Statement.{statement}
 use Rattle.automaton.proofs.slice.word_outside.Tie as tie
@@ -15,7 +15,7 @@ word-outside-spec =
     (λ c κs. search rules)
     (λ c. let a = c.before.before.before.args in
     let b = c.byte.ensures in
-    number-last a.s.now (a.at + a.k) _ (omega arith) b.0 b.1)
+    number_last a.s.now (a.at + a.k) _ (omega arith) b.0 b.1)
     (λ c. let a = c.before.before.args in
     let l : length a.s.now ≤ a.at = c.if1.false in
     number_past a.s.now (a.at + a.k) (omega arith)))

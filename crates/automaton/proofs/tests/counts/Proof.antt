@@ -1,11 +1,11 @@
 -- `automaton::tests::counts` meets its contract: each comparison is the definition's. Assumes nothing.
-use Rattle.automaton.specs.Check.{countsOk}
+use Rattle.automaton.specs.Check.{counts_ok}
 use borrow.Author.Rules.{rules}
 use Rattle.automaton.proofs.tests.counts.Statement.{statement}
 use Rattle.automaton.proofs.tests.counts.Tie as tie
 
 pub counts-spec : {M : Type 1} → statement M
-unfolding countsOk
+unfolding counts_ok
 counts-spec =
     tie.close
     (tie.spec

@@ -1,11 +1,11 @@
 -- `automaton::tests::forgets` meets its contract: the comparison is the definition's. Assumes nothing.
-use Rattle.automaton.specs.Check.{forgetOk}
+use Rattle.automaton.specs.Check.{forget_ok}
 use borrow.Author.Rules.{rules}
 use Rattle.automaton.proofs.tests.forgets.Statement.{statement}
 use Rattle.automaton.proofs.tests.forgets.Tie as tie
 
 pub forgets-spec : {M : Type 1} → statement M
-unfolding forgetOk
+unfolding forget_ok
 forgets-spec =
     tie.close
     (tie.spec

@@ -1,11 +1,11 @@
 -- `automaton::tests::offsets` meets its contract: each comparison is the definition's. Assumes nothing.
-use Rattle.automaton.specs.Check.{offsetsOk}
+use Rattle.automaton.specs.Check.{offsets_ok}
 use borrow.Author.Rules.{rules}
 use Rattle.automaton.proofs.tests.offsets.Statement.{statement}
 use Rattle.automaton.proofs.tests.offsets.Tie as tie
 
 pub offsets-spec : {M : Type 1} → statement M
-unfolding offsetsOk
+unfolding offsets_ok
 offsets-spec =
     tie.close
     (tie.spec

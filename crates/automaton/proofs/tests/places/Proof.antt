@@ -1,13 +1,13 @@
 -- `automaton::tests::places` meets its contract: the loop has passed every place before its index. Assumes nothing.
 use Prim.Native.Nat.{◌-◌}
-use Rattle.model.specs.Limits.{maxChildren}
+use Rattle.model.specs.Limits.{max_children}
 use Rattle.model.proofs.Below.{Passed, loops}
-use Rattle.automaton.specs.Check.{placeOk}
+use Rattle.automaton.specs.Check.{place_ok}
 use Rattle.automaton.proofs.tests.places.Statement.{statement}
 use Rattle.automaton.proofs.tests.places.Tie as tie
 
 abbrev invariant-loop : tie.invariant-loop
-invariant-loop set f i n most k₀ k = Passed (placeOk set i) maxChildren most k
+invariant-loop set f i n most k₀ k = Passed (place_ok set i) max_children most k
 
 abbrev decreases-loop : tie.decreases-loop
 decreases-loop set f i n most k₀ k = most - k

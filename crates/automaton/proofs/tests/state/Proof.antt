@@ -1,11 +1,11 @@
 -- `automaton::tests::state` meets its contract: each comparison is the definition's. Assumes nothing.
-use Rattle.automaton.specs.Check.{stateOk}
+use Rattle.automaton.specs.Check.{state_ok}
 use borrow.Author.Rules.{rules}
 use Rattle.automaton.proofs.tests.state.Statement.{statement}
 use Rattle.automaton.proofs.tests.state.Tie as tie
 
 pub state-spec : {M : Type 1} → statement M
-unfolding stateOk
+unfolding state_ok
 state-spec =
     tie.close
     (tie.spec

@@ -2,7 +2,7 @@
 use Prim.Native.Nat.{◌-◌}
 use native.Mathlib.Omega.{arith}
 use lib.ListN.{length}
-use Rattle.base.proofs.Copying.{Copied, copied_none, not-copied, copying}
+use Rattle.base.proofs.Copying.{Copied, copied_none, not_copied, copying}
 use Rattle.base.proofs.space.put.Statement.{statement}
 use Rattle.base.proofs.space.put.Tie as tie
 
@@ -18,9 +18,9 @@ put_spec =
     (tie.spec
     invariant-loop
     decreases-loop
-    (λ c. not-copied _ _ _ (omega arith))
+    (λ c. not_copied _ _ _ (omega arith))
     (λ c. search copying)
-    (λ c. not-copied _ _ _ (omega arith))
+    (λ c. not_copied _ _ _ (omega arith))
     (λ c. copied_none _ _ _ (omega arith))
     (λ c. search copying)
     (λ c. search copying)

@@ -1,12 +1,12 @@
 -- `boolean::keys::digit_at` meets its contract: a shift is a division. Assumes nothing.
 use borrow.Author.Rules.{rules}
-use Rattle.boolean.specs.Key.{digitAt}
+use Rattle.boolean.specs.Key.{digit_at}
 use mathlib.Core.Path.{refl}
 use Rattle.boolean.proofs.keys.digit_at.Statement.{statement}
 use Rattle.boolean.proofs.keys.digit_at.Tie as tie
 
 returns : tie.Need-returns
-unfolding digitAt
+unfolding digit_at
 returns c = refl
 
 pub digit-at-spec : {M : Type 1} → statement M

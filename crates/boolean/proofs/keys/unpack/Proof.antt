@@ -2,9 +2,9 @@
 use mathlib.Core.Path.{◌∙◌, ap, refl}
 use Prim.Native.Nat.{ℕ}
 use borrow.Author.Rules.{rules}
-use Rattle.model.specs.Automaton.{arityOf}
+use Rattle.model.specs.Automaton.{arity_of}
 use Rattle.automaton.specs.Stored.{decode}
-use Rattle.boolean.proofs.Packing.{unpacked-places}
+use Rattle.boolean.proofs.Packing.{unpacked_places}
 use Rattle.boolean.proofs.keys.unpack.Statement.{statement}
 use Rattle.boolean.proofs.keys.unpack.Tie as tie
 
@@ -15,7 +15,7 @@ returns c =
     record {
       symbol = s.digit_at.ensures;
       target = c.digit-at2.ensures;
-      places = c.before.places_of.ensures ∙ unpacked-places (decode a.set.now).arities a.x _ (c.before.before.arity.ensures ∙ ap (λ (f : ℕ). arityOf (decode a.set.now) f) s.digit_at.ensures);
+      places = c.before.places_of.ensures ∙ unpacked_places (decode a.set.now).arities a.x _ (c.before.before.arity.ensures ∙ ap (λ (f : ℕ). arity_of (decode a.set.now) f) s.digit_at.ensures);
       forget = refl;
     }
 

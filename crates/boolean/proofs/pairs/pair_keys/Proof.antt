@@ -5,15 +5,15 @@ use Prim.Native.Nat.{◌-◌, ◌<◌}
 use native.Mathlib.Omega.{arith}
 use borrow.Author.Rules.{rules}
 use lib.ListN.{length, length-map}
-use Rattle.model.specs.Boolean.{pairRules}
-use Rattle.model.specs.Written.{noRule, ruleAt}
-use Rattle.model.proofs.SoundProduct.{product-rules}
+use Rattle.model.specs.Boolean.{pair_rules}
+use Rattle.model.specs.Written.{no_rule, rule_at}
+use Rattle.model.proofs.SoundProduct.{product_rules}
 use Rattle.automaton.specs.Stored.{decode}
 use Rattle.boolean.specs.Key.{packed}
 use Rattle.automaton.specs.Laid.{Laid}
 use Rattle.boolean.specs.Ready.{row}
-use Rattle.boolean.proofs.Concat.{map-concatMap}
-use Rattle.automaton.proofs.Laying.{Parts, parts_none, parts_more, parts-room, parts_all, laid-length}
+use Rattle.boolean.proofs.Concat.{map_concat_map}
+use Rattle.automaton.proofs.Laying.{Parts, parts_none, parts_more, parts_room, parts_all, laid_length}
 use Rattle.boolean.proofs.pairs.pair_keys.Statement.{statement}
 use Rattle.boolean.proofs.pairs.pair_keys.Tie as tie
 
@@ -28,12 +28,12 @@ loop-holds c =
     let a = c.before.before.before.before.args in
     let A = decode a.first.now in
     let B = decode a.second.now in
-    let e = ap length (map-concatMap packed (row A.tags B) A.rules) in
-    let d = length-map (pairRules (length B.states) A.tags A.rules B.rules) packed in
-    let f = product-rules A B in
+    let e = ap length (map_concat_map packed (row A.tags B) A.rules) in
+    let d = length-map (pair_rules (length B.states) A.tags A.rules B.rules) packed in
+    let f = product_rules A B in
     let r = c.before.before.before.before.requires.0.rules in
     let l = c.before.before.before.before.requires.1 in
-    (c.header.ensures.rules, parts_none _ noRule _ _ _ (omega arith))
+    (c.header.ensures.rules, parts_none _ no_rule _ _ _ (omega arith))
 
 row-keys-requires : tie.Need-row-keys-requires invariant-loop decreases-loop
 row-keys-requires c κs =
@@ -42,25 +42,25 @@ row-keys-requires c κs =
     let h = c.before.before.loop.invariant in
     let t = c.before.loop-test.true in
     let l : c.before.before.loop.i < length (decode a.first.now).rules = omega (arith, h.0) in
-    let r = parts-room _ noRule _ _ _ _ _ _ h.1 l in
-    let e = length-map (row (decode a.first.now).tags (decode a.second.now) (ruleAt (decode a.first.now) c.before.before.loop.i)) packed in
-    (p.first-sound, p.second-sound, p.same, l, omega arith)
+    let r = parts_room _ no_rule _ _ _ _ _ _ h.1 l in
+    let e = length-map (row (decode a.first.now).tags (decode a.second.now) (rule_at (decode a.first.now) c.before.before.loop.i)) packed in
+    (p.first_sound, p.second_sound, p.same, l, omega arith)
 
 loop-again : tie.Need-loop-preserved invariant-loop decreases-loop
 loop-again c =
     let h = c.before.before.before.before.before.loop.invariant in
     let t = c.before.before.before.before.loop-test.true in
-    (h.0, parts_more _ noRule _ _ _ _ _ _ h.1 _ _ (omega (arith, h.0)) c.before.before.row-keys.ensures)
+    (h.0, parts_more _ no_rule _ _ _ _ _ _ h.1 _ _ (omega (arith, h.0)) c.before.before.row-keys.ensures)
 
 same_length : tie.Need-same-length invariant-loop decreases-loop
-same_length c = laid-length c.before.loop.invariant.1.laid
+same_length c = laid_length c.before.loop.invariant.1.laid
 
 returns : tie.Need-returns invariant-loop decreases-loop
 returns c =
     let a = c.before.before.before.before.before.before.args in
     let h = c.before.loop.invariant in
     let t = c.loop-test.false in
-    subst (Laid a.keys.now c.before.loop.keys 0 c.before.loop.at) (map-concatMap packed (row (decode a.first.now).tags (decode a.second.now)) (decode a.first.now).rules) (parts_all _ noRule _ _ _ _ _ _ h.1 (omega (arith, h.0)))
+    subst (Laid a.keys.now c.before.loop.keys 0 c.before.loop.at) (map_concat_map packed (row (decode a.first.now).tags (decode a.second.now)) (decode a.first.now).rules) (parts_all _ no_rule _ _ _ _ _ _ h.1 (omega (arith, h.0)))
 
 pub pair-keys-spec : {M : Type 1} → statement M
 pair-keys-spec =

@@ -5,22 +5,22 @@ use Prim.Native.Nat.{ℕ, ◌+◌, ◌-◌}
 use native.Mathlib.Omega.{arith}
 use borrow.Author.Rules.{rules}
 use lib.ListN.{length, length-map}
-use Rattle.model.specs.Written.{ruleAt}
+use Rattle.model.specs.Written.{rule_at}
 use Rattle.automaton.specs.Stored.{decode}
-use Rattle.automaton.proofs.Sound.{sound-decode}
-use Rattle.automaton.proofs.Known.{known-symbol}
+use Rattle.automaton.proofs.Sound.{sound_decode}
+use Rattle.automaton.proofs.Known.{known_symbol}
 use Rattle.boolean.specs.Key.{packed}
 use Rattle.automaton.specs.Laid.{Laid}
 use Rattle.boolean.specs.Ready.{Window, row}
-use Rattle.automaton.proofs.Laying.{laid-length}
-use Rattle.boolean.proofs.Laying.{Filling, filling-none, filling-more, filling-all}
-use Rattle.boolean.proofs.Windows.{window-up, row-length}
-use Rattle.boolean.proofs.Results.{paired-key-at}
+use Rattle.automaton.proofs.Laying.{laid_length}
+use Rattle.boolean.proofs.Laying.{Filling, filling_none, filling_more, filling_all}
+use Rattle.boolean.proofs.Windows.{window_up, row_length_lem}
+use Rattle.boolean.proofs.Results.{paired_key_at}
 use Rattle.boolean.proofs.pairs.row_keys.Statement.{statement}
 use Rattle.boolean.proofs.pairs.row_keys.Tie as tie
 
 abbrev invariant-loop : tie.invariant-loop
-invariant-loop first second i keys₀ at r tags states w n k₀ keys k = (n ≡ length (map packed (row (decode first).tags (decode second) (ruleAt (decode first) i)))) × Filling (map packed (row (decode first).tags (decode second) (ruleAt (decode first) i))) keys₀ keys at k
+invariant-loop first second i keys₀ at r tags states w n k₀ keys k = (n ≡ length (map packed (row (decode first).tags (decode second) (rule_at (decode first) i)))) × Filling (map packed (row (decode first).tags (decode second) (rule_at (decode first) i))) keys₀ keys at k
 
 abbrev decreases-loop : tie.decreases-loop
 decreases-loop first second i keys₀ at r tags states w n k₀ keys k = n - k
@@ -29,21 +29,21 @@ window-requires : tie.Need-window-requires invariant-loop decreases-loop
 window-requires c κs =
     let a = c.before.before.before.before.before.before.before.args in
     let p = c.before.before.before.before.before.before.before.requires in
-    let s = sound-decode a.first.now p.0 in
-    let k = known-symbol (decode a.first.now) s c.before.before.before.rule.result.symbol a.i p.3 c.before.before.before.rule.ensures.symbol in
-    (p.1, omega (arith, s.few-symbols))
+    let s = sound_decode a.first.now p.0 in
+    let k = known_symbol (decode a.first.now) s c.before.before.before.rule.result.symbol a.i p.3 c.before.before.before.rule.ensures.symbol in
+    (p.1, omega (arith, s.few_symbols))
 
 sub-n : tie.Need-overflow-sub-n invariant-loop decreases-loop
-sub-n c = window-up _ _ _ _ c.before.window.ensures
+sub-n c = window_up _ _ _ _ c.before.window.ensures
 
 loop-holds : tie.Need-loop-init invariant-loop decreases-loop
 loop-holds c =
     let a = c.before.before.before.before.before.before.before.before.before.args in
-    let R = row (decode a.first.now).tags (decode a.second.now) (ruleAt (decode a.first.now) a.i) in
-    let e = row-length _ (decode a.second.now) (ruleAt (decode a.first.now) a.i) _ _ (subst (λ (f : ℕ). Window (decode a.second.now) f c.before.window.result.from c.before.window.result.to) c.before.before.before.before.before.rule.ensures.symbol c.before.window.ensures) in
+    let R = row (decode a.first.now).tags (decode a.second.now) (rule_at (decode a.first.now) a.i) in
+    let e = row_length_lem _ (decode a.second.now) (rule_at (decode a.first.now) a.i) _ _ (subst (λ (f : ℕ). Window (decode a.second.now) f c.before.window.result.from c.before.window.result.to) c.before.before.before.before.before.rule.ensures.symbol c.before.window.ensures) in
     let d = length-map R packed in
     let l = c.before.before.before.before.before.before.before.before.before.requires.4 in
-    (sym (d ∙ e), filling-none _ _ _ (omega arith))
+    (sym (d ∙ e), filling_none _ _ _ (omega arith))
 
 add-rule : tie.Need-overflow-add-rule invariant-loop decreases-loop
 add-rule c =
@@ -52,7 +52,7 @@ add-rule c =
     omega arith
 
 paired-key-requires : tie.Need-paired-key-requires invariant-loop decreases-loop
-paired-key-requires c κs = let e = c.before.before.before.before.before.before.before.header2.ensures.states in let l = (sound-decode _ c.before.before.before.before.before.before.before.before.before.before.before.before.before.requires.1).few-states in omega arith
+paired-key-requires c κs = let e = c.before.before.before.before.before.before.before.header2.ensures.states in let l = (sound_decode _ c.before.before.before.before.before.before.before.before.before.before.before.before.before.requires.1).few_states in omega arith
 
 add-keys : tie.Need-overflow-add-keys invariant-loop decreases-loop
 add-keys c =
@@ -73,7 +73,7 @@ slice-write-keys c =
     let t = c.before.before.before.loop-test.true in
     let r = c.before.before.before.before.loop.invariant.1.room in
     let e = c.before.before.before.before.loop.invariant.0 in
-    let d = laid-length c.before.before.before.before.loop.invariant.1.laid in
+    let d = laid_length c.before.before.before.before.loop.invariant.1.laid in
     omega arith
 
 loop-again : tie.Need-loop-preserved invariant-loop decreases-loop
@@ -84,10 +84,10 @@ loop-again c =
     let t = c.before.before.before.loop-test.true in
     let w = (subst (λ (f : ℕ). Window (decode a.second.now) f c.before.before.before.before.before.before.window.result.from c.before.before.before.before.before.before.window.result.to) c.before.before.before.before.before.before.before.before.before.before.rule.ensures.symbol c.before.before.before.before.before.before.window.ensures) in (
       h.0,
-      filling-more _ _ _ _ _ h.1 _ (omega (arith, h.0))
-          (paired-key-at (decode a.first.now) (sound-decode _ p.0) a.i p.3 c.before.before.before.before.before.before.before.before.before.before.rule.result c.before.before.before.before.before.before.before.before.before.before.rule.ensures
-          (decode a.second.now) (sound-decode _ p.1) p.2 _ _ _ w t c.before.rule2.result c.before.rule2.ensures
-          _ _ _ c.before.before.before.before.before.before.before.before.header2.ensures.states c.before.before.before.before.before.before.before.before.before.header.ensures.tags c.paired-key.ensures),
+      filling_more _ _ _ _ _ h.1 _ (omega (arith, h.0))
+          (paired_key_at (decode a.first.now) (sound_decode _ p.0) a.i p.3 c.before.before.before.before.before.before.before.before.before.before.rule.result c.before.before.before.before.before.before.before.before.before.before.rule.ensures
+          (decode a.second.now) (sound_decode _ p.1) p.2 _ _ _ w t c.before.rule2.result c.before.rule2.ensures
+          _ _ _ c.before.before.before.before.before.before.before.before.header2.ensures.states c.before.before.before.before.before.before.before.before.before.header.ensures.tags c.paired_key.ensures),
     )
 
 add-result : tie.Need-overflow-add-result invariant-loop decreases-loop
@@ -97,7 +97,7 @@ add-result c =
     omega (arith, c.before.before.before.before.before.before.before.before.before.before.before.well-formed)
 
 same_length : tie.Need-same-length invariant-loop decreases-loop
-same_length c = laid-length c.before.loop.invariant.1.laid
+same_length c = laid_length c.before.loop.invariant.1.laid
 
 returns : tie.Need-returns invariant-loop decreases-loop
 returns c =
@@ -106,7 +106,7 @@ returns c =
     let t = c.loop-test.false in
     let f = h.1.few in
     let z : c.before.loop.k ≡ c.before.before.before.window.result.to - c.before.before.before.window.result.from = omega (arith, h.0) in
-    subst (λ (n : ℕ). Laid a.keys.now c.before.loop.keys a.at (a.at + n) (map packed (row (decode a.first.now).tags (decode a.second.now) (ruleAt (decode a.first.now) a.i)))) z (filling-all _ _ _ _ _ h.1 (omega (arith, h.0)))
+    subst (λ (n : ℕ). Laid a.keys.now c.before.loop.keys a.at (a.at + n) (map packed (row (decode a.first.now).tags (decode a.second.now) (rule_at (decode a.first.now) a.i)))) z (filling_all _ _ _ _ _ h.1 (omega (arith, h.0)))
 
 pub row-keys-spec : {M : Type 1} → statement M
 row-keys-spec =

@@ -3,14 +3,14 @@ use Prim.Native.Nat.{◌-◌}
 use borrow.Author.Rules.{rules}
 use lib.ListN.{length}
 use Rattle.automaton.specs.Stored.{decode}
-use Rattle.boolean.specs.Key.{encodeKey}
-use Rattle.automaton.proofs.Known.{rule-bytes}
-use Rattle.automaton.proofs.Laying.{Parts, parts_none, parts-put, parts_all, laid-length}
+use Rattle.boolean.specs.Key.{encode_key}
+use Rattle.automaton.proofs.Known.{rule_bytes}
+use Rattle.automaton.proofs.Laying.{Parts, parts_none, parts_put, parts_all, laid_length}
 use Rattle.boolean.proofs.write.put_rules.Statement.{statement}
 use Rattle.boolean.proofs.write.put_rules.Tie as tie
 
 abbrev invariant-loop : tie.invariant-loop
-invariant-loop out₀ at form set keys end₀ i₀ out end i = Parts (encodeKey form (decode set).arities) keys out₀ out at end i
+invariant-loop out₀ at form set keys end₀ i₀ out end i = Parts (encode_key form (decode set).arities) keys out₀ out at end i
 
 abbrev decreases-loop : tie.decreases-loop
 decreases-loop out₀ at form set keys end₀ i₀ out end i = length keys - i
@@ -19,10 +19,10 @@ loop-holds : tie.Need-loop-init invariant-loop decreases-loop
 loop-holds c = parts_none _ 0 _ _ _ c.before.before.before.requires
 
 loop-again : tie.Need-loop-preserved invariant-loop decreases-loop
-loop-again c = parts-put _ 0 _ _ _ _ _ _ c.before.before.before.before.before.before.before.loop.invariant _ _ _ c.before.before.before.before.before.before.loop-test.true (rule-bytes _ _ _ c.before.before.before.unpack.ensures) c.before.before.put-rule.ensures
+loop-again c = parts_put _ 0 _ _ _ _ _ _ c.before.before.before.before.before.before.before.loop.invariant _ _ _ c.before.before.before.before.before.before.loop-test.true (rule_bytes _ _ _ c.before.before.before.unpack.ensures) c.before.before.put-rule.ensures
 
 same_length : tie.Need-same-length invariant-loop decreases-loop
-same_length c = laid-length c.before.loop.invariant.laid
+same_length c = laid_length c.before.loop.invariant.laid
 
 returns : tie.Need-returns invariant-loop decreases-loop
 returns c = parts_all _ 0 _ _ _ _ _ _ c.before.loop.invariant c.loop-test.false

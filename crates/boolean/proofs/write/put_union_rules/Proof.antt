@@ -2,19 +2,19 @@
 use mathlib.Core.Path.{sym}
 use borrow.Author.Rules.{rules}
 use lib.Seq.{length-take-le}
-use Rattle.boolean.proofs.Refusing.{ready-union}
-use Rattle.boolean.proofs.Writing.{rules-room, rules-laid}
+use Rattle.boolean.proofs.Refusing.{ready_union}
+use Rattle.boolean.proofs.Writing.{rules_room, rules_laid}
 use Rattle.boolean.proofs.write.put_union_rules.Statement.{statement}
 use Rattle.boolean.proofs.write.put_union_rules.Tie as tie
 
 slice-aggregate-put-rules : tie.Need-slice-aggregate-put-rules
-slice-aggregate-put-rules c = sym (length-take-le _ _ c.before.before.before.before.union-keys.ensures.few)
+slice-aggregate-put-rules c = sym (length-take-le _ _ c.before.before.before.before.union_keys.ensures.few)
 
 put-rules-requires : tie.Need-put-rules-requires
-put-rules-requires c κs = rules-room _ _ (ready-union _ _ c.before.before.before.before.before.before.before.before.before.before.requires.0) _ _ c.before.before.before.before.union-keys.ensures _ _ c.before.before.before.before.before.before.before.before.before.before.requires.1
+put-rules-requires c κs = rules_room _ _ (ready_union _ _ c.before.before.before.before.before.before.before.before.before.before.requires.0) _ _ c.before.before.before.before.union_keys.ensures _ _ c.before.before.before.before.before.before.before.before.before.before.requires.1
 
 returns : tie.Need-returns
-returns c = rules-laid _ _ (ready-union _ _ c.before.before.before.before.before.before.before.before.before.before.before.before.before.requires.0) _ _ c.before.before.before.before.before.before.before.union-keys.ensures _ _ _ _ c.before.before.put-rules.ensures
+returns c = rules_laid _ _ (ready_union _ _ c.before.before.before.before.before.before.before.before.before.before.before.before.before.requires.0) _ _ c.before.before.before.before.before.before.before.union_keys.ensures _ _ _ _ c.before.before.put-rules.ensures
 
 pub put-union-rules-spec : {M : Type 1} → statement M
 put-union-rules-spec =

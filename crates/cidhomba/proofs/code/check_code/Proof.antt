@@ -2,8 +2,8 @@
 use mathlib.Core.Path.{ap}
 use native.Mathlib.Omega.{arith}
 use borrow.Author.Rules.{rules}
-use Rattle.automaton.specs.Answer.{checkAnswer}
-use Rattle.cidhomba.specs.Code.{checkCode}
+use Rattle.automaton.specs.Answer.{check_answer}
+use Rattle.cidhomba.specs.Code.{check_code}
 use Rattle.cidhomba.proofs.code.check_code.Statement.{statement}
 use Rattle.cidhomba.proofs.code.check_code.Tie as tie
 
@@ -16,4 +16,4 @@ check-code-spec =
     (λ c. search rules)
     (λ c. search rules)
     (λ c. search rules)
-    (λ c. omega (arith, ap (λ a. checkCode (checkAnswer a)) c.before.c.given.1)))
+    (λ c. omega (arith, ap (λ a. check_code (check_answer a)) c.before.c.given.1)))

@@ -2,7 +2,7 @@
 use mathlib.Core.Path.{ap}
 use native.Mathlib.Omega.{arith}
 use borrow.Author.Rules.{rules}
-use Rattle.cidhomba.specs.Code.{judgedCode}
+use Rattle.cidhomba.specs.Code.{judged_code}
 use Rattle.cidhomba.proofs.code.judged_code.Statement.{statement}
 use Rattle.cidhomba.proofs.code.judged_code.Tie as tie
 
@@ -18,4 +18,4 @@ judged-code-spec =
     (λ c. search rules)
     (λ c. search rules)
     (λ c. search rules)
-    (λ c. omega (arith, ap judgedCode c.before.j2.given.1)))
+    (λ c. omega (arith, ap judged_code c.before.j2.given.1)))

@@ -2,8 +2,8 @@
 use mathlib.Core.Path.{ap}
 use native.Mathlib.Omega.{arith}
 use borrow.Author.Rules.{rules}
-use Rattle.emptiness.specs.Answer.{emptinessAnswer}
-use Rattle.cidhomba.specs.Code.{witnessCode}
+use Rattle.emptiness.specs.Answer.{emptiness_answer}
+use Rattle.cidhomba.specs.Code.{witness_code}
 use Rattle.cidhomba.proofs.code.witness_code.Statement.{statement}
 use Rattle.cidhomba.proofs.code.witness_code.Tie as tie
 
@@ -21,5 +21,5 @@ witness-code-spec =
     (λ c. search rules)
     (λ c. search rules)
     (λ c. search rules)
-    (λ c. omega (arith, ap (λ a. witnessCode (emptinessAnswer a)) c.before.e.given.1))
-    (λ c. omega (arith, ap (λ a. witnessCode (emptinessAnswer a)) c.before.e2.given.1)))
+    (λ c. omega (arith, ap (λ a. witness_code (emptiness_answer a)) c.before.e.given.1))
+    (λ c. omega (arith, ap (λ a. witness_code (emptiness_answer a)) c.before.e2.given.1)))

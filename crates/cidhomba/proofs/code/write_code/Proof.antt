@@ -2,8 +2,8 @@
 use mathlib.Core.Path.{ap}
 use native.Mathlib.Omega.{arith}
 use borrow.Author.Rules.{rules}
-use Rattle.spelling.specs.Write.{writeAnswer}
-use Rattle.cidhomba.specs.Code.{countCode}
+use Rattle.spelling.specs.Write.{write_answer}
+use Rattle.cidhomba.specs.Code.{count_code}
 use Rattle.cidhomba.proofs.code.write_code.Statement.{statement}
 use Rattle.cidhomba.proofs.code.write_code.Tie as tie
 
@@ -16,4 +16,4 @@ write-code-spec =
     (λ c. search rules)
     (λ c. search rules)
     (λ c. search rules)
-    (λ c. omega (arith, ap (λ a. countCode (writeAnswer a)) c.before.w2.given.1)))
+    (λ c. omega (arith, ap (λ a. count_code (write_answer a)) c.before.w2.given.1)))

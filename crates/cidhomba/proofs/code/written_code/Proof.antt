@@ -2,8 +2,8 @@
 use mathlib.Core.Path.{ap}
 use native.Mathlib.Omega.{arith}
 use borrow.Author.Rules.{rules}
-use Rattle.automaton.specs.Answer.{writtenAnswer}
-use Rattle.cidhomba.specs.Code.{countCode}
+use Rattle.automaton.specs.Answer.{written_answer}
+use Rattle.cidhomba.specs.Code.{count_code}
 use Rattle.cidhomba.proofs.code.written_code.Statement.{statement}
 use Rattle.cidhomba.proofs.code.written_code.Tie as tie
 
@@ -16,4 +16,4 @@ written-code-spec =
     (λ c. search rules)
     (λ c. search rules)
     (λ c. search rules)
-    (λ c. omega (arith, ap (λ a. countCode (writtenAnswer a)) c.before.w2.given.1)))
+    (λ c. omega (arith, ap (λ a. count_code (written_answer a)) c.before.w2.given.1)))

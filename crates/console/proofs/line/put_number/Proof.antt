@@ -1,6 +1,6 @@
 -- `console::line::put_number` meets its contract: the digits are put, and the place after them comes back. Assumes nothing.
 use borrow.Author.Rules.{rules}
-use Rattle.console.proofs.Printing.{decimal-put}
+use Rattle.console.proofs.Printing.{decimal_put}
 use Rattle.console.proofs.line.put_number.Statement.{statement}
 use Rattle.console.proofs.line.put_number.Tie as tie
 
@@ -11,4 +11,4 @@ put-number-spec =
     (λ c κs. search rules)
     (λ c. search rules)
     (λ c. search rules)
-    (λ c. decimal-put _ _ _ _ _ c.before.before.put-decimal.ensures))
+    (λ c. decimal_put _ _ _ _ _ c.before.before.put-decimal.ensures))

@@ -1,11 +1,11 @@
 -- `console::line::put_refused` meets its contract: the line is the output. Assumes nothing.
 use borrow.Author.Rules.{rules}
-use Rattle.console.proofs.Printing.{refused-put}
+use Rattle.console.proofs.Printing.{refused_put}
 use Rattle.console.proofs.line.put_refused.Statement.{statement}
 use Rattle.console.proofs.line.put_refused.Tie as tie
 
 returns : tie.Need-returns
-returns c = refused-put _ _ _ _ c.before.before.before.before.before.before.requires c.before.before.put-number-line.ensures
+returns c = refused_put _ _ _ _ c.before.before.before.before.before.before.requires c.before.before.put-number-line.ensures
 
 pub put-refused-spec : {M : Type 1} → statement M
 put-refused-spec =

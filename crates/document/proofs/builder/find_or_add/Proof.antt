@@ -2,8 +2,8 @@
 use native.Mathlib.Omega.{arith}
 use borrow.Author.Rules.{rules}
 use borrow.Author.Tests.{not-true, not-false}
-use Rattle.document.specs.Fields.{fieldsRow}
-use Rattle.document.proofs.Placement.{room, inside, did-known, did-crowded, did-full, did-add}
+use Rattle.document.specs.Fields.{fields_row}
+use Rattle.document.proofs.Placement.{room, inside, did_known, did_crowded, did_full, did_add}
 use Rattle.document.proofs.builder.find_or_add.Statement.{statement}
 use Rattle.document.proofs.builder.find_or_add.Tie as tie
 
@@ -13,7 +13,7 @@ full c =
     let s = p.before.before.before in
     let a = s.before.before.before.args in
     let m = c.before.has_room in (
-      did-full a.rows.now a.slots.now a.n a.limit (fieldsRow a.f) s.before.Cells-of.result s.start-slot.result p.look_up.result s.before.Cells-of.ensures.0 s.start-slot.ensures p.look_up.ensures c.before.before.before.before.t.given.0.0 c.before.before.before.before.t.given.1 m.result m.ensures (not-true m.result c.if1.true),
+      did_full a.rows.now a.slots.now a.n a.limit (fields_row a.f) s.before.Cells-of.result s.start-slot.result p.look_up.result s.before.Cells-of.ensures.0 s.start-slot.ensures p.look_up.ensures c.before.before.before.before.t.given.0.0 c.before.before.before.before.t.given.1 m.result m.ensures (not-true m.result c.if1.true),
       s.before.Cells-of.ensures.1,
     )
 
@@ -32,7 +32,7 @@ mul-slots c =
     let s = p.before.before.before in
     let a = s.before.before.before.args in
     let m = h.before.has_room in
-    let l = inside a.rows.now a.slots.now a.n a.limit (fieldsRow a.f) s.before.Cells-of.result s.start-slot.result p.look_up.result s.before.Cells-of.ensures.0 s.start-slot.ensures p.look_up.ensures h.before.before.before.before.t.given.0.0 h.before.before.before.before.t.given.1 m.result m.ensures in
+    let l = inside a.rows.now a.slots.now a.n a.limit (fields_row a.f) s.before.Cells-of.result s.start-slot.result p.look_up.result s.before.Cells-of.ensures.0 s.start-slot.ensures p.look_up.ensures h.before.before.before.before.t.given.0.0 h.before.before.before.before.t.given.1 m.result m.ensures in
     record { fits = omega arith }
 
 element-write-slots : tie.Need-element-write-slots
@@ -42,14 +42,14 @@ element-write-slots c =
     let s = p.before.before.before in
     let a = s.before.before.before.args in
     let m = h.before.has_room in
-    inside a.rows.now a.slots.now a.n a.limit (fieldsRow a.f) s.before.Cells-of.result s.start-slot.result p.look_up.result s.before.Cells-of.ensures.0 s.start-slot.ensures p.look_up.ensures h.before.before.before.before.t.given.0.0 h.before.before.before.before.t.given.1 m.result m.ensures
+    inside a.rows.now a.slots.now a.n a.limit (fields_row a.f) s.before.Cells-of.result s.start-slot.result p.look_up.result s.before.Cells-of.ensures.0 s.start-slot.ensures p.look_up.ensures h.before.before.before.before.t.given.0.0 h.before.before.before.before.t.given.1 m.result m.ensures
 
 known : tie.Need-returns-2
 known c =
     let p = c.before.before.before in
     let s = p.before.before.before in
     let a = s.before.before.before.args in (
-      did-known a.rows.now a.slots.now a.n a.limit (fieldsRow a.f) s.before.Cells-of.result s.start-slot.result p.look_up.result s.before.Cells-of.ensures.0 s.start-slot.ensures p.look_up.ensures c.before.i.given.0.0 c.before.i.given.1,
+      did_known a.rows.now a.slots.now a.n a.limit (fields_row a.f) s.before.Cells-of.result s.start-slot.result p.look_up.result s.before.Cells-of.ensures.0 s.start-slot.ensures p.look_up.ensures c.before.i.given.0.0 c.before.i.given.1,
       s.before.Cells-of.ensures.1,
     )
 
@@ -60,7 +60,7 @@ added c =
     let s = p.before.before.before in
     let a = s.before.before.before.args in
     let m = h.before.has_room in (
-      did-add a.rows.now a.slots.now a.n a.limit (fieldsRow a.f) s.before.Cells-of.result s.start-slot.result p.look_up.result s.before.Cells-of.ensures.0 s.start-slot.ensures p.look_up.ensures h.before.before.before.before.t.given.0.0 h.before.before.before.before.t.given.1 m.result m.ensures (not-false m.result h.if1.false) c.before.before.put-cells.new.0 c.before.before.put-cells.ensures,
+      did_add a.rows.now a.slots.now a.n a.limit (fields_row a.f) s.before.Cells-of.result s.start-slot.result p.look_up.result s.before.Cells-of.ensures.0 s.start-slot.ensures p.look_up.ensures h.before.before.before.before.t.given.0.0 h.before.before.before.before.t.given.1 m.result m.ensures (not-false m.result h.if1.false) c.before.before.put-cells.new.0 c.before.before.put-cells.ensures,
       s.before.Cells-of.ensures.1,
     )
 
@@ -69,7 +69,7 @@ crowded c =
     let p = c.before.before in
     let s = p.before.before.before in
     let a = s.before.before.before.args in (
-      did-crowded a.rows.now a.slots.now a.n a.limit (fieldsRow a.f) s.before.Cells-of.result s.start-slot.result p.look_up.result s.before.Cells-of.ensures.0 s.start-slot.ensures p.look_up.ensures c.enum_told.given.1,
+      did_crowded a.rows.now a.slots.now a.n a.limit (fields_row a.f) s.before.Cells-of.result s.start-slot.result p.look_up.result s.before.Cells-of.ensures.0 s.start-slot.ensures p.look_up.ensures c.enum_told.given.1,
       s.before.Cells-of.ensures.1,
     )
 

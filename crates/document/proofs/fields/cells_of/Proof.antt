@@ -1,7 +1,7 @@
 -- `document::fields::cells_of` meets its contract, cell by cell. Assumes nothing.
 use borrow.Author.Rules.{rules}
 use Rattle.document.proofs.Numbers.{rows_long}
-use Rattle.document.proofs.Encoding.{kept-fields}
+use Rattle.document.proofs.Encoding.{kept_fields}
 use Rattle.document.proofs.fields.cells_of.Statement.{statement}
 use Rattle.document.proofs.fields.cells_of.Tie as tie
 
@@ -16,7 +16,7 @@ returns c = (
     c.before.before.before.before.before.kind.ensures,
     c.before.before.before.before.before.before.settled.ensures,
   ),
-  kept-fields c.before.before.before.before.before.before.before.before.args.f c.before.before.before.before.payload.result c.before.before.before.before.payload.ensures (search rules) (search (rows_long, rules)),
+  kept_fields c.before.before.before.before.before.before.before.before.args.f c.before.before.before.before.payload.result c.before.before.before.before.payload.ensures (search rules) (search (rows_long, rules)),
 )
 
 pub cells-of-spec : {M : Type 1} → statement M

@@ -2,8 +2,8 @@
 use borrow.Author.Rules.{rules}
 use borrow.Author.Tests.{not-true, not-false}
 use Rattle.document.specs.Rows.{row_in}
-use Rattle.document.specs.Fields.{fieldsRow}
-use Rattle.document.proofs.Equality.{other-symbol, other-scalar, by-children}
+use Rattle.document.specs.Fields.{fields_row}
+use Rattle.document.proofs.Equality.{other_symbol, other_scalar, by_children}
 use Rattle.document.proofs.fields.same_row.Statement.{statement}
 use Rattle.document.proofs.fields.same_row.Tie as tie
 
@@ -11,7 +11,7 @@ returns : tie.Need-returns
 returns c =
     let a = c.before.before.before.before.args in
     let y = c.before.before.symbol in
-    other-symbol (fieldsRow a.f) (row_in a.rows.now a.i.0) y.result y.ensures c.if1.true
+    other_symbol (fields_row a.f) (row_in a.rows.now a.i.0) y.result y.ensures c.if1.true
 
 returns-2 : tie.Need-returns-2
 returns-2 c =
@@ -20,7 +20,7 @@ returns-2 c =
     let k = c.before.before.before.kind in
     let p = c.before.before.payload in
     let s = c.before.held in
-    other-scalar (fieldsRow a.f) (row_in a.rows.now a.i.0) y.result k.result p.result s.result y.ensures k.ensures p.ensures c.before.before.before.before.if1.false s.ensures (not-true s.result c.if2.true)
+    other_scalar (fields_row a.f) (row_in a.rows.now a.i.0) y.result k.result p.result s.result y.ensures k.ensures p.ensures c.before.before.before.before.if1.false s.ensures (not-true s.result c.if2.true)
 
 returns-3 : tie.Need-returns-3
 returns-3 c =
@@ -29,7 +29,7 @@ returns-3 c =
     let k = c.before.before.before.before.before.kind in
     let p = c.before.before.before.before.payload in
     let s = c.before.before.before.held in
-    by-children (fieldsRow a.f) (row_in a.rows.now a.i.0) y.result k.result p.result s.result y.ensures k.ensures p.ensures c.before.before.before.before.before.before.if1.false s.ensures (not-false s.result c.before.before.if2.false) c.same-places.result c.same-places.ensures
+    by_children (fields_row a.f) (row_in a.rows.now a.i.0) y.result k.result p.result s.result y.ensures k.ensures p.ensures c.before.before.before.before.before.before.if1.false s.ensures (not-false s.result c.before.before.if2.false) c.same_places.result c.same_places.ensures
 
 pub same-row-spec : {M : Type 1} → statement M
 same-row-spec =

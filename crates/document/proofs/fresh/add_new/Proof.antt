@@ -5,11 +5,11 @@ use Prim.Native.Nat.{◌%◌}
 use native.Mathlib.Omega.{arith}
 use borrow.Author.Rules.{rules}
 use borrow.Author.Tests.{not-true, not-false}
-use Rattle.document.specs.Words.{wordsCells}
-use Rattle.document.specs.Hash.{rowHash}
-use Rattle.document.proofs.Probing.{slot-inside}
-use Rattle.document.proofs.Placement.{room, did-known, did-crowded, did-full, did-add}
-use Rattle.document.proofs.Nearby.{new-probed}
+use Rattle.document.specs.Words.{words_cells}
+use Rattle.document.specs.Hash.{row_hash}
+use Rattle.document.proofs.Probing.{slot_inside}
+use Rattle.document.proofs.Placement.{room, did_known, did_crowded, did_full, did_add}
+use Rattle.document.proofs.Nearby.{new_probed}
 use Rattle.document.proofs.fresh.add_new.Statement.{statement}
 use Rattle.document.proofs.fresh.add_new.Tie as tie
 
@@ -19,7 +19,7 @@ full c x w e ready new =
     let a = c.before.before.before.before.before.before.before.before.before.args in
     let m = c.before.has_room in
     let t = c.before.before.before.before.before.t.given in
-    did-full a.rows.now a.slots.now a.n a.limit x (wordsCells a.a a.b a.c) (a.hash % 2048) p.result (sym w.cells) (ap (λ t. t % 2048) (e ∙ ap rowHash w.cells)) (new-probed a.rows.now a.slots.now a.n a.limit ready x new (a.hash % 2048) p.result p.ensures) t.0.0 t.1 m.result m.ensures (not-true m.result c.if1.true)
+    did_full a.rows.now a.slots.now a.n a.limit x (words_cells a.a a.b a.c) (a.hash % 2048) p.result (sym w.cells) (ap (λ t. t % 2048) (e ∙ ap row_hash w.cells)) (new_probed a.rows.now a.slots.now a.n a.limit ready x new (a.hash % 2048) p.result p.ensures) t.0.0 t.1 m.result m.ensures (not-true m.result c.if1.true)
 
 fits : tie.Need-put-words-requires
 fits c κs =
@@ -39,7 +39,7 @@ element-write-slots c =
     let p = c.before.before.before.before.before.before.before.before.before.free-slot in
     let a = c.before.before.before.before.before.before.before.before.before.before.before.args in
     let t = c.before.before.before.before.before.before.before.t.given in
-    slot-inside a.slots.now (λ _. false) (a.hash % 2048) t.0.0 (sym p.ensures ∙ t.1)
+    slot_inside a.slots.now (λ _. false) (a.hash % 2048) t.0.0 (sym p.ensures ∙ t.1)
 
 mul-slots : tie.Need-overflow-mul-slots
 mul-slots c = let l = element-write-slots c in record { fits = omega (arith, l) }
@@ -49,7 +49,7 @@ known c x w e ready new =
     let p = c.before.before.before.free-slot in
     let a = c.before.before.before.before.before.args in
     let i = c.before.i.given in
-    did-known a.rows.now a.slots.now a.n a.limit x (wordsCells a.a a.b a.c) (a.hash % 2048) p.result (sym w.cells) (ap (λ t. t % 2048) (e ∙ ap rowHash w.cells)) (new-probed a.rows.now a.slots.now a.n a.limit ready x new (a.hash % 2048) p.result p.ensures) i.0.0 i.1
+    did_known a.rows.now a.slots.now a.n a.limit x (words_cells a.a a.b a.c) (a.hash % 2048) p.result (sym w.cells) (ap (λ t. t % 2048) (e ∙ ap row_hash w.cells)) (new_probed a.rows.now a.slots.now a.n a.limit ready x new (a.hash % 2048) p.result p.ensures) i.0.0 i.1
 
 added : tie.Need-returns-3
 added c x w e ready new =
@@ -57,13 +57,13 @@ added c x w e ready new =
     let a = c.before.before.before.before.before.before.before.before.before.before.before.args in
     let m = c.before.before.before.has_room in
     let t = c.before.before.before.before.before.before.before.t.given in
-    did-add a.rows.now a.slots.now a.n a.limit x (wordsCells a.a a.b a.c) (a.hash % 2048) p.result (sym w.cells) (ap (λ t. t % 2048) (e ∙ ap rowHash w.cells)) (new-probed a.rows.now a.slots.now a.n a.limit ready x new (a.hash % 2048) p.result p.ensures) t.0.0 t.1 m.result m.ensures (not-false m.result c.before.before.if1.false) c.put-words.new.0 c.put-words.ensures
+    did_add a.rows.now a.slots.now a.n a.limit x (words_cells a.a a.b a.c) (a.hash % 2048) p.result (sym w.cells) (ap (λ t. t % 2048) (e ∙ ap row_hash w.cells)) (new_probed a.rows.now a.slots.now a.n a.limit ready x new (a.hash % 2048) p.result p.ensures) t.0.0 t.1 m.result m.ensures (not-false m.result c.before.before.if1.false) c.put-words.new.0 c.put-words.ensures
 
 crowded : tie.Need-returns-4
 crowded c x w e ready new =
     let p = c.before.before.free-slot in
     let a = c.before.before.before.before.args in
-    did-crowded a.rows.now a.slots.now a.n a.limit x (wordsCells a.a a.b a.c) (a.hash % 2048) p.result (sym w.cells) (ap (λ t. t % 2048) (e ∙ ap rowHash w.cells)) (new-probed a.rows.now a.slots.now a.n a.limit ready x new (a.hash % 2048) p.result p.ensures) c.enum_told.given.1
+    did_crowded a.rows.now a.slots.now a.n a.limit x (words_cells a.a a.b a.c) (a.hash % 2048) p.result (sym w.cells) (ap (λ t. t % 2048) (e ∙ ap row_hash w.cells)) (new_probed a.rows.now a.slots.now a.n a.limit ready x new (a.hash % 2048) p.result p.ensures) c.enum_told.given.1
 
 pub add-new-spec : {M : Type 1} → statement M
 add-new-spec =

@@ -1,6 +1,6 @@
 -- One cell, then the other. Assumes nothing.
 use borrow.Author.Rules.{rules}
-use Rattle.document.proofs.Hashing.{two-hashed}
+use Rattle.document.proofs.Hashing.{two_hashed}
 use Rattle.document.proofs.hash.add_two.Statement.{statement}
 use Rattle.document.proofs.hash.add_two.Tie as tie
 
@@ -10,7 +10,7 @@ returns c =
     let x = c.before.before.before.low-cell in
     let g = c.before.before.add-cell in
     let y = c.before.low-cell2 in
-    two-hashed a.h a.x x.result y.result g.result c.add-cell2.result x.ensures g.ensures y.ensures c.add-cell2.ensures
+    two_hashed a.h a.x x.result y.result g.result c.add-cell2.result x.ensures g.ensures y.ensures c.add-cell2.ensures
 
 pub add-two-spec : {M : Type 1} → statement M
 add-two-spec = tie.close (tie.spec (λ c κs. search rules) (λ c κs. search rules) (λ c κs. search rules) (λ c κs. search rules) returns)

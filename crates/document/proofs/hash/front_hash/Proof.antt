@@ -1,6 +1,6 @@
 -- The symbol, two places, and one more. Assumes nothing.
 use borrow.Author.Rules.{rules}
-use Rattle.document.proofs.Hashing.{front-hashed}
+use Rattle.document.proofs.Hashing.{front_hashed}
 use Rattle.document.proofs.hash.front_hash.Statement.{statement}
 use Rattle.document.proofs.hash.front_hash.Tie as tie
 
@@ -11,7 +11,7 @@ returns c =
     let s = c.before.before.before.add_small in
     let t = c.before.before.add-two in
     let y = c.before.low-cell2 in
-    front-hashed a.a x.result y.result s.result t.result c.add-cell.result x.ensures s.ensures t.ensures y.ensures c.add-cell.ensures
+    front_hashed a.a x.result y.result s.result t.result c.add-cell.result x.ensures s.ensures t.ensures y.ensures c.add-cell.ensures
 
 pub front-hash-spec : {M : Type 1} → statement M
 front-hash-spec =

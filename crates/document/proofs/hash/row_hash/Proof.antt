@@ -1,7 +1,7 @@
 -- `document::hash::row_hash` meets its contract: what is left to hash from h on gives the row's hash. Assumes nothing.
 use Prim.Native.Nat.{◌-◌}
 use borrow.Author.Rules.{rules}
-use Rattle.document.proofs.Hashing.{Hashed, hashed-none, hashed-next, hashed-all}
+use Rattle.document.proofs.Hashing.{Hashed, hashed_none, hashed_next, hashed_all}
 use Rattle.document.proofs.hash.row_hash.Statement.{statement}
 use Rattle.document.proofs.hash.row_hash.Tie as tie
 
@@ -12,7 +12,7 @@ abbrev decreases-loop : tie.decreases-loop
 decreases-loop cells h₀ i₀ h i = 10 - i
 
 loop-holds : tie.Need-loop-init invariant-loop decreases-loop
-loop-holds c = hashed-none c.args.t1
+loop-holds c = hashed_none c.args.t1
 
 mul-cell : tie.Need-overflow-mul-add-cell invariant-loop decreases-loop
 mul-cell c = search rules
@@ -30,10 +30,10 @@ loop-less : tie.Need-loop-smaller invariant-loop decreases-loop
 loop-less c = search rules
 
 loop-again : tie.Need-loop-preserved invariant-loop decreases-loop
-loop-again c = hashed-next c.before.before.before.args.t1 c.before.before.loop.h c.before.before.loop.i c.add-cell.result c.before.before.loop.invariant (search rules) c.add-cell.ensures
+loop-again c = hashed_next c.before.before.before.args.t1 c.before.before.loop.h c.before.before.loop.i c.add-cell.result c.before.before.loop.invariant (search rules) c.add-cell.ensures
 
 returns : tie.Need-returns invariant-loop decreases-loop
-returns c = hashed-all c.before.before.args.t1 c.before.loop.h c.before.loop.i c.before.loop.invariant (search rules)
+returns c = hashed_all c.before.before.args.t1 c.before.loop.h c.before.loop.i c.before.loop.invariant (search rules)
 
 pub row-hash-spec : {M : Type 1} → statement M
 row-hash-spec =

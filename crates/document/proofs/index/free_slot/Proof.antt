@@ -3,7 +3,7 @@ use mathlib.Core.Path.{refl}
 use mathlib.Core.Bool.{false}
 use Prim.Native.Nat.{◌-◌}
 use borrow.Author.Rules.{rules}
-use Rattle.document.proofs.Searching.{Searched, searched-none, searched-free, searched-more, searched-all}
+use Rattle.document.proofs.Searching.{Searched, searched_none, searched_free, searched_more, searched_all}
 use Rattle.document.proofs.index.free_slot.Statement.{statement}
 use Rattle.document.proofs.index.free_slot.Tie as tie
 
@@ -14,25 +14,25 @@ abbrev decreases-loop : tie.decreases-loop
 decreases-loop slots start d₀ d = 2048 - d
 
 loop-holds : tie.Need-loop-init invariant-loop decreases-loop
-loop-holds c = let a = c.args in searched-none a.slots.now (λ _. false) a.start
+loop-holds c = let a = c.args in searched_none a.slots.now (λ _. false) a.start
 
 returns : tie.Need-returns invariant-loop decreases-loop
 returns c =
     let l = c.before.before.before.loop in
     let a = c.before.before.before.before.args in
-    searched-free a.slots.now (λ _. false) a.start l.d a.start _ l.invariant (search rules) refl refl c.if1.true
+    searched_free a.slots.now (λ _. false) a.start l.d a.start _ l.invariant (search rules) refl refl c.if1.true
 
 loop-again : tie.Need-loop-preserved invariant-loop decreases-loop
 loop-again c =
     let l = c.before.before.before.loop in
     let a = c.before.before.before.before.args in
-    searched-more a.slots.now (λ _. false) a.start l.d a.start _ l.invariant (search rules) refl refl false c.if1.false refl refl
+    searched_more a.slots.now (λ _. false) a.start l.d a.start _ l.invariant (search rules) refl refl false c.if1.false refl refl
 
 returns-2 : tie.Need-returns-2 invariant-loop decreases-loop
 returns-2 c =
     let l = c.before.loop in
     let a = c.before.before.args in
-    searched-all a.slots.now (λ _. false) a.start l.d l.invariant (search rules)
+    searched_all a.slots.now (λ _. false) a.start l.d l.invariant (search rules)
 
 pub free-slot-spec : {M : Type 1} → statement M
 free-slot-spec =

@@ -3,7 +3,7 @@ use Prim.Native.Nat.{◌-◌}
 use mathlib.Core.Bool.{false}
 use lib.ListN.{get_or}
 use Rattle.model.proofs.Below.{Passed, loops}
-use Rattle.document.proofs.Marking.{marked-at}
+use Rattle.document.proofs.Marking.{marked_at}
 use Rattle.document.proofs.marks.all_marked.Statement.{statement}
 use Rattle.document.proofs.marks.all_marked.Tie as tie
 
@@ -19,11 +19,11 @@ all-marked-spec =
     (tie.spec
     invariant-loop
     decreases-loop
-    (λ c. search (marked-at, loops))
-    (λ c κs. search (marked-at, loops))
-    (λ c κs. search (marked-at, loops))
-    (λ c. search (marked-at, loops))
-    (λ c. search (marked-at, loops))
-    (λ c. search (marked-at, loops))
-    (λ c. search (marked-at, loops))
-    (λ c. search (marked-at, loops)))
+    (λ c. search (marked_at, loops))
+    (λ c κs. search (marked_at, loops))
+    (λ c κs. search (marked_at, loops))
+    (λ c. search (marked_at, loops))
+    (λ c. search (marked_at, loops))
+    (λ c. search (marked_at, loops))
+    (λ c. search (marked_at, loops))
+    (λ c. search (marked_at, loops)))

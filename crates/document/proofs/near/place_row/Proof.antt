@@ -4,10 +4,10 @@ use Prim.Native.Nat.{◌%◌}
 use native.Mathlib.Omega.{arith}
 use borrow.Author.Rules.{rules}
 use borrow.Author.Tests.{not-true, not-false}
-use Rattle.document.specs.Words.{wordsCells, same_words}
-use Rattle.document.proofs.Probing.{slot-inside}
-use Rattle.document.proofs.Placement.{room, did-known, did-crowded, did-full, did-add}
-use Rattle.document.proofs.Nearby.{words-probed}
+use Rattle.document.specs.Words.{words_cells, same_words}
+use Rattle.document.proofs.Probing.{slot_inside}
+use Rattle.document.proofs.Placement.{room, did_known, did_crowded, did_full, did_add}
+use Rattle.document.proofs.Nearby.{words_probed}
 use Rattle.document.proofs.near.place_row.Statement.{statement}
 use Rattle.document.proofs.near.place_row.Tie as tie
 
@@ -18,7 +18,7 @@ full c x w ready =
     let a = c.before.before.before.before.before.before.before.before.before.before.before.before.args in
     let m = c.before.has_room in
     let t = c.before.before.before.before.before.t.given in
-    did-full a.rows.now a.slots.now a.n a.limit x (wordsCells a.a a.b a.c) (h.result % 2048) p.result (sym w.cells) (ap (λ t. t % 2048) h.ensures) (words-probed a.rows.now a.slots.now a.n a.limit ready a.a a.b a.c x w (h.result % 2048) p.result p.ensures) t.0.0 t.1 m.result m.ensures (not-true m.result c.if1.true)
+    did_full a.rows.now a.slots.now a.n a.limit x (words_cells a.a a.b a.c) (h.result % 2048) p.result (sym w.cells) (ap (λ t. t % 2048) h.ensures) (words_probed a.rows.now a.slots.now a.n a.limit ready a.a a.b a.c x w (h.result % 2048) p.result p.ensures) t.0.0 t.1 m.result m.ensures (not-true m.result c.if1.true)
 
 fits : tie.Need-put-words-requires
 fits c κs =
@@ -39,7 +39,7 @@ mul-slots c =
     let h = c.before.before.before.before.before.before.before.before.before.before.before.before.words-hash in
     let a = c.before.before.before.before.before.before.before.before.before.before.before.before.before.before.args in
     let t = c.before.before.before.before.before.before.before.t.given in
-    let l = slot-inside a.slots.now (same_words a.rows.now a.a a.b a.c) (h.result % 2048) t.0.0 (sym p.ensures ∙ t.1) in
+    let l = slot_inside a.slots.now (same_words a.rows.now a.a a.b a.c) (h.result % 2048) t.0.0 (sym p.ensures ∙ t.1) in
     record { fits = omega (arith, l) }
 
 element-write-slots : tie.Need-element-write-slots
@@ -48,7 +48,7 @@ element-write-slots c =
     let h = c.before.before.before.before.before.before.before.before.before.before.before.before.words-hash in
     let a = c.before.before.before.before.before.before.before.before.before.before.before.before.before.before.args in
     let t = c.before.before.before.before.before.before.before.t.given in
-    slot-inside a.slots.now (same_words a.rows.now a.a a.b a.c) (h.result % 2048) t.0.0 (sym p.ensures ∙ t.1)
+    slot_inside a.slots.now (same_words a.rows.now a.a a.b a.c) (h.result % 2048) t.0.0 (sym p.ensures ∙ t.1)
 
 was-there : tie.Need-returns-2
 was-there c x w ready =
@@ -56,7 +56,7 @@ was-there c x w ready =
     let h = c.before.before.before.before.before.before.words-hash in
     let a = c.before.before.before.before.before.before.before.before.args in
     let i = c.before.i.given in
-    did-known a.rows.now a.slots.now a.n a.limit x (wordsCells a.a a.b a.c) (h.result % 2048) p.result (sym w.cells) (ap (λ t. t % 2048) h.ensures) (words-probed a.rows.now a.slots.now a.n a.limit ready a.a a.b a.c x w (h.result % 2048) p.result p.ensures) i.0.0 i.1
+    did_known a.rows.now a.slots.now a.n a.limit x (words_cells a.a a.b a.c) (h.result % 2048) p.result (sym w.cells) (ap (λ t. t % 2048) h.ensures) (words_probed a.rows.now a.slots.now a.n a.limit ready a.a a.b a.c x w (h.result % 2048) p.result p.ensures) i.0.0 i.1
 
 added : tie.Need-returns-3
 added c x w ready =
@@ -65,14 +65,14 @@ added c x w ready =
     let a = c.before.before.before.before.before.before.before.before.before.before.before.before.before.before.args in
     let m = c.before.before.before.has_room in
     let t = c.before.before.before.before.before.before.before.t.given in
-    did-add a.rows.now a.slots.now a.n a.limit x (wordsCells a.a a.b a.c) (h.result % 2048) p.result (sym w.cells) (ap (λ t. t % 2048) h.ensures) (words-probed a.rows.now a.slots.now a.n a.limit ready a.a a.b a.c x w (h.result % 2048) p.result p.ensures) t.0.0 t.1 m.result m.ensures (not-false m.result c.before.before.if1.false) c.put-words.new.0 c.put-words.ensures
+    did_add a.rows.now a.slots.now a.n a.limit x (words_cells a.a a.b a.c) (h.result % 2048) p.result (sym w.cells) (ap (λ t. t % 2048) h.ensures) (words_probed a.rows.now a.slots.now a.n a.limit ready a.a a.b a.c x w (h.result % 2048) p.result p.ensures) t.0.0 t.1 m.result m.ensures (not-false m.result c.before.before.if1.false) c.put-words.new.0 c.put-words.ensures
 
 crowded : tie.Need-returns-4
 crowded c x w ready =
     let p = c.before.before.look-up-words in
     let h = c.before.before.before.before.before.words-hash in
     let a = c.before.before.before.before.before.before.before.args in
-    did-crowded a.rows.now a.slots.now a.n a.limit x (wordsCells a.a a.b a.c) (h.result % 2048) p.result (sym w.cells) (ap (λ t. t % 2048) h.ensures) (words-probed a.rows.now a.slots.now a.n a.limit ready a.a a.b a.c x w (h.result % 2048) p.result p.ensures) c.enum_told.given.1
+    did_crowded a.rows.now a.slots.now a.n a.limit x (words_cells a.a a.b a.c) (h.result % 2048) p.result (sym w.cells) (ap (λ t. t % 2048) h.ensures) (words_probed a.rows.now a.slots.now a.n a.limit ready a.a a.b a.c x w (h.result % 2048) p.result p.ensures) c.enum_told.given.1
 
 pub place-row-spec : {M : Type 1} → statement M
 place-row-spec =

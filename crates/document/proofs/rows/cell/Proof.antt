@@ -1,12 +1,12 @@
 -- `document::rows::cell` meets its contract: past the end a cell counts as 0. Assumes nothing.
 use borrow.Author.Rules.{rules}
-use Rattle.document.specs.Rows.{cellIn}
-use Rattle.document.proofs.Places.{cell-past}
+use Rattle.document.specs.Rows.{cell_in}
+use Rattle.document.proofs.Places.{cell_past}
 use Rattle.document.proofs.rows.cell.Statement.{statement}
 use Rattle.document.proofs.rows.cell.Tie as tie
 
 pub cell-spec : {M : Type 1} → statement M
-unfolding cellIn
+unfolding cell_in
 cell-spec =
     tie.close
     (tie.spec
@@ -17,4 +17,4 @@ cell-spec =
     (λ c. search rules)
     (λ c. search rules)
     (λ c. cc)
-    (λ c. search (cell-past, rules)))
+    (λ c. search (cell_past, rules)))

@@ -1,11 +1,11 @@
 -- `document::rows::fields_at` meets its contract. Assumes nothing.
 use borrow.Author.Rules.{rules}
-use Rattle.document.specs.Fields.{fieldsIn}
+use Rattle.document.specs.Fields.{fields_in}
 use Rattle.document.proofs.rows.fields_at.Statement.{statement}
 use Rattle.document.proofs.rows.fields_at.Tie as tie
 
 pub fields-at-spec : {M : Type 1} → statement M
-unfolding fieldsIn
+unfolding fields_in
 fields-at-spec =
     tie.close
     (tie.spec

@@ -1,7 +1,7 @@
 -- `document::scalar::row_rate` meets its contract. Assumes nothing.
 use mathlib.Core.Path.{ap, ◌∙◌}
 use borrow.Author.Rules.{rules}
-use Rattle.document.specs.Scalars.{rateOf}
+use Rattle.document.specs.Scalars.{rate_of}
 use Rattle.document.proofs.scalar.row_rate.Statement.{statement}
 use Rattle.document.proofs.scalar.row_rate.Tie as tie
 
@@ -11,4 +11,4 @@ row-rate-spec =
     (tie.spec
     (λ c κs. search rules)
     (λ c κs. search rules)
-    (λ c. c.rate-of.ensures ∙ ap rateOf c.before.one-zero.ensures))
+    (λ c. c.rate_of_lem.ensures ∙ ap rate_of c.before.one-zero.ensures))

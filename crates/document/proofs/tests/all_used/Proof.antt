@@ -1,14 +1,14 @@
 -- `document::tests::all_used` meets its contract: after the rows below j the marks are those that they make. Assumes nothing.
 use Prim.Native.Nat.{◌-◌}
-use Rattle.model.specs.Limits.{maxRows}
-use Rattle.document.specs.Rows.{placesIn}
+use Rattle.model.specs.Limits.{max_rows}
+use Rattle.document.specs.Rows.{places_in}
 use Rattle.document.proofs.Numbers.{numbers}
-use Rattle.document.proofs.Marking.{MarkedBelow, markings, rows-marked}
+use Rattle.document.proofs.Marking.{MarkedBelow, markings, rows_marked}
 use Rattle.document.proofs.tests.all_used.Statement.{statement}
 use Rattle.document.proofs.tests.all_used.Tie as tie
 
 abbrev invariant-loop : tie.invariant-loop
-invariant-loop rows n used₀ j₀ used j = MarkedBelow (placesIn rows) n maxRows used j
+invariant-loop rows n used₀ j₀ used j = MarkedBelow (places_in rows) n max_rows used j
 
 abbrev decreases-loop : tie.decreases-loop
 decreases-loop rows n used₀ j₀ used j = n - j
@@ -29,4 +29,4 @@ all-used-spec =
     (λ c. search markings)
     (λ c. search markings)
     (λ c κs. search markings)
-    (λ c. search (rows-marked, markings)))
+    (λ c. search (rows_marked, markings)))

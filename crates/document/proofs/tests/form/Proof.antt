@@ -2,13 +2,13 @@
 use borrow.Author.Rules.{rules}
 use borrow.Author.Tests.{not-false}
 use Rattle.automaton.proofs.Verdict.{verdicts}
-use Rattle.document.specs.Check.{formCheckOf}
+use Rattle.document.specs.Check.{form_check_of}
 use Rattle.document.proofs.Form.{count_fits}
 use Rattle.document.proofs.tests.form.Statement.{statement}
 use Rattle.document.proofs.tests.form.Tie as tie
 
 pub form-spec : {M : Type 1} → statement M
-unfolding formCheckOf
+unfolding form_check_of
 form-spec =
     tie.close
     (tie.spec

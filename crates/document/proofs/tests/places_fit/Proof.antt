@@ -1,13 +1,13 @@
 -- `document::tests::places_fit` meets its contract. Assumes nothing.
 use Prim.Native.Nat.{◌-◌}
-use Rattle.model.specs.Limits.{maxChildren}
+use Rattle.model.specs.Limits.{max_children}
 use Rattle.model.proofs.Below.{Passed, loops}
 use Rattle.document.specs.Check.{child?}
 use Rattle.document.proofs.tests.places_fit.Statement.{statement}
 use Rattle.document.proofs.tests.places_fit.Tie as tie
 
 abbrev invariant-loop : tie.invariant-loop
-invariant-loop rows i arity n k₀ k = Passed (child? rows i.0 arity) maxChildren n k
+invariant-loop rows i arity n k₀ k = Passed (child? rows i.0 arity) max_children n k
 
 abbrev decreases-loop : tie.decreases-loop
 decreases-loop rows i arity n k₀ k = n - k

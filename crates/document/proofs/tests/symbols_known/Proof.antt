@@ -2,12 +2,12 @@
 use Prim.Native.Nat.{◌-◌}
 use Rattle.model.proofs.Below.{Passed, loops}
 use Rattle.automaton.specs.Stored.{decode}
-use Rattle.document.specs.Check.{rowCount, known?}
+use Rattle.document.specs.Check.{row_count, known?}
 use Rattle.document.proofs.tests.symbols_known.Statement.{statement}
 use Rattle.document.proofs.tests.symbols_known.Tie as tie
 
 abbrev invariant-loop : tie.invariant-loop
-invariant-loop set rows n i₀ i = Passed (known? (decode set) rows) (rowCount rows) n i
+invariant-loop set rows n i₀ i = Passed (known? (decode set) rows) (row_count rows) n i
 
 abbrev decreases-loop : tie.decreases-loop
 decreases-loop set rows n i₀ i = n - i

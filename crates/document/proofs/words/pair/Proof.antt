@@ -2,7 +2,7 @@
 use mathlib.Core.Path.{◌∙◌}
 use native.Mathlib.Omega.{arith}
 use borrow.Author.Rules.{rules}
-use Rattle.document.proofs.WordCells.{split-pair}
+use Rattle.document.proofs.WordCells.{split_pair}
 use Rattle.document.proofs.words.pair.Statement.{statement}
 use Rattle.document.proofs.words.pair.Tie as tie
 
@@ -10,7 +10,7 @@ returns : tie.Need-returns
 returns c =
     let v = c.before.wide in
     let w = c.wide2 in (
-      split-pair v.result w.result v.ensures.1 w.ensures.1 ∙ cc (v.ensures.0, w.ensures.0),
+      split_pair v.result w.result v.ensures.1 w.ensures.1 ∙ cc (v.ensures.0, w.ensures.0),
       omega (arith, v.ensures.1, w.ensures.1),
     )
 

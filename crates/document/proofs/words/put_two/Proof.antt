@@ -2,7 +2,7 @@
 use native.Mathlib.Omega.{arith}
 use borrow.Author.Rules.{rules}
 use lib.ListN.{length-set}
-use Rattle.document.proofs.WordCells.{put-pair}
+use Rattle.document.proofs.WordCells.{put_pair}
 use Rattle.document.proofs.words.put_two.Statement.{statement}
 use Rattle.document.proofs.words.put_two.Tie as tie
 
@@ -14,7 +14,7 @@ second c =
 returns : tie.Need-returns
 returns c =
     let s = c.before.before.before in
-    put-pair s.args.rows.now s.args.at s.args.x c.before.low-cell.result c.low-cell2.result s.requires c.before.low-cell.ensures c.low-cell2.ensures
+    put_pair s.args.rows.now s.args.at s.args.x c.before.low-cell.result c.low-cell2.result s.requires c.before.low-cell.ensures c.low-cell2.ensures
 
 pub put-two-spec : {M : Type 1} → statement M
 put-two-spec =

@@ -1,12 +1,12 @@
 -- The two cells at the place. Assumes nothing.
 use mathlib.Core.Path.{◌∙◌}
 use borrow.Author.Rules.{rules}
-use Rattle.document.proofs.WordCells.{cells-two}
+use Rattle.document.proofs.WordCells.{cells_two}
 use Rattle.document.proofs.words.two.Statement.{statement}
 use Rattle.document.proofs.words.two.Tie as tie
 
 returns : tie.Need-returns
-returns c = let a = c.before.before.before.before.args in (c.pair.ensures.0 ∙ cells-two a.cells.now a.at, c.pair.ensures.1)
+returns c = let a = c.before.before.before.before.args in (c.pair.ensures.0 ∙ cells_two a.cells.now a.at, c.pair.ensures.1)
 
 pub two-spec : {M : Type 1} → statement M
 two-spec =

@@ -6,7 +6,7 @@ use borrow.Fn.Kinds.{In}
 use borrow.Fn.PlainCycle.{Measures, is, falls, and}
 use lib.ListN.{length}
 use Rattle.automaton.specs.Stored.{decode}
-use Rattle.emptiness.proofs.Tabling.{Loops, loops-more}
+use Rattle.emptiness.proofs.Tabling.{Loops, loops_more}
 use Rattle.emptiness.proofs.Rooted.{building}
 use Rattle.emptiness.proofs.building.build.Reads as build
 use Rattle.emptiness.proofs.building.build.Kinds as build-kinds
@@ -85,7 +85,7 @@ loop-less t c = search building
 loop-again : (t : ℕ) → build-lts.Need-loop-preserved (read t) (build-at t) build.Post invariant-loop decreases-loop
 loop-again t c = (
   search rules,
-  loops-more _ _ _ _ _ _ _ _ _ _ _ _ _ _ _ _ _ c.before.before.before.before.before.before.before.before.loop.invariant.1 c.before.before.before.before.before.before.before.before.before.before.rule-symbol.ensures c.before.before.before.before.before.before.before.before.before.arity.ensures _ _ _ _ _ _
+  loops_more _ _ _ _ _ _ _ _ _ _ _ _ _ _ _ _ _ c.before.before.before.before.before.before.before.before.loop.invariant.1 c.before.before.before.before.before.before.before.before.before.before.rule-symbol.ensures c.before.before.before.before.before.before.before.before.before.arity.ensures _ _ _ _ _ _
       c.before.before.before.before.before.before.before.loop-test.true c.before.before.before.before.before.before.rule-child.ensures refl c.before.before.before.before.before.before.before.before.before.before.before.if3.false c.before.before.build.ensures,
 )
 

@@ -1,6 +1,6 @@
 -- `emptiness::marking::child_marked` meets its contract. Assumes nothing.
 use borrow.Author.Rules.{rules}
-use Rattle.emptiness.proofs.Marks.{marked-at}
+use Rattle.emptiness.proofs.Marks.{marked_at}
 use Rattle.emptiness.proofs.marking.child_marked.Statement.{statement}
 use Rattle.emptiness.proofs.marking.child_marked.Tie as tie
 
@@ -12,4 +12,4 @@ child-marked-spec =
     (λ c. search rules)
     (λ c. search rules)
     (λ c κs. search rules)
-    (λ c. marked-at _ c.before.before.before.before.args.t2 _ _ _ c.is-marked.ensures c.before.before.size.ensures.0))
+    (λ c. marked_at _ c.before.before.before.before.args.t2 _ _ _ c.is-marked.ensures c.before.before.size.ensures.0))

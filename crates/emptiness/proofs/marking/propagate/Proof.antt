@@ -2,7 +2,7 @@
 use mathlib.Core.Path.{refl}
 use borrow.Author.Rules.{rules}
 use Rattle.automaton.specs.Stored.{decode}
-use Rattle.emptiness.proofs.Links.{Follows, follows-less, rule-in, following}
+use Rattle.emptiness.proofs.Links.{Follows, follows_less, rule_in_lem, following}
 use Rattle.emptiness.proofs.marking.propagate.Statement.{statement}
 use Rattle.emptiness.proofs.marking.propagate.Tie as tie
 
@@ -15,11 +15,11 @@ decreases-loop set marks next₀ added₀ n last before m₀ at₀ next added m 
 known : tie.Need-try-rule-requires invariant-loop decreases-loop
 known c κs = (
   search rules,
-  rule-in _ _ _ _ _ _ _ _ c.before.before.before.before.before.before.before.before.before.before.before.requires.1 _ _ _ _ _ c.before.before.before.loop.invariant c.before.before.loop-test.true refl _ c.before.before.before.before.number_at.ensures c.before.before.before.before.before.if1.false _ refl,
+  rule_in_lem _ _ _ _ _ _ _ _ c.before.before.before.before.before.before.before.before.before.before.before.requires.1 _ _ _ _ _ c.before.before.before.loop.invariant c.before.before.loop-test.true refl _ c.before.before.before.before.number_at.ensures c.before.before.before.before.before.if1.false _ refl,
 )
 
 less : tie.Need-loop-smaller invariant-loop decreases-loop
-less c = follows-less _ _ _ _ _ _ _ _ c.before.before.before.before.before.before.before.before.before.before.before.before.before.requires.1 _ _ _ _ _ c.before.before.before.before.before.loop.invariant c.before.before.before.before.loop-test.true refl _ c.before.before.before.before.before.before.number_at.ensures c.before.before.before.before.before.before.before.if1.false _ c.number-at2.ensures
+less c = follows_less _ _ _ _ _ _ _ _ c.before.before.before.before.before.before.before.before.before.before.before.before.before.requires.1 _ _ _ _ _ c.before.before.before.before.before.loop.invariant c.before.before.before.before.loop-test.true refl _ c.before.before.before.before.before.before.number_at.ensures c.before.before.before.before.before.before.before.if1.false _ c.number-at2.ensures
 
 pub propagate-spec : {M : Type 1} → statement M
 propagate-spec =

@@ -4,7 +4,7 @@ use Prim.Native.Nat.{◌≤◌, ◌*◌, ◌-◌}
 use borrow.Author.Rules.{rules}
 use Rattle.automaton.specs.Stored.{decode}
 use Rattle.emptiness.specs.Places.{Linked}
-use Rattle.emptiness.proofs.Links.{linked-all, few-places, place-small}
+use Rattle.emptiness.proofs.Links.{linked_all, few_places, place_small}
 use Rattle.emptiness.proofs.places.link.Statement.{statement}
 use Rattle.emptiness.proofs.places.link.Tie as tie
 
@@ -16,7 +16,7 @@ decreases-loop set rules last₀ before₀ n p₀ last before p = n - p
 
 add-p : tie.Need-overflow-add-p invariant-loop decreases-loop
 add-p c =
-    let l = place-small _ _ _ _ c.before.before.before.before.before.before.requires.0 c.before.before.before.before.before.before.requires.1 c.before.before.before.before.loop.invariant.1 c.before.before.before.loop-test.true in
+    let l = place_small _ _ _ _ c.before.before.before.before.before.before.requires.0 c.before.before.before.before.before.before.requires.1 c.before.before.before.before.loop.invariant.1 c.before.before.before.loop-test.true in
     search rules
 
 pub link-spec : {M : Type 1} → statement M
@@ -25,10 +25,10 @@ link-spec =
     (tie.spec
     invariant-loop
     decreases-loop
-    (λ c. search (few-places, rules))
+    (λ c. search (few_places, rules))
     (λ c. search rules)
-    (λ c κs. place-small _ _ _ _ c.before.before.before.before.before.requires.0 c.before.before.before.before.before.requires.1 c.before.before.before.loop.invariant.1 c.before.before.loop-test.true)
+    (λ c κs. place_small _ _ _ _ c.before.before.before.before.before.requires.0 c.before.before.before.before.before.requires.1 c.before.before.before.loop.invariant.1 c.before.before.loop-test.true)
     add-p
     (λ c. search rules)
     (λ c. (search rules, search rules, c.link-place.ensures c.before.before.before.before.loop.invariant.2))
-    (λ c. search (linked-all, rules)))
+    (λ c. search (linked_all, rules)))

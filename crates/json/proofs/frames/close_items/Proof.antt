@@ -1,8 +1,8 @@
 -- What closes the items is refused, or its leaf is the rest of the last one. Assumes nothing.
 use Prim.Native.Nat.{◌-◌}
 use borrow.Author.Rules.{rules}
-use Rattle.json.proofs.Holding.{said, said-no, says-since}
-use Rattle.json.proofs.Framing.{close-refused, close-rest, framed-closed}
+use Rattle.json.proofs.Holding.{said, said_no, says_since}
+use Rattle.json.proofs.Framing.{close_refused, close_rest, framed_closed}
 use Rattle.json.proofs.frames.close_items.Statement.{statement}
 use Rattle.json.proofs.frames.close_items.Tie as tie
 
@@ -13,13 +13,13 @@ unwind-requires : tie.Need-unwind-requires
 unwind-requires c κs =
     let a = c.before.before.before.before.before.before.before.before.before.before.before.before.args in
     let s = said c.before.before.before.before.before.before.close.ensures c.before.before.before.before.r.given.1 in
-    (s.holds, ((s.inside, s.behind), framed-closed a.rows.now a.starts.now a.used a.texts _ _ _ _ s c.before.before.before.before.before.before.before.before.before.before.before.before.requires.1.1.1))
+    (s.holds, ((s.inside, s.behind), framed_closed a.rows.now a.starts.now a.used a.texts _ _ _ _ s c.before.before.before.before.before.before.before.before.before.before.before.before.requires.1.1.1))
 
 returns : tie.Need-returns
-returns c = close-refused c.before.before.before.before.before.before.before.before.before.args.frames.now c.before.before.before.before.before.before.before.before.before.args.low (c.before.before.before.before.before.before.before.before.before.args.top - c.before.before.before.before.before.before.before.before.before.args.low) (said-no c.before.before.before.close.ensures c.before.w.given.1)
+returns c = close_refused c.before.before.before.before.before.before.before.before.before.args.frames.now c.before.before.before.before.before.before.before.before.before.args.low (c.before.before.before.before.before.before.before.before.before.args.top - c.before.before.before.before.before.before.before.before.before.args.low) (said_no c.before.before.before.close.ensures c.before.w.given.1)
 
 returns-2 : tie.Need-returns-2
-returns-2 c = let s = said c.before.before.before.before.before.before.before.close.ensures c.before.before.before.before.before.r.given.1 in close-rest c.before.before.before.before.before.before.before.before.before.before.before.before.before.args.frames.now c.before.before.before.before.before.before.before.before.before.before.before.before.before.args.low (c.before.before.before.before.before.before.before.before.before.before.before.before.before.args.top - c.before.before.before.before.before.before.before.before.before.before.before.before.before.args.low) s.outcome (says-since _ _ s.more s.same c.unwind.ensures)
+returns-2 c = let s = said c.before.before.before.before.before.before.before.close.ensures c.before.before.before.before.before.r.given.1 in close_rest c.before.before.before.before.before.before.before.before.before.before.before.before.before.args.frames.now c.before.before.before.before.before.before.before.before.before.before.before.before.before.args.low (c.before.before.before.before.before.before.before.before.before.before.before.before.before.args.top - c.before.before.before.before.before.before.before.before.before.before.before.before.before.args.low) s.outcome (says_since _ _ s.more s.same c.unwind.ensures)
 
 pub close-items-spec : {M : Type 1} → statement M
 close-items-spec =

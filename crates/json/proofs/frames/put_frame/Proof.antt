@@ -3,7 +3,7 @@ use Prim.Native.Nat.{◌+◌, ◌*◌}
 use native.Mathlib.Omega.{arith}
 use lib.ListN.{set, length-set}
 use borrow.Author.Rules.{rules}
-use Rattle.json.proofs.Framing.{frame-set}
+use Rattle.json.proofs.Framing.{frame_set}
 use Rattle.json.proofs.frames.put_frame.Statement.{statement}
 use Rattle.json.proofs.frames.put_frame.Tie as tie
 
@@ -14,7 +14,7 @@ slice-write-frames-3 : tie.Need-slice-write-frames-3
 slice-write-frames-3 c = omega (arith, c.requires, length-set c.args.frames.now (3 * c.args.level) c.args.symbol, length-set (set c.args.frames.now (3 * c.args.level) c.args.symbol) (3 * c.args.level + 1) c.args.key.0)
 
 returns : tie.Need-returns
-returns c = frame-set _ _ _ _ _ c.requires
+returns c = frame_set _ _ _ _ _ c.requires
 
 pub put-frame-spec : {M : Type 1} → statement M
 put-frame-spec =

@@ -4,16 +4,16 @@ use native.Mathlib.Omega.{arith}
 use borrow.Author.Rules.{rules}
 use Prim.Native.Nat.{◌-◌}
 use Rattle.json.specs.Grammar.{good}
-use Rattle.json.specs.State.{builtIn}
+use Rattle.json.specs.State.{built_in}
 use Rattle.json.specs.Frames.{joins}
-use Rattle.json.proofs.Holding.{said, said-no}
-use Rattle.json.proofs.Framing.{Unwinding, unwind-refused, unwind-more, unwind-done}
+use Rattle.json.proofs.Holding.{said, said_no}
+use Rattle.json.proofs.Framing.{Unwinding, unwind_refused, unwind_more, unwind_done}
 use Rattle.json.proofs.frames.unwind.Statement.{statement}
 use Rattle.json.proofs.frames.unwind.Tie as tie
 
 abbrev invariant-loop : tie.invariant-loop
 invariant-loop text starts found rows₀ slots₀ near₀ frames used texts limit next low top r₀ p₀ n₀ m₀ l₀ rows slots near r p n m l =
-    Unwinding text starts found frames used texts limit low top (joins limit frames low (top - low) (good r₀.0 next (builtIn text rows₀ starts used texts))) rows slots r.0 p n m l
+    Unwinding text starts found frames used texts limit low top (joins limit frames low (top - low) (good r₀.0 next (built_in text rows₀ starts used texts))) rows slots r.0 p n m l
 
 abbrev decreases-loop : tie.decreases-loop
 decreases-loop text starts found rows₀ slots₀ near₀ frames used texts limit next low top r₀ p₀ n₀ m₀ l₀ rows slots near r p n m l =
@@ -51,16 +51,16 @@ join-requires c κs =
     (u.holds, (u.behind, (f.plain, ((f.key, omega (arith, f.value, u.grown), u.inside), λ q. let o = f.own q in omega (arith, o, u.grown)))))
 
 returns : tie.Need-returns invariant-loop decreases-loop
-returns c = unwind-refused c.before.before.before.before.before.before.before.before.before.before.before.loop.invariant c.before.before.before.before.before.before.before.before.before.before.loop-test.true (said-no c.before.before.before.join.ensures c.before.w.given.1)
+returns c = unwind_refused c.before.before.before.before.before.before.before.before.before.before.before.loop.invariant c.before.before.before.before.before.before.before.before.before.before.loop-test.true (said_no c.before.before.before.join.ensures c.before.w.given.1)
 
 loop-again : tie.Need-loop-preserved invariant-loop decreases-loop
-loop-again c = unwind-more c.before.before.before.before.before.before.before.before.before.before.before.loop.invariant c.before.before.before.before.before.before.before.before.before.before.loop-test.true (said c.before.before.before.join.ensures c.before.x.given.1)
+loop-again c = unwind_more c.before.before.before.before.before.before.before.before.before.before.before.loop.invariant c.before.before.before.before.before.before.before.before.before.before.loop-test.true (said c.before.before.before.join.ensures c.before.x.given.1)
 
 loop-less : tie.Need-loop-smaller invariant-loop decreases-loop
 loop-less c = omega (arith, c.before.before.before.before.before.before.before.before.before.before.loop-test.true)
 
 returns-2 : tie.Need-returns-2 invariant-loop decreases-loop
-returns-2 c = unwind-done c.before.loop.invariant c.loop-test.false refl
+returns-2 c = unwind_done c.before.loop.invariant c.loop-test.false refl
 
 pub unwind-spec : {M : Type 1} → statement M
 unwind-spec =

@@ -2,8 +2,8 @@
 use Prim.Native.Nat.{◌-◌}
 use native.Mathlib.Omega.{arith}
 use borrow.Author.Rules.{rules}
-use Rattle.json.specs.Keys.{maxKeys}
-use Rattle.json.proofs.KeyFilling.{Filling, filling-none, filling-more, entered-when, unfit-when, too_many, list-fills, list-fails}
+use Rattle.json.specs.Keys.{max_keys}
+use Rattle.json.proofs.KeyFilling.{Filling, filling_none, filling_more, entered_when, unfit_when, too_many, list_fills, list_fails}
 use Rattle.json.proofs.keys.fill_keys.Statement.{statement}
 use Rattle.json.proofs.keys.fill_keys.Tie as tie
 
@@ -11,13 +11,13 @@ abbrev invariant-loop : tie.invariant-loop
 invariant-loop list places₀ key-slots₀ a₀ n₀ places key-slots a n = Filling list places key-slots n a
 
 abbrev decreases-loop : tie.decreases-loop
-decreases-loop list places₀ key-slots₀ a₀ n₀ places key-slots a n = maxKeys - n
+decreases-loop list places₀ key-slots₀ a₀ n₀ places key-slots a n = max_keys - n
 
 loop-holds : tie.Need-loop-init invariant-loop decreases-loop
-loop-holds c = filling-none _ _ _ c.before.requires.0 c.before.requires.1
+loop-holds c = filling_none _ _ _ c.before.requires.0 c.before.requires.1
 
 returns : tie.Need-returns invariant-loop decreases-loop
-returns c = list-fails (too_many c.before.before.loop.invariant c.before.loop-test.true c.if1.true)
+returns c = list_fails (too_many c.before.before.loop.invariant c.before.loop-test.true c.if1.true)
 
 enter-requires : tie.Need-enter-requires invariant-loop decreases-loop
 enter-requires c κs =
@@ -33,13 +33,13 @@ add-smaller c =
 loop-again : tie.Need-loop-preserved invariant-loop decreases-loop
 loop-again c =
     let v = c.before.before.before.before.before.before.before.before.loop.invariant in
-    filling-more v.starts (c.before.before.before.before.before.line-end.ensures v.starts.inside) c.smaller.ensures (entered-when c.before.before.enter.ensures c.before.if2.true)
+    filling_more v.starts (c.before.before.before.before.before.line-end.ensures v.starts.inside) c.smaller.ensures (entered_when c.before.before.enter.ensures c.before.if2.true)
 
 returns-2 : tie.Need-returns-2 invariant-loop decreases-loop
-returns-2 c = list-fails (unfit-when c.before.enter.ensures c.if2.false)
+returns-2 c = list_fails (unfit_when c.before.enter.ensures c.if2.false)
 
 returns-3 : tie.Need-returns-3 invariant-loop decreases-loop
-returns-3 c = list-fills c.before.loop.invariant c.loop-test.false
+returns-3 c = list_fills c.before.loop.invariant c.loop-test.false
 
 pub fill-keys-spec : {M : Type 1} → statement M
 fill-keys-spec =

@@ -5,17 +5,17 @@ use mathlib.Core.List.{List}
 use Prim.Native.Nat.{ℕ, ◌-◌}
 use native.Mathlib.Omega.{arith}
 use borrow.Author.Rules.{rules}
-use Rattle.document.proofs.Searching.{Searched, searched-none, searched-free, searched-known, searched-more, searched-all}
-use Rattle.jsontext.specs.Strings.{stringAt}
-use Rattle.jsontext.specs.Decoded.{isText}
+use Rattle.document.proofs.Searching.{Searched, searched_none, searched_free, searched_known, searched_more, searched_all}
+use Rattle.jsontext.specs.Strings.{string_at}
+use Rattle.jsontext.specs.Decoded.{is_text}
 use Rattle.json.specs.KeyTable.{key_at}
-use Rattle.json.proofs.Keying.{not_listed, listed_below, held-line, find-line}
+use Rattle.json.proofs.Keying.{not_listed, listed_below, held_line, find_line}
 use Rattle.json.proofs.keys.find_key.Statement.{statement}
 use Rattle.json.proofs.keys.find_key.Tie as tie
 
 -- the string at a place is line k
 abbrev is? : List ℕ → ℕ → List ℕ → ℕ → Bool
-is? text at list k = isText (stringAt text at) (key_at list k)
+is? text at list k = is_text (string_at text at) (key_at list k)
 
 abbrev invariant-loop : tie.invariant-loop
 invariant-loop text classes list places key-slots slot at d₀ d = Searched key-slots (is? text at list) slot d
@@ -24,7 +24,7 @@ abbrev decreases-loop : tie.decreases-loop
 decreases-loop text classes list places key-slots slot at d₀ d = 2048 - d
 
 loop-holds : tie.Need-loop-init invariant-loop decreases-loop
-loop-holds c = let a = c.before.before.args in searched-none a.key-slots.now (is? a.text.now a.at a.list.now) a.slot
+loop-holds c = let a = c.before.before.args in searched_none a.key-slots.now (is? a.text.now a.at a.list.now) a.slot
 
 returns : tie.Need-returns invariant-loop decreases-loop
 returns c =
@@ -32,13 +32,13 @@ returns c =
     let a = c.before.before.before.before.before.before.before.args in
     let x = c.before.before.before.before.before.before.before.requires.0 in
     let z = c.before.before.size in
-    let free = searched-free a.key-slots.now (is? a.text.now a.at a.list.now) a.slot l.d z.result _ l.invariant (search rules) z.ensures.0 refl c.if1.true in
-    (find-line x (stringAt a.text.now a.at) a.slot _ free, not_listed)
+    let free = searched_free a.key-slots.now (is? a.text.now a.at a.list.now) a.slot l.d z.result _ l.invariant (search rules) z.ensures.0 refl c.if1.true in
+    (find_line x (string_at a.text.now a.at) a.slot _ free, not_listed)
 
 key-line-requires : tie.Need-key-line-requires invariant-loop decreases-loop
 key-line-requires c κs =
     let x = c.before.before.before.before.before.before.before.requires.0 in
-    let below = held-line x _ refl c.if1.false in
+    let below = held_line x _ refl c.if1.false in
     (omega (arith, below, x.few), x.stands _ below)
 
 returns-2 : tie.Need-returns-2 invariant-loop decreases-loop
@@ -48,9 +48,9 @@ returns-2 c =
     let x = c.before.before.before.before.before.before.before.before.before.before.requires.0 in
     let z = c.before.before.before.before.before.size in
     let left = c.before.before.before.if1.false in
-    let tested = c.before.is-text.ensures c.before.before.before.before.before.before.before.before.before.before.requires.1 ∙ ap (isText (stringAt a.text.now a.at)) c.before.before.key-line.ensures in
-    let known = searched-known a.key-slots.now (is? a.text.now a.at a.list.now) a.slot l.d z.result _ l.invariant (search rules) z.ensures.0 refl c.before.is-text.result left tested c.if2.true in
-    (find-line x (stringAt a.text.now a.at) a.slot _ known, listed_below (held-line x _ refl left) x.few)
+    let tested = c.before.is_text_lem.ensures c.before.before.before.before.before.before.before.before.before.before.requires.1 ∙ ap (is_text (string_at a.text.now a.at)) c.before.before.key-line.ensures in
+    let known = searched_known a.key-slots.now (is? a.text.now a.at a.list.now) a.slot l.d z.result _ l.invariant (search rules) z.ensures.0 refl c.before.is_text_lem.result left tested c.if2.true in
+    (find_line x (string_at a.text.now a.at) a.slot _ known, listed_below (held_line x _ refl left) x.few)
 
 loop-again : tie.Need-loop-preserved invariant-loop decreases-loop
 loop-again c =
@@ -58,16 +58,16 @@ loop-again c =
     let a = c.before.before.before.before.before.before.before.before.before.before.args in
     let z = c.before.before.before.before.before.size in
     let left = c.before.before.before.if1.false in
-    let tested = c.before.is-text.ensures c.before.before.before.before.before.before.before.before.before.before.requires.1 ∙ ap (isText (stringAt a.text.now a.at)) c.before.before.key-line.ensures in
-    searched-more a.key-slots.now (is? a.text.now a.at a.list.now) a.slot l.d z.result _ l.invariant (search rules) z.ensures.0 refl c.before.is-text.result left tested c.if2.false
+    let tested = c.before.is_text_lem.ensures c.before.before.before.before.before.before.before.before.before.before.requires.1 ∙ ap (is_text (string_at a.text.now a.at)) c.before.before.key-line.ensures in
+    searched_more a.key-slots.now (is? a.text.now a.at a.list.now) a.slot l.d z.result _ l.invariant (search rules) z.ensures.0 refl c.before.is_text_lem.result left tested c.if2.false
 
 returns-3 : tie.Need-returns-3 invariant-loop decreases-loop
 returns-3 c =
     let l = c.before.loop in
     let a = c.before.before.before.before.args in
     let x = c.before.before.before.before.requires.0 in
-    let crowded = searched-all a.key-slots.now (is? a.text.now a.at a.list.now) a.slot l.d l.invariant (search rules) in
-    (find-line x (stringAt a.text.now a.at) a.slot _ crowded, not_listed)
+    let crowded = searched_all a.key-slots.now (is? a.text.now a.at a.list.now) a.slot l.d l.invariant (search rules) in
+    (find_line x (string_at a.text.now a.at) a.slot _ crowded, not_listed)
 
 pub find-key-spec : {M : Type 1} → statement M
 find-key-spec =

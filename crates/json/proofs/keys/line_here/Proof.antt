@@ -5,9 +5,9 @@ use borrow.Author.Rules.{rules}
 use native.Mathlib.Omega.{arith}
 use lib.ListN.{length}
 use Rattle.names.specs.Lines.{lines}
-use Rattle.jsontext.proofs.StringEnds.{string-ahead}
+use Rattle.jsontext.proofs.StringEnds.{string_ahead}
 use Rattle.json.specs.KeyTable.{Stands}
-use Rattle.json.proofs.Keying.{line-placed, line-string}
+use Rattle.json.proofs.Keying.{line_placed, line_string}
 use Rattle.json.proofs.keys.line_here.Statement.{statement}
 use Rattle.json.proofs.keys.line_here.Tie as tie
 
@@ -15,7 +15,7 @@ module _ (c : tie.Else1) where
   listed : c.before.before.size.result < length (lines c.before.before.before.before.before.args.list.now)
   listed =
       let b = c.before.before.before.before.before in
-      line-placed b.requires.1.1 _ (omega (arith, c.before.before.size.ensures.0, b.requires.0)) (λ z. c.if1.false z.0)
+      line_placed b.requires.1.1 _ (omega (arith, c.before.before.size.ensures.0, b.requires.0)) (λ z. c.if1.false z.0)
 
   stands : Stands c.before.before.before.before.before.args.list.now c.before.before.before.before.before.args.places.now c.before.before.size.result
   stands = c.before.before.before.before.before.requires.1.1.stands _ listed
@@ -23,14 +23,14 @@ module _ (c : tie.Else1) where
 -- the place after the key stands inside the text
 room : tie.Need-overflow-add-result-2
 room c =
-    let a = string-ahead _ _ _ _ (c.before.written.ensures c.if2.true) in
+    let a = string_ahead _ _ _ _ (c.before.written.ensures c.if2.true) in
     record { fits = omega (arith, a.inside, c.before.before.before.before.before.before.before.before.before.well-formed.0) }
 
 returns-2 : tie.Need-returns-2
 returns-2 c f =
     let x = c.before.before.before.before in
     let e = c.before.before.before.before.before.before.size.ensures.0 in
-    (omega (arith, listed x, e), line-string _ (sym e) (stands x) _ (c.before.written.ensures c.if2.true))
+    (omega (arith, listed x, e), line_string _ (sym e) (stands x) _ (c.before.written.ensures c.if2.true))
 
 pub line-here-spec : {M : Type 1} → statement M
 line-here-spec =

@@ -6,9 +6,9 @@ use Prim.Native.Nat.{ℕ, ◌-◌}
 use native.Mathlib.Omega.{arith}
 use borrow.Author.Rules.{rules}
 use Rattle.model.specs.Lists.{eq_list}
-use Rattle.document.proofs.Searching.{Searched, searched-none, searched-free, searched-known, searched-more, searched-all}
-use Rattle.json.specs.KeyTable.{key_at, freeIn}
-use Rattle.json.proofs.Keying.{held-line}
+use Rattle.document.proofs.Searching.{Searched, searched_none, searched_free, searched_known, searched_more, searched_all}
+use Rattle.json.specs.KeyTable.{key_at, free_in}
+use Rattle.json.proofs.Keying.{held_line}
 use Rattle.json.proofs.keys.line_slot.Statement.{statement}
 use Rattle.json.proofs.keys.line_slot.Tie as tie
 
@@ -23,19 +23,19 @@ abbrev decreases-loop : tie.decreases-loop
 decreases-loop list places key-slots line slot d₀ d = 2048 - d
 
 loop-holds : tie.Need-loop-init invariant-loop decreases-loop
-loop-holds c = let a = c.before.before.args in searched-none a.key-slots.now (same? a.line.now a.list.now) a.slot
+loop-holds c = let a = c.before.before.args in searched_none a.key-slots.now (same? a.line.now a.list.now) a.slot
 
 returns : tie.Need-returns invariant-loop decreases-loop
 returns c =
     let l = c.before.before.before.before.loop in
     let a = c.before.before.before.before.before.before.before.args in
     let z = c.before.before.size in
-    ap freeIn (searched-free a.key-slots.now (same? a.line.now a.list.now) a.slot l.d z.result _ l.invariant (search rules) z.ensures.0 refl c.if1.true)
+    ap free_in (searched_free a.key-slots.now (same? a.line.now a.list.now) a.slot l.d z.result _ l.invariant (search rules) z.ensures.0 refl c.if1.true)
 
 key-line-requires : tie.Need-key-line-requires invariant-loop decreases-loop
 key-line-requires c κs =
     let x = c.before.before.before.before.before.before.before.requires.1 in
-    let below = held-line x _ refl c.if1.false in
+    let below = held_line x _ refl c.if1.false in
     (omega (arith, below, x.few), x.stands _ below)
 
 returns-2 : tie.Need-returns-2 invariant-loop decreases-loop
@@ -45,7 +45,7 @@ returns-2 c =
     let z = c.before.before.before.before.before.size in
     let left = c.before.before.before.if1.false in
     let tested = c.before.same.ensures ∙ ap (eq_list a.line.now) c.before.before.key-line.ensures in
-    ap freeIn (searched-known a.key-slots.now (same? a.line.now a.list.now) a.slot l.d z.result _ l.invariant (search rules) z.ensures.0 refl c.before.same.result left tested c.if2.true)
+    ap free_in (searched_known a.key-slots.now (same? a.line.now a.list.now) a.slot l.d z.result _ l.invariant (search rules) z.ensures.0 refl c.before.same.result left tested c.if2.true)
 
 loop-again : tie.Need-loop-preserved invariant-loop decreases-loop
 loop-again c =
@@ -54,13 +54,13 @@ loop-again c =
     let z = c.before.before.before.before.before.size in
     let left = c.before.before.before.if1.false in
     let tested = c.before.same.ensures ∙ ap (eq_list a.line.now) c.before.before.key-line.ensures in
-    searched-more a.key-slots.now (same? a.line.now a.list.now) a.slot l.d z.result _ l.invariant (search rules) z.ensures.0 refl c.before.same.result left tested c.if2.false
+    searched_more a.key-slots.now (same? a.line.now a.list.now) a.slot l.d z.result _ l.invariant (search rules) z.ensures.0 refl c.before.same.result left tested c.if2.false
 
 returns-3 : tie.Need-returns-3 invariant-loop decreases-loop
 returns-3 c =
     let l = c.before.loop in
     let a = c.before.before.before.before.args in
-    ap freeIn (searched-all a.key-slots.now (same? a.line.now a.list.now) a.slot l.d l.invariant (search rules))
+    ap free_in (searched_all a.key-slots.now (same? a.line.now a.list.now) a.slot l.d l.invariant (search rules))
 
 pub line-slot-spec : {M : Type 1} → statement M
 line-slot-spec =

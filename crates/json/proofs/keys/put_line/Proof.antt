@@ -1,7 +1,7 @@
 -- The five places are those of the line. Assumes nothing.
 use native.Mathlib.Omega.{arith}
 use borrow.Author.Rules.{rules}
-use Rattle.json.proofs.KeyFilling.{line-put}
+use Rattle.json.proofs.KeyFilling.{line_put}
 use Rattle.json.proofs.keys.put_line.Statement.{statement}
 use Rattle.json.proofs.keys.put_line.Tie as tie
 
@@ -9,7 +9,7 @@ returns : tie.Need-returns
 returns c =
     let b = c.before.before.before in
     let q = c.before.size.ensures.0 in
-    line-put _ _ _ _ _ _ _ b.requires.1 (omega (arith, q, b.requires.0)) _ q c.token-of.ensures.0
+    line_put _ _ _ _ _ _ _ b.requires.1 (omega (arith, q, b.requires.0)) _ q c.token-of.ensures.0
 
 pub put-line-spec : {M : Type 1} → statement M
 put-line-spec =

@@ -4,10 +4,10 @@ use native.Mathlib.Omega.{arith}
 use borrow.Author.Rules.{rules}
 use Rattle.base.proofs.Bytes.{byte_inside}
 use Rattle.jsontext.specs.StringAnswers.{slot_of}
-use Rattle.json.specs.State.{builtIn}
-use Rattle.json.proofs.LeafWays.{text-fault, whole-string, no-string, probed-at}
-use Rattle.json.proofs.TextLeaves.{known-inside, known_read}
-use Rattle.json.proofs.Glancing.{told-known, told_free}
+use Rattle.json.specs.State.{built_in}
+use Rattle.json.proofs.LeafWays.{text_fault, whole_string, no_string, probed_at}
+use Rattle.json.proofs.TextLeaves.{known_inside, known_read}
+use Rattle.json.proofs.Glancing.{told_known, told_free}
 use Rattle.json.proofs.leaves.string_leaf.Statement.{statement}
 use Rattle.json.proofs.leaves.string_leaf.Tie as tie
 
@@ -19,12 +19,12 @@ add-next c =
 row-of-requires : tie.Need-row-of-requires
 row-of-requires c κs =
     let (h, lent) = c.before.before.before.before.before.before.before.before.before.before.before.before.requires in
-    known-inside h (told-known c.before.before.before.before.glance.ensures c.before.before.k.given.1)
+    known_inside h (told_known c.before.before.before.before.glance.ensures c.before.before.k.given.1)
 
 known : tie.Need-returns
 known c =
     let (h, lent) = c.before.before.before.before.before.before.before.before.before.before.before.before.before.requires in
-    known_read h (told-known c.before.before.before.before.before.glance.ensures c.before.before.before.k.given.1) (omega arith) _ c.row_of.ensures
+    known_read h (told_known c.before.before.before.before.before.glance.ensures c.before.before.before.k.given.1) (omega arith) _ c.row_of.ensures
 
 new-text-requires : tie.Need-new-text-requires
 new-text-requires c κs =
@@ -33,11 +33,11 @@ new-text-requires c κs =
 
 text-leaf-requires : tie.Need-text-leaf-requires
 text-leaf-requires c κs =
-    let w = whole-string c.before.before.before.before.before.before.before.before.before.before.before.before.before.before.before.args.text.now c.before.before.before.before.before.before.before.before.before.before.before.before.before.before.before.args.at (ap slot_of (sym c.before.before.before.before.before.before.before.before.slot.given.1) ∙ c.before.before.before.before.before.before.before.before.before.before.read.ensures c.before.before.before.before.before.before.before.before.before.before.before.before.before.before.before.requires.1) in
-    (c.before.before.before.before.before.before.before.before.before.before.before.before.before.before.before.requires.0, (omega (arith, w.behind), probed-at _ _ w c.before.before.before.before.look_up.ensures))
+    let w = whole_string c.before.before.before.before.before.before.before.before.before.before.before.before.before.before.before.args.text.now c.before.before.before.before.before.before.before.before.before.before.before.before.before.before.before.args.at (ap slot_of (sym c.before.before.before.before.before.before.before.before.slot.given.1) ∙ c.before.before.before.before.before.before.before.before.before.before.read.ensures c.before.before.before.before.before.before.before.before.before.before.before.before.before.before.before.requires.1) in
+    (c.before.before.before.before.before.before.before.before.before.before.before.before.before.before.before.requires.0, (omega (arith, w.behind), probed_at _ _ w c.before.before.before.before.look_up.ensures))
 
 no_whole : tie.Need-returns-3
-no_whole c = text-fault (builtIn c.before.before.before.before.before.before.before.before.args.text.now c.before.before.before.before.before.before.before.before.args.rows.now c.before.before.before.before.before.before.before.before.args.starts.now c.before.before.before.before.before.before.before.before.args.used c.before.before.before.before.before.before.before.before.args.texts) (no-string c.before.before.before.before.before.before.before.before.args.text.now c.before.before.before.before.before.before.before.before.args.at (ap slot_of (sym c.before.p.given.1) ∙ c.before.before.before.read.ensures c.before.before.before.before.before.before.before.before.requires.1))
+no_whole c = text_fault (built_in c.before.before.before.before.before.before.before.before.args.text.now c.before.before.before.before.before.before.before.before.args.rows.now c.before.before.before.before.before.before.before.before.args.starts.now c.before.before.before.before.before.before.before.before.args.used c.before.before.before.before.before.before.before.before.args.texts) (no_string c.before.before.before.before.before.before.before.before.args.text.now c.before.before.before.before.before.before.before.before.args.at (ap slot_of (sym c.before.p.given.1) ∙ c.before.before.before.read.ensures c.before.before.before.before.before.before.before.before.requires.1))
 
 pub string-leaf-spec : {M : Type 1} → statement M
 string-leaf-spec =
@@ -51,7 +51,7 @@ string-leaf-spec =
     known
     (λ c. search rules)
     new-text-requires
-    (λ c. c.new-text.ensures)
+    (λ c. c.new_text.ensures)
     (λ c. search rules)
     (λ c κs. search rules)
     (λ c. search rules)

@@ -2,25 +2,25 @@
 use native.Mathlib.Omega.{arith}
 use borrow.Author.Rules.{rules}
 use mathlib.Core.Path.{refl, ap, ◌∙◌}
-use Rattle.base.proofs.Words.{word-short, word-whole, word-broken}
-use Rattle.json.specs.State.{builtIn}
-use Rattle.json.proofs.Holding.{no_text, no-child}
-use Rattle.json.proofs.LeafWays.{word-fault, word-is}
+use Rattle.base.proofs.Words.{word_short, word_whole, word_broken}
+use Rattle.json.specs.State.{built_in}
+use Rattle.json.proofs.Holding.{no_text, no_child}
+use Rattle.json.proofs.LeafWays.{word_fault, word_is}
 use Rattle.json.proofs.leaves.word.Statement.{statement}
 use Rattle.json.proofs.leaves.word.Tie as tie
 
 add-t18 : tie.Need-overflow-add-t18
-add-t18 c = omega (arith, word-short _ _ _ _ c.before.word_Bytes.ensures, c.before.before.before.before.requires.1.0)
+add-t18 c = omega (arith, word_short _ _ _ _ c.before.word_Bytes.ensures, c.before.before.before.before.requires.1.0)
 
 returns : tie.Need-returns
-returns c = word-fault _ _ (word-broken _ _ _ _ _ c.before.word_Bytes.ensures c.if1.true)
+returns c = word_fault _ _ (word_broken _ _ _ _ _ c.before.word_Bytes.ensures c.if1.true)
 
 finish-requires : tie.Need-finish-requires
 finish-requires c κs = (c.before.before.before.before.before.before.before.before.requires.0, omega (arith, c.before.before.before.before.if1.false, c.before.before.before.before.before.before.before.before.requires.1.1.0))
 
 returns-2 : tie.Need-returns-2
 returns-2 c =
-    word-is (builtIn c.before.before.before.before.before.before.before.before.before.args.text.now c.before.before.before.before.before.before.before.before.before.args.rows.now c.before.before.before.before.before.before.before.before.before.args.starts.now c.before.before.before.before.before.before.before.before.before.args.used c.before.before.before.before.before.before.before.before.before.args.texts) _ (word-whole _ _ _ _ _ c.before.before.before.before.before.before.word_Bytes.ensures c.before.before.before.before.before.if1.false) refl (c.finish.ensures _ c.before.before.before.before.leaf.ensures (no_text _ _ refl c.before.before.before.before.before.before.before.before.before.requires.1.1.1 no-child))
+    word_is (built_in c.before.before.before.before.before.before.before.before.before.args.text.now c.before.before.before.before.before.before.before.before.before.args.rows.now c.before.before.before.before.before.before.before.before.before.args.starts.now c.before.before.before.before.before.before.before.before.before.args.used c.before.before.before.before.before.before.before.before.before.args.texts) _ (word_whole _ _ _ _ _ c.before.before.before.before.before.before.word_Bytes.ensures c.before.before.before.before.before.if1.false) refl (c.finish.ensures _ c.before.before.before.before.leaf.ensures (no_text _ _ refl c.before.before.before.before.before.before.before.before.before.requires.1.1.1 no_child))
 
 pub word-spec : {M : Type 1} → statement M
 word-spec =

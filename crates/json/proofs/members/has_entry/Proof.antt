@@ -2,7 +2,7 @@
 use Prim.Native.Nat.{◌-◌}
 use native.Mathlib.Omega.{arith}
 use borrow.Author.Rules.{rules}
-use Rattle.json.proofs.Entries.{Passed, passed_none, passed_here, passed-more, passed-all}
+use Rattle.json.proofs.Entries.{Passed, passed_none, passed_here, passed_more, passed_all}
 use Rattle.json.proofs.members.has_entry.Statement.{statement}
 use Rattle.json.proofs.members.has_entry.Tie as tie
 
@@ -22,10 +22,10 @@ returns : tie.Need-returns invariant-loop decreases-loop
 returns c = passed_here _ _ _ _ _ c.before.before.before.loop.invariant c.before.before.loop-test.true c.before.before.before.before.requires c.if1.true
 
 loop-again : tie.Need-loop-preserved invariant-loop decreases-loop
-loop-again c = passed-more _ _ _ _ _ c.before.before.before.loop.invariant c.before.before.loop-test.true c.before.before.before.before.requires c.if1.false
+loop-again c = passed_more _ _ _ _ _ c.before.before.before.loop.invariant c.before.before.loop-test.true c.before.before.before.before.requires c.if1.false
 
 returns-2 : tie.Need-returns-2 invariant-loop decreases-loop
-returns-2 c = passed-all _ _ _ _ _ c.before.loop.invariant c.loop-test.false
+returns-2 c = passed_all _ _ _ _ _ c.before.loop.invariant c.loop-test.false
 
 pub has-entry-spec : {M : Type 1} → statement M
 has-entry-spec =

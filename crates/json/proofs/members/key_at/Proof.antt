@@ -3,8 +3,8 @@ use native.Mathlib.Omega.{arith}
 use borrow.Author.Rules.{rules}
 use Rattle.names.specs.Lines.{lines}
 use Rattle.json.specs.KeyTable.{key_at}
-use Rattle.json.proofs.Finding.{find-own}
-use Rattle.json.proofs.ListedKeys.{key-of-string, listed-key-says, listed_kept, says-of-string}
+use Rattle.json.proofs.Finding.{find_own}
+use Rattle.json.proofs.ListedKeys.{key_of_string, listed_key_says, listed_kept, says_of_string}
 use Rattle.json.proofs.members.key_at.Statement.{statement}
 use Rattle.json.proofs.members.key_at.Tie as tie
 
@@ -15,10 +15,10 @@ returns : tie.Need-returns
 returns c =
     let h = c.before.before.before.before.before.before.key_here.ensures c.before.before.before.before.before.if1.true in
     let apart = c.before.before.before.before.before.before.before.before.before.before.before.requires.1.1.1.distinct in
-    let listed = find-own (lines c.before.before.before.before.before.before.before.before.before.before.before.args.list.now) apart c.before.before.before.before.before.before.before.Line-of.result h.1 in (
+    let listed = find_own (lines c.before.before.before.before.before.before.before.before.before.before.before.args.list.now) apart c.before.before.before.before.before.before.before.Line-of.result h.1 in (
       λ seen marks v.
-          says-of-string (key-of-string _ _ _ seen _ _ (key_at c.before.before.before.before.before.before.before.before.before.before.before.args.list.now c.before.before.before.before.before.before.before.Line-of.result) _ h.2)
-          (listed-key-says c.before.before.before.before.before.before.before.before.before.before.before.requires.0 (lines c.before.before.before.before.before.before.before.before.before.before.before.args.list.now) apart _ _ _ (key_at c.before.before.before.before.before.before.before.before.before.before.before.args.list.now c.before.before.before.before.before.before.before.Line-of.result) _ _ listed _ _ c.before.before.before.before.before.before.before.before.before.before.before.requires.1.1.0.0 c.before.before.before.before.before.before.before.before.before.before.before.requires.1.1.0.1 marks v c.before.before.listed-key.ensures.0 c.before.before.listed-key.ensures.1.0 c.before.before.listed-key.ensures.1.1),
+          says_of_string (key_of_string _ _ _ seen _ _ (key_at c.before.before.before.before.before.before.before.before.before.before.before.args.list.now c.before.before.before.before.before.before.before.Line-of.result) _ h.2)
+          (listed_key_says c.before.before.before.before.before.before.before.before.before.before.before.requires.0 (lines c.before.before.before.before.before.before.before.before.before.before.before.args.list.now) apart _ _ _ (key_at c.before.before.before.before.before.before.before.before.before.before.before.args.list.now c.before.before.before.before.before.before.before.Line-of.result) _ _ listed _ _ c.before.before.before.before.before.before.before.before.before.before.before.requires.1.1.0.0 c.before.before.before.before.before.before.before.before.before.before.before.requires.1.1.0.1 marks v c.before.before.listed-key.ensures.0 c.before.before.listed-key.ensures.1.0 c.before.before.listed-key.ensures.1.1),
       listed_kept c.before.before.before.before.before.before.before.before.before.before.before.requires.0 (lines c.before.before.before.before.before.before.before.before.before.before.before.args.list.now) apart _ _ c.before.before.before.before.before.before.before.before.before.before.before.args.at (key_at c.before.before.before.before.before.before.before.before.before.before.before.args.list.now c.before.before.before.before.before.before.before.Line-of.result) c.before.before.before.before.before.before.key_here.result _ listed _ c.before.before.before.before.before.before.before.before.before.before.before.args.listed.now c.before.before.before.before.before.before.before.before.before.before.before.requires.1.1.0.0 c.before.before.before.before.before.before.before.before.before.before.before.requires.1.1.0.1 c.before.before.listed-key.ensures.1.0,
     )
 

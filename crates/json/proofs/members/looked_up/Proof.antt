@@ -5,9 +5,9 @@ use borrow.Author.Rules.{rules}
 use Rattle.jsontext.specs.StringAnswers.{slot_of}
 use Rattle.names.specs.Lines.{lines}
 use Rattle.json.specs.KeyTable.{key_of}
-use Rattle.json.proofs.LeafWays.{whole-string, no-string}
-use Rattle.json.proofs.OtherKeys.{key-refused-says}
-use Rattle.json.proofs.ListedKeys.{key-of-string, key-no-string, listed-key-says, listed_kept, says-of-string}
+use Rattle.json.proofs.LeafWays.{whole_string, no_string}
+use Rattle.json.proofs.OtherKeys.{key_refused_says}
+use Rattle.json.proofs.ListedKeys.{key_of_string, key_no_string, listed_key_says, listed_kept, says_of_string}
 use Rattle.json.proofs.members.looked_up.Statement.{statement}
 use Rattle.json.proofs.members.looked_up.Tie as tie
 
@@ -16,26 +16,26 @@ listed-key-requires c κs = (c.before.before.before.before.before.find-key.ensur
 
 other-key-requires : tie.Need-other-key-requires
 other-key-requires c κs =
-    (c.before.before.before.before.before.before.before.before.before.before.before.before.before.before.before.before.requires.0, (c.before.before.before.before.before.before.before.before.before.before.before.before.before.before.before.before.requires.1.0, (c.before.before.before.before.before.before.before.before.before.before.before.before.before.before.before.before.requires.1.1.0, whole-string c.before.before.before.before.before.before.before.before.before.before.before.before.before.before.before.before.args.text.now c.before.before.before.before.before.before.before.before.before.before.before.before.before.before.before.before.args.at (ap slot_of (sym c.before.before.before.before.before.before.before.before.before.before.slot.given.1) ∙ c.before.before.before.before.before.before.before.before.before.before.before.before.read.ensures c.before.before.before.before.before.before.before.before.before.before.before.before.before.before.before.before.requires.1.0))))
+    (c.before.before.before.before.before.before.before.before.before.before.before.before.before.before.before.before.requires.0, (c.before.before.before.before.before.before.before.before.before.before.before.before.before.before.before.before.requires.1.0, (c.before.before.before.before.before.before.before.before.before.before.before.before.before.before.before.before.requires.1.1.0, whole_string c.before.before.before.before.before.before.before.before.before.before.before.before.before.before.before.before.args.text.now c.before.before.before.before.before.before.before.before.before.before.before.before.before.before.before.before.args.at (ap slot_of (sym c.before.before.before.before.before.before.before.before.before.before.slot.given.1) ∙ c.before.before.before.before.before.before.before.before.before.before.before.before.read.ensures c.before.before.before.before.before.before.before.before.before.before.before.before.before.before.before.before.requires.1.0))))
 
 returns : tie.Need-returns
-returns c = (λ seen marks v. key-refused-says (key-no-string _ c.before.before.before.before.before.before.before.args.text.now _ seen _ _ _ (no-string c.before.before.before.before.before.before.before.args.text.now c.before.before.before.before.before.before.before.args.at (ap slot_of (sym c.before.p.given.1) ∙ c.before.before.before.read.ensures c.before.before.before.before.before.before.before.requires.1.0))), refl)
+returns c = (λ seen marks v. key_refused_says (key_no_string _ c.before.before.before.before.before.before.before.args.text.now _ seen _ _ _ (no_string c.before.before.before.before.before.before.before.args.text.now c.before.before.before.before.before.before.before.args.at (ap slot_of (sym c.before.p.given.1) ∙ c.before.before.before.read.ensures c.before.before.before.before.before.before.before.requires.1.0))), refl)
 
 returns-2 : tie.Need-returns-2
 returns-2 c =
-    let w = whole-string c.before.before.before.before.before.before.before.before.before.before.before.before.before.before.before.before.args.text.now c.before.before.before.before.before.before.before.before.before.before.before.before.before.before.before.before.args.at (ap slot_of (sym c.before.before.before.before.before.before.before.before.before.before.slot.given.1) ∙ c.before.before.before.before.before.before.before.before.before.before.before.before.read.ensures c.before.before.before.before.before.before.before.before.before.before.before.before.before.before.before.before.requires.1.0) in
+    let w = whole_string c.before.before.before.before.before.before.before.before.before.before.before.before.before.before.before.before.args.text.now c.before.before.before.before.before.before.before.before.before.before.before.before.before.before.before.before.args.at (ap slot_of (sym c.before.before.before.before.before.before.before.before.before.before.slot.given.1) ∙ c.before.before.before.before.before.before.before.before.before.before.before.before.read.ensures c.before.before.before.before.before.before.before.before.before.before.before.before.before.before.before.before.requires.1.0) in
     let listed = sym (c.before.before.before.before.before.before.before.before.find-key.ensures.0 w.bytes _ w.string w.slot_is) ∙ ap key_of c.before.before.before.before.before.before.k.given.1 in (
       λ seen marks v.
-          says-of-string (key-of-string _ _ _ seen _ _ w.bytes _ w.string)
-          (listed-key-says c.before.before.before.before.before.before.before.before.before.before.before.before.before.before.before.before.requires.0 (lines c.before.before.before.before.before.before.before.before.before.before.before.before.before.before.before.before.args.list.now) c.before.before.before.before.before.before.before.before.before.before.before.before.before.before.before.before.requires.1.1.1.distinct _ _ _ w.bytes _ _ listed _ _ c.before.before.before.before.before.before.before.before.before.before.before.before.before.before.before.before.requires.1.1.0.0 c.before.before.before.before.before.before.before.before.before.before.before.before.before.before.before.before.requires.1.1.0.1 marks v c.before.before.listed-key.ensures.0 c.before.before.listed-key.ensures.1.0 c.before.before.listed-key.ensures.1.1),
+          says_of_string (key_of_string _ _ _ seen _ _ w.bytes _ w.string)
+          (listed_key_says c.before.before.before.before.before.before.before.before.before.before.before.before.before.before.before.before.requires.0 (lines c.before.before.before.before.before.before.before.before.before.before.before.before.before.before.before.before.args.list.now) c.before.before.before.before.before.before.before.before.before.before.before.before.before.before.before.before.requires.1.1.1.distinct _ _ _ w.bytes _ _ listed _ _ c.before.before.before.before.before.before.before.before.before.before.before.before.before.before.before.before.requires.1.1.0.0 c.before.before.before.before.before.before.before.before.before.before.before.before.before.before.before.before.requires.1.1.0.1 marks v c.before.before.listed-key.ensures.0 c.before.before.listed-key.ensures.1.0 c.before.before.listed-key.ensures.1.1),
       listed_kept c.before.before.before.before.before.before.before.before.before.before.before.before.before.before.before.before.requires.0 (lines c.before.before.before.before.before.before.before.before.before.before.before.before.before.before.before.before.args.list.now) c.before.before.before.before.before.before.before.before.before.before.before.before.before.before.before.before.requires.1.1.1.distinct _ _ c.before.before.before.before.before.before.before.before.before.before.before.before.before.before.before.before.args.at w.bytes c.before.before.before.before.before.before.before.before.before.before.slot.given.0.1.0 _ listed _ c.before.before.before.before.before.before.before.before.before.before.before.before.before.before.before.before.args.listed.now c.before.before.before.before.before.before.before.before.before.before.before.before.before.before.before.before.requires.1.1.0.0 c.before.before.before.before.before.before.before.before.before.before.before.before.before.before.before.before.requires.1.1.0.1 c.before.before.listed-key.ensures.1.0,
     )
 
 returns-3 : tie.Need-returns-3
 returns-3 c =
-    let w = whole-string c.before.before.before.before.before.before.before.before.before.before.before.before.before.before.before.before.before.before.before.args.text.now c.before.before.before.before.before.before.before.before.before.before.before.before.before.before.before.before.before.before.before.args.at (ap slot_of (sym c.before.before.before.before.before.before.before.before.before.before.before.before.before.slot.given.1) ∙ c.before.before.before.before.before.before.before.before.before.before.before.before.before.before.before.read.ensures c.before.before.before.before.before.before.before.before.before.before.before.before.before.before.before.before.before.before.before.requires.1.0) in
+    let w = whole_string c.before.before.before.before.before.before.before.before.before.before.before.before.before.before.before.before.before.before.before.args.text.now c.before.before.before.before.before.before.before.before.before.before.before.before.before.before.before.before.before.before.before.args.at (ap slot_of (sym c.before.before.before.before.before.before.before.before.before.before.before.before.before.slot.given.1) ∙ c.before.before.before.before.before.before.before.before.before.before.before.before.before.before.before.read.ensures c.before.before.before.before.before.before.before.before.before.before.before.before.before.before.before.before.before.before.before.requires.1.0) in
     let unlisted = sym (c.before.before.before.before.before.before.before.before.before.before.before.find-key.ensures.0 w.bytes _ w.string w.slot_is) ∙ ap key_of c.before.before.before.before.before.before.before.before.before.enum_told.given.1 in
-    (λ seen marks v. says-of-string (key-of-string _ _ _ seen _ _ w.bytes _ w.string) (c.before.before.other_key.ensures.0 (lines c.before.before.before.before.before.before.before.before.before.before.before.before.before.before.before.before.before.before.before.args.list.now) seen w.bytes w.string unlisted marks v), c.before.before.other_key.ensures.1)
+    (λ seen marks v. says_of_string (key_of_string _ _ _ seen _ _ w.bytes _ w.string) (c.before.before.other_key.ensures.0 (lines c.before.before.before.before.before.before.before.before.before.before.before.before.before.before.before.before.before.before.before.args.list.now) seen w.bytes w.string unlisted marks v), c.before.before.other_key.ensures.1)
 
 pub looked-up-spec : {M : Type 1} → statement M
 looked-up-spec =

@@ -1,22 +1,22 @@
 -- By whether the first byte begins a number. Assumes nothing.
 
 use borrow.Author.Rules.{rules}
-use Rattle.json.specs.State.{builtIn}
-use Rattle.json.proofs.Holding.{says-by}
-use Rattle.json.proofs.PlainWays.{number-alone, number-test}
+use Rattle.json.specs.State.{built_in}
+use Rattle.json.proofs.Holding.{says_by}
+use Rattle.json.proofs.PlainWays.{number_alone, number_test}
 use Rattle.json.proofs.reader.plain_value.Statement.{statement}
 use Rattle.json.proofs.reader.plain_value.Tie as tie
 
 returns : tie.Need-returns
 returns c =
     let a = c.before.before.before.before.before.before.before.before.before.before.args in
-    let test = number-test c.before.before.before.before.before.before.before.before.byte_at.ensures (c.before.before.before.before.before.before.before.is_digit.ensures.1 c.before.before.before.before.before.before.before.before.before.before.requires.1) c.before.before.before.before.before.before.if1.true in
-    says-by (number-alone _ a.text.now a.at (builtIn a.text.now a.rows.now a.starts.now a.used a.texts) test) c.number-leaf.ensures
+    let test = number_test c.before.before.before.before.before.before.before.before.byte_at.ensures (c.before.before.before.before.before.before.before.is_digit.ensures.1 c.before.before.before.before.before.before.before.before.before.before.requires.1) c.before.before.before.before.before.before.if1.true in
+    says_by (number_alone _ a.text.now a.at (built_in a.text.now a.rows.now a.starts.now a.used a.texts) test) c.number-leaf.ensures
 
 text-or-word-requires : tie.Need-text-or-word-requires
 text-or-word-requires c κs =
     let (h, lent) = c.before.before.before.before.before.before.before.before.before.requires in
-    (h, (lent, number-test c.before.before.before.before.before.before.before.byte_at.ensures (c.before.before.before.before.before.before.is_digit.ensures.1 lent) c.before.before.before.before.before.if1.false))
+    (h, (lent, number_test c.before.before.before.before.before.before.before.byte_at.ensures (c.before.before.before.before.before.before.is_digit.ensures.1 lent) c.before.before.before.before.before.if1.false))
 
 pub plain-value-spec : {M : Type 1} → statement M
 plain-value-spec =

@@ -3,14 +3,14 @@ use mathlib.Core.Path.{refl, sym, ◌∙◌}
 use native.Mathlib.Omega.{arith}
 use borrow.Author.Rules.{rules}
 use Rattle.base.proofs.Bytes.{byte_inside}
-use Rattle.json.specs.State.{builtIn, says-refused}
-use Rattle.json.proofs.Holding.{says-by}
-use Rattle.json.proofs.PlainWays.{quote-first, t-first, f-first, n-first, none_first}
+use Rattle.json.specs.State.{built_in, says_refused}
+use Rattle.json.proofs.Holding.{says_by}
+use Rattle.json.proofs.PlainWays.{quote_first, t_first, f_first, n_first, none_first}
 use Rattle.json.proofs.reader.text_or_word.Statement.{statement}
 use Rattle.json.proofs.reader.text_or_word.Tie as tie
 
 returns : tie.Need-returns
-returns c = says-by (quote-first _ c.before.before.before.before.before.before.before.before.args.text.now c.before.before.before.before.before.before.before.before.args.at (builtIn c.before.before.before.before.before.before.before.before.args.text.now c.before.before.before.before.before.before.before.before.args.rows.now c.before.before.before.before.before.before.before.before.args.starts.now c.before.before.before.before.before.before.before.before.args.used c.before.before.before.before.before.before.before.before.args.texts) (sym c.before.before.before.before.before.before.byte_at.ensures ∙ c.before.before.before.before.before.if1.true)) c.string-leaf.ensures
+returns c = says_by (quote_first _ c.before.before.before.before.before.before.before.before.args.text.now c.before.before.before.before.before.before.before.before.args.at (built_in c.before.before.before.before.before.before.before.before.args.text.now c.before.before.before.before.before.before.before.before.args.rows.now c.before.before.before.before.before.before.before.before.args.starts.now c.before.before.before.before.before.before.before.before.args.used c.before.before.before.before.before.before.before.before.args.texts) (sym c.before.before.before.before.before.before.byte_at.ensures ∙ c.before.before.before.before.before.if1.true)) c.string-leaf.ensures
 
 word-requires : tie.Need-word-requires
 word-requires c κs =
@@ -18,7 +18,7 @@ word-requires c κs =
     (c.before.before.before.before.before.before.before.before.before.before.requires.0, (omega (arith, l, c.before.before.before.before.before.before.before.before.before.before.well-formed.0), (omega arith, λ e. omega (arith, e))))
 
 returns-2 : tie.Need-returns-2
-returns-2 c = says-by (t-first _ c.before.before.before.before.before.before.before.before.before.before.before.args.text.now c.before.before.before.before.before.before.before.before.before.before.before.args.at (builtIn c.before.before.before.before.before.before.before.before.before.before.before.args.text.now c.before.before.before.before.before.before.before.before.before.before.before.args.rows.now c.before.before.before.before.before.before.before.before.before.before.before.args.starts.now c.before.before.before.before.before.before.before.before.before.before.before.args.used c.before.before.before.before.before.before.before.before.before.before.before.args.texts) (λ e. c.before.before.before.before.before.before.before.before.if1.false (c.before.before.before.before.before.before.before.before.before.byte_at.ensures ∙ e)) (sym c.before.before.before.before.before.before.before.before.before.byte_at.ensures ∙ c.before.before.before.before.before.before.before.if2.true)) c.word.ensures
+returns-2 c = says_by (t_first _ c.before.before.before.before.before.before.before.before.before.before.before.args.text.now c.before.before.before.before.before.before.before.before.before.before.before.args.at (built_in c.before.before.before.before.before.before.before.before.before.before.before.args.text.now c.before.before.before.before.before.before.before.before.before.before.before.args.rows.now c.before.before.before.before.before.before.before.before.before.before.before.args.starts.now c.before.before.before.before.before.before.before.before.before.before.before.args.used c.before.before.before.before.before.before.before.before.before.before.before.args.texts) (λ e. c.before.before.before.before.before.before.before.before.if1.false (c.before.before.before.before.before.before.before.before.before.byte_at.ensures ∙ e)) (sym c.before.before.before.before.before.before.before.before.before.byte_at.ensures ∙ c.before.before.before.before.before.before.before.if2.true)) c.word.ensures
 
 word-requires-2 : tie.Need-word-requires-2
 word-requires-2 c κs =
@@ -26,7 +26,7 @@ word-requires-2 c κs =
     (c.before.before.before.before.before.before.before.before.before.before.before.requires.0, (omega (arith, l, c.before.before.before.before.before.before.before.before.before.before.before.well-formed.0), (omega arith, λ e. omega (arith, e))))
 
 returns-3 : tie.Need-returns-3
-returns-3 c = says-by (f-first _ c.before.before.before.before.before.before.before.before.before.before.before.before.args.text.now c.before.before.before.before.before.before.before.before.before.before.before.before.args.at (builtIn c.before.before.before.before.before.before.before.before.before.before.before.before.args.text.now c.before.before.before.before.before.before.before.before.before.before.before.before.args.rows.now c.before.before.before.before.before.before.before.before.before.before.before.before.args.starts.now c.before.before.before.before.before.before.before.before.before.before.before.before.args.used c.before.before.before.before.before.before.before.before.before.before.before.before.args.texts) (λ e. c.before.before.before.before.before.before.before.before.before.if1.false (c.before.before.before.before.before.before.before.before.before.before.byte_at.ensures ∙ e)) (λ e. c.before.before.before.before.before.before.before.before.if2.false (c.before.before.before.before.before.before.before.before.before.before.byte_at.ensures ∙ e)) (sym c.before.before.before.before.before.before.before.before.before.before.byte_at.ensures ∙ c.before.before.before.before.before.before.before.if3.true)) c.word2.ensures
+returns-3 c = says_by (f_first _ c.before.before.before.before.before.before.before.before.before.before.before.before.args.text.now c.before.before.before.before.before.before.before.before.before.before.before.before.args.at (built_in c.before.before.before.before.before.before.before.before.before.before.before.before.args.text.now c.before.before.before.before.before.before.before.before.before.before.before.before.args.rows.now c.before.before.before.before.before.before.before.before.before.before.before.before.args.starts.now c.before.before.before.before.before.before.before.before.before.before.before.before.args.used c.before.before.before.before.before.before.before.before.before.before.before.before.args.texts) (λ e. c.before.before.before.before.before.before.before.before.before.if1.false (c.before.before.before.before.before.before.before.before.before.before.byte_at.ensures ∙ e)) (λ e. c.before.before.before.before.before.before.before.before.if2.false (c.before.before.before.before.before.before.before.before.before.before.byte_at.ensures ∙ e)) (sym c.before.before.before.before.before.before.before.before.before.before.byte_at.ensures ∙ c.before.before.before.before.before.before.before.if3.true)) c.word2.ensures
 
 word-requires-3 : tie.Need-word-requires-3
 word-requires-3 c κs =
@@ -34,13 +34,13 @@ word-requires-3 c κs =
     (c.before.before.before.before.before.before.before.before.before.before.before.before.requires.0, (omega (arith, l, c.before.before.before.before.before.before.before.before.before.before.before.before.well-formed.0), (omega arith, λ e. omega (arith, e))))
 
 returns-4 : tie.Need-returns-4
-returns-4 c = says-by (n-first _ c.before.before.before.before.before.before.before.before.before.before.before.before.before.args.text.now c.before.before.before.before.before.before.before.before.before.before.before.before.before.args.at (builtIn c.before.before.before.before.before.before.before.before.before.before.before.before.before.args.text.now c.before.before.before.before.before.before.before.before.before.before.before.before.before.args.rows.now c.before.before.before.before.before.before.before.before.before.before.before.before.before.args.starts.now c.before.before.before.before.before.before.before.before.before.before.before.before.before.args.used c.before.before.before.before.before.before.before.before.before.before.before.before.before.args.texts) (λ e. c.before.before.before.before.before.before.before.before.before.before.if1.false (c.before.before.before.before.before.before.before.before.before.before.before.byte_at.ensures ∙ e)) (λ e. c.before.before.before.before.before.before.before.before.before.if2.false (c.before.before.before.before.before.before.before.before.before.before.before.byte_at.ensures ∙ e)) (λ e. c.before.before.before.before.before.before.before.before.if3.false (c.before.before.before.before.before.before.before.before.before.before.before.byte_at.ensures ∙ e)) (sym c.before.before.before.before.before.before.before.before.before.before.before.byte_at.ensures ∙ c.before.before.before.before.before.before.before.if4.true)) c.word3.ensures
+returns-4 c = says_by (n_first _ c.before.before.before.before.before.before.before.before.before.before.before.before.before.args.text.now c.before.before.before.before.before.before.before.before.before.before.before.before.before.args.at (built_in c.before.before.before.before.before.before.before.before.before.before.before.before.before.args.text.now c.before.before.before.before.before.before.before.before.before.before.before.before.before.args.rows.now c.before.before.before.before.before.before.before.before.before.before.before.before.before.args.starts.now c.before.before.before.before.before.before.before.before.before.before.before.before.before.args.used c.before.before.before.before.before.before.before.before.before.before.before.before.before.args.texts) (λ e. c.before.before.before.before.before.before.before.before.before.before.if1.false (c.before.before.before.before.before.before.before.before.before.before.before.byte_at.ensures ∙ e)) (λ e. c.before.before.before.before.before.before.before.before.before.if2.false (c.before.before.before.before.before.before.before.before.before.before.before.byte_at.ensures ∙ e)) (λ e. c.before.before.before.before.before.before.before.before.if3.false (c.before.before.before.before.before.before.before.before.before.before.before.byte_at.ensures ∙ e)) (sym c.before.before.before.before.before.before.before.before.before.before.before.byte_at.ensures ∙ c.before.before.before.before.before.before.before.if4.true)) c.word3.ensures
 
 returns-5 : tie.Need-returns-5
 returns-5 c =
-    says-by
-    (none_first _ c.before.before.before.before.before.before.args.text.now c.before.before.before.before.before.before.args.at (builtIn c.before.before.before.before.before.before.args.text.now c.before.before.before.before.before.before.args.rows.now c.before.before.before.before.before.before.args.starts.now c.before.before.before.before.before.before.args.used c.before.before.before.before.before.before.args.texts) (λ e. c.before.before.before.if1.false (c.before.before.before.before.byte_at.ensures ∙ e)) (λ e. c.before.before.if2.false (c.before.before.before.before.byte_at.ensures ∙ e)) (λ e. c.before.if3.false (c.before.before.before.before.byte_at.ensures ∙ e)) (λ e. c.if4.false (c.before.before.before.before.byte_at.ensures ∙ e)) c.before.before.before.before.before.before.requires.1.1)
-    (says-refused refl)
+    says_by
+    (none_first _ c.before.before.before.before.before.before.args.text.now c.before.before.before.before.before.before.args.at (built_in c.before.before.before.before.before.before.args.text.now c.before.before.before.before.before.before.args.rows.now c.before.before.before.before.before.before.args.starts.now c.before.before.before.before.before.before.args.used c.before.before.before.before.before.before.args.texts) (λ e. c.before.before.before.if1.false (c.before.before.before.before.byte_at.ensures ∙ e)) (λ e. c.before.before.if2.false (c.before.before.before.before.byte_at.ensures ∙ e)) (λ e. c.before.if3.false (c.before.before.before.before.byte_at.ensures ∙ e)) (λ e. c.if4.false (c.before.before.before.before.byte_at.ensures ∙ e)) c.before.before.before.before.before.before.requires.1.1)
+    (says_refused refl)
 
 pub text-or-word-spec : {M : Type 1} → statement M
 text-or-word-spec =

@@ -3,13 +3,13 @@ use mathlib.Core.Path.{refl, sym, ◌∙◌}
 use native.Mathlib.Omega.{arith}
 use borrow.Author.Rules.{rules}
 use Rattle.base.proofs.Bytes.{byte_inside}
-use Rattle.json.proofs.Holding.{no_text, no-child}
-use Rattle.json.proofs.Closing.{close-wrong, close-right}
+use Rattle.json.proofs.Holding.{no_text, no_child}
+use Rattle.json.proofs.Closing.{close_wrong, close_right}
 use Rattle.json.proofs.rows.close.Statement.{statement}
 use Rattle.json.proofs.rows.close.Tie as tie
 
 returns : tie.Need-returns
-returns c = close-wrong _ _ _ _ (λ e. c.if1.true (c.before.byte_at.ensures ∙ e))
+returns c = close_wrong _ _ _ _ (λ e. c.if1.true (c.before.byte_at.ensures ∙ e))
 
 add-finish : tie.Need-overflow-add-finish
 add-finish c =
@@ -19,7 +19,7 @@ finish-requires : tie.Need-finish-requires
 finish-requires c κs = (c.before.before.before.before.before.before.before.requires.0, omega arith)
 
 returns-2 : tie.Need-returns-2
-returns-2 c = close-right _ _ _ _ (sym c.before.before.before.before.before.before.byte_at.ensures ∙ c.before.before.before.before.before.if1.false) refl (c.finish.ensures _ c.before.before.before.before.leaf.ensures (no_text _ _ refl c.before.before.before.before.before.before.before.before.requires.1.1 no-child))
+returns-2 c = close_right _ _ _ _ (sym c.before.before.before.before.before.before.byte_at.ensures ∙ c.before.before.before.before.before.if1.false) refl (c.finish.ensures _ c.before.before.before.before.leaf.ensures (no_text _ _ refl c.before.before.before.before.before.before.before.before.requires.1.1 no_child))
 
 pub close_spec : {M : Type 1} → statement M
 close_spec =

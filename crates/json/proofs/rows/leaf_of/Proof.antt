@@ -1,14 +1,14 @@
 -- Ten cells in three words. Assumes nothing.
 use native.Mathlib.Omega.{arith}
 use borrow.Author.Rules.{rules}
-use Rattle.json.proofs.Nodes.{leaf-row}
+use Rattle.json.proofs.Nodes.{leaf_row_lem}
 use Rattle.json.proofs.rows.leaf_of.Statement.{statement}
 use Rattle.json.proofs.rows.leaf_of.Tie as tie
 
 returns : tie.Need-returns
 returns c scalar ek ep =
     let a = c.before.before.before.before.args in
-    leaf-row a.symbol scalar _ _ _ _ _ _ ep ek (omega (arith, c.before.before.before.before.ranges)) c.before.before.low-cell.ensures c.before.low-cell2.ensures c.before.before.before.word.ensures c.word2.ensures
+    leaf_row_lem a.symbol scalar _ _ _ _ _ _ ep ek (omega (arith, c.before.before.before.before.ranges)) c.before.before.low-cell.ensures c.before.low-cell2.ensures c.before.before.before.word.ensures c.word2.ensures
 
 pub leaf-of-spec : {M : Type 1} → statement M
 leaf-of-spec =

@@ -3,14 +3,14 @@ use mathlib.Core.Path.{refl, sym, ◌∙◌}
 use native.Mathlib.Omega.{arith}
 use borrow.Author.Rules.{rules}
 use Rattle.base.proofs.Bytes.{byte_inside}
-use Rattle.json.proofs.Glancing.{glance-free, glance-known}
+use Rattle.json.proofs.Glancing.{glance_free, glance_known}
 use Rattle.json.proofs.texts.glance.Statement.{statement}
 use Rattle.json.proofs.texts.glance.Tie as tie
 
 empty : tie.Need-returns
 empty c told =
     let a = c.before.before.before.before.args in
-    glance-free a.text.now a.starts.now a.found.now a.at a.slot a.end _ _ c.before.before.before.before.requires.1 c.before.before.size.ensures.0 refl c.if1.true
+    glance_free a.text.now a.starts.now a.found.now a.at a.slot a.end _ _ c.before.before.before.before.requires.1 c.before.before.size.ensures.0 refl c.if1.true
 
 add-end : tie.Need-overflow-add-same-bytes
 add-end c =
@@ -24,7 +24,7 @@ sub_at c = let s = c.before.before.before.before.before.requires.1 in omega (ari
 known : tie.Need-returns-2
 known c told =
     let a = c.before.before.before.before.before.before.before.args in
-    glance-known a.text.now a.starts.now a.found.now a.at a.slot a.end _ _ c.before.before.before.before.before.before.before.requires.1 c.before.before.before.before.before.size.ensures.0 refl c.before.before.before.if1.false _ c.before.before.start_of_lem.ensures (c.before.same_bytes.ensures c.if2.true)
+    glance_known a.text.now a.starts.now a.found.now a.at a.slot a.end _ _ c.before.before.before.before.before.before.before.requires.1 c.before.before.before.before.before.size.ensures.0 refl c.before.before.before.if1.false _ c.before.before.start_of_lem.ensures (c.before.same_bytes.ensures c.if2.true)
 
 pub glance-spec : {M : Type 1} → statement M
 glance-spec =

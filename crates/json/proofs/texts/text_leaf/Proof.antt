@@ -1,16 +1,16 @@
 -- A text that has a number has a row; another gets both. Assumes nothing.
 use mathlib.Core.Path.{refl, sym, ap, subst, ◌∙◌}
 use borrow.Author.Rules.{rules}
-use Rattle.json.specs.Texts.{probedOf, ProbedAt}
-use Rattle.json.proofs.Texting.{probe-text, probed-some}
-use Rattle.json.proofs.TextLeaves.{known-inside, known_read}
+use Rattle.json.specs.Texts.{probed_of, ProbedAt}
+use Rattle.json.proofs.Texting.{probe_text, probed_some}
+use Rattle.json.proofs.TextLeaves.{known_inside, known_read}
 use Rattle.json.proofs.texts.text_leaf.Statement.{statement}
 use Rattle.json.proofs.texts.text_leaf.Tie as tie
 
 row-of-requires : tie.Need-row-of-requires
 row-of-requires c κs =
     let (h, (b, w)) = c.before.before.before.before.before.requires in
-    known-inside h (subst (ProbedAt _ _ _ _ _) c.before.before.probed.given.1 w)
+    known_inside h (subst (ProbedAt _ _ _ _ _) c.before.before.probed.given.1 w)
 
 returns : tie.Need-returns
 returns c =
@@ -23,7 +23,7 @@ new-text-requires c κs =
     (h, (b, subst (ProbedAt _ _ _ _ _) c.before.before.before.before.before.probed2.given.1 w))
 
 returns-3 : tie.Need-returns-3
-returns-3 c = absurd (probed-some (probe-text _ _ _ _ _ _ _ _ c.before.before.before.requires.0 _ _ _ c.before.before.before.requires.1.1.string _ refl) (ap probedOf (sym c.enum_told.given.1) ∙ c.before.before.before.requires.1.1.answer))
+returns-3 c = absurd (probed_some (probe_text _ _ _ _ _ _ _ _ c.before.before.before.requires.0 _ _ _ c.before.before.before.requires.1.1.string _ refl) (ap probed_of (sym c.enum_told.given.1) ∙ c.before.before.before.requires.1.1.answer))
 
 pub text-leaf-spec : {M : Type 1} → statement M
 text-leaf-spec =

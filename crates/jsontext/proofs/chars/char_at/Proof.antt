@@ -4,7 +4,7 @@ use Prim.Native.Nat.{◌+◌, ◌≤◌}
 use borrow.Author.Rules.{rules}
 use native.Mathlib.Omega.{arith}
 use Rattle.jsontext.specs.StringAnswers.{piece_of, Ahead, PieceInside}
-use Rattle.jsontext.proofs.CharReads.{raw-character, code-character, quoted, joined-few}
+use Rattle.jsontext.proofs.CharReads.{raw_character, code_character, quoted, joined_few}
 use Rattle.jsontext.proofs.chars.char_at.Statement.{statement}
 use Rattle.jsontext.proofs.chars.char_at.Tie as tie
 
@@ -16,12 +16,12 @@ module _ (c : tie.After-known-told2) where
 returns-3 : tie.Need-returns-3
 returns-3 c =
     let s = short c.before in
-    (λ l. raw-character _ _ _ _ (λ i h. omega (arith, c.before.before.before.before.before.shared-slice-known.given i)) (sym (c.before.before.before.before.piece-at.ensures.0 l) ∙ ap piece_of c.before.before.n.given.1) c.few_bytes.ensures, (s.0, omega (arith, s.0.forward), omega (arith, s.1)))
+    (λ l. raw_character _ _ _ _ (λ i h. omega (arith, c.before.before.before.before.before.shared-slice-known.given i)) (sym (c.before.before.before.before.piece-at.ensures.0 l) ∙ ap piece_of c.before.before.n.given.1) c.few_bytes.ensures, (s.0, omega (arith, s.0.forward), omega (arith, s.1)))
 
 returns-4 : tie.Need-returns-4
 returns-4 c =
     let j = c.before.pack.ensures in
-    (λ l. code-character _ _ _ _ _ _ (sym (c.before.before.before.before.before.piece-at.ensures.0 l) ∙ ap piece_of c.before.before.before.c.given.1) j, (subst (PieceInside _ _) c.before.before.before.c.given.1 c.before.before.before.before.before.piece-at.ensures.1, (joined-few _ _ _ j).0, (joined-few _ _ _ j).1))
+    (λ l. code_character _ _ _ _ _ _ (sym (c.before.before.before.before.before.piece-at.ensures.0 l) ∙ ap piece_of c.before.before.before.c.given.1) j, (subst (PieceInside _ _) c.before.before.before.c.given.1 c.before.before.before.before.before.piece-at.ensures.1, (joined_few _ _ _ j).0, (joined_few _ _ _ j).1))
 
 pub char-at-spec : {M : Type 1} → statement M
 char-at-spec =

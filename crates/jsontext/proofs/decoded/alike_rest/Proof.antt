@@ -6,7 +6,7 @@ use borrow.Author.Tests.{not-false}
 use native.Mathlib.Omega.{arith}
 use lib.ListN.{length}
 use Rattle.jsontext.specs.Compared.{Alike}
-use Rattle.jsontext.proofs.Agreeing.{plain-inside, alike-none, alike-more}
+use Rattle.jsontext.proofs.Agreeing.{plain_inside, alike_none, alike_more}
 use Rattle.jsontext.proofs.decoded.alike_rest.Statement.{statement}
 use Rattle.jsontext.proofs.decoded.alike_rest.Tie as tie
 
@@ -19,7 +19,7 @@ decreases-loop s i t j n₀ n = length s - (i + n)
 -- the byte read is plain, and so stands inside
 module _ (c : tie.Else2 invariant-loop decreases-loop) where
   inside : c.before.before.before.before.before.before.before.before.args.i + c.before.before.before.before.before.loop.n < length c.before.before.before.before.before.before.before.before.args.s.now
-  inside = plain-inside c.before.before.before.before.before.before.before.before.args.s.now _ _ c.before.before.before.before.byte_at.ensures (sym c.before.before.before.is_plain.ensures ∙ not-false c.before.before.before.is_plain.result c.before.before.if1.false)
+  inside = plain_inside c.before.before.before.before.before.before.before.before.args.s.now _ _ c.before.before.before.before.byte_at.ensures (sym c.before.before.before.is_plain.ensures ∙ not-false c.before.before.before.is_plain.result c.before.before.if1.false)
 
 pub alike-rest-spec : {M : Type 1} → statement M
 alike-rest-spec =
@@ -27,7 +27,7 @@ alike-rest-spec =
     (tie.spec
     invariant-loop
     decreases-loop
-    (λ c. alike-none _ _ _ _ c.before.before.requires.0 c.before.before.requires.1)
+    (λ c. alike_none _ _ _ _ c.before.before.requires.0 c.before.before.requires.1)
     (λ c. omega (arith, c.loop.invariant.first.inside))
     (λ c κs. search rules)
     (λ c κs. search rules)
@@ -37,4 +37,4 @@ alike-rest-spec =
     (λ c. c.before.before.before.before.before.loop.invariant)
     (λ c. omega (arith, inside c))
     (λ c. omega (arith, inside c))
-    (λ c. alike-more _ _ _ _ _ _ _ c.before.before.before.before.before.loop.invariant c.before.before.before.before.byte_at.ensures (sym c.before.before.before.is_plain.ensures ∙ not-false c.before.before.before.is_plain.result c.before.before.if1.false) c.before.byte-at2.ensures c.if2.false))
+    (λ c. alike_more _ _ _ _ _ _ _ c.before.before.before.before.before.loop.invariant c.before.before.before.before.byte_at.ensures (sym c.before.before.before.is_plain.ensures ∙ not-false c.before.before.before.is_plain.result c.before.before.if1.false) c.before.byte-at2.ensures c.if2.false))

@@ -4,26 +4,26 @@ use Prim.Native.Nat.{◌+◌, ◌-◌, ◌≤◌}
 use borrow.Author.Rules.{rules}
 use native.Mathlib.Omega.{arith}
 use lib.ListN.{length}
-use Rattle.classes.specs.Classes.{classTable}
+use Rattle.classes.specs.Classes.{class_table}
 use Rattle.jsontext.specs.StringAnswers.{Ahead}
 use Rattle.jsontext.specs.Chars.{Character, CharSays, CharInside}
-use Rattle.jsontext.proofs.Comparing.{Both, both-begin, both-alike, both_end, both-second-end, both-broken, both-second-broken, both-differ, both-agree}
+use Rattle.jsontext.proofs.Comparing.{Both, both_begin, both_alike, both_end, both_second_end, both_broken, both_second_broken, both_differ, both_agree}
 use Rattle.jsontext.proofs.decoded.same_quoted.Statement.{statement}
 use Rattle.jsontext.proofs.decoded.same_quoted.Tie as tie
 
 abbrev invariant-loop : tie.invariant-loop
-invariant-loop text classes a b i₀ j₀ i j = (i ≤ length text) × (j ≤ length text) × (classes ≡ classTable → Both text a b i j)
+invariant-loop text classes a b i₀ j₀ i j = (i ≤ length text) × (j ≤ length text) × (classes ≡ class_table → Both text a b i j)
 
 abbrev decreases-loop : tie.decreases-loop
 decreases-loop text classes a b i₀ j₀ i j = length text - i
 
 -- behind the bytes that agree, where the table is right
-module _ (c : tie.After-alike invariant-loop decreases-loop) (l : c.before.before.before.args.classes.now ≡ classTable) where
+module _ (c : tie.After-alike invariant-loop decreases-loop) (l : c.before.before.before.args.classes.now ≡ class_table) where
   behind : Both c.before.before.before.args.text.now c.before.before.before.args.a c.before.before.before.args.b (c.before.loop.i + c.alike.result) (c.before.loop.j + c.alike.result)
-  behind = both-alike _ _ _ _ _ (c.before.loop.invariant.2 l) _ c.alike.ensures
+  behind = both_alike _ _ _ _ _ (c.before.loop.invariant.2 l) _ c.alike.ensures
 
 -- a char in both
-module _ (c : tie.After-known-told2 invariant-loop decreases-loop) (l : c.before.before.before.before.before.before.before.before.before.before.before.before.before.before.before.args.classes.now ≡ classTable) where
+module _ (c : tie.After-known-told2 invariant-loop decreases-loop) (l : c.before.before.before.before.before.before.before.before.before.before.before.before.before.before.before.args.classes.now ≡ class_table) where
   first : Character c.before.before.before.before.before.before.before.before.before.before.before.before.before.before.before.args.text.now (c.before.before.before.before.before.before.before.before.before.before.before.before.before.loop.i + c.before.before.before.before.before.before.before.before.before.before.before.before.alike.result) c.before.before.before.before.before.v.given.0.0 c.before.before.before.before.before.v.given.0.1.0 c.before.before.before.before.before.v.given.0.1.1.0
   first = subst (CharSays _ _) c.before.before.before.before.before.v.given.1 (c.before.before.before.before.before.before.before.char-at.ensures.0 l)
 
@@ -46,7 +46,7 @@ same-quoted-spec =
     decreases-loop
     (λ c. omega (arith, c.before.requires.0.inside))
     (λ c. omega (arith, c.before.requires.1.inside))
-    (λ c. (c.before.requires.0.inside, c.before.requires.1.inside, λ l. both-begin _ _ _ c.before.requires))
+    (λ c. (c.before.requires.0.inside, c.before.requires.1.inside, λ l. both_begin _ _ _ c.before.requires))
     (λ c κs. (c.loop.invariant.0, c.loop.invariant.1))
     (λ c. omega (arith, c.alike.ensures.first.inside))
     (λ c. omega (arith, c.alike.ensures.second.inside))
@@ -54,15 +54,15 @@ same-quoted-spec =
     (λ c κs. search rules)
     (λ c l. both_end _ _ _ _ _ (behind c.before.before.before l) _ _ c.before.before.byte_at.ensures c.before.if1.true c.byte-at2.ensures)
     (λ c κs. search rules)
-    (λ c l. both-second-end _ _ _ _ _ (behind c.before.before.before.before l) _ _ c.before.before.before.byte_at.ensures c.before.before.if1.false c.before.byte-at3.ensures c.if2.true)
+    (λ c l. both_second_end _ _ _ _ _ (behind c.before.before.before.before l) _ _ c.before.before.before.byte_at.ensures c.before.before.if1.false c.before.byte-at3.ensures c.if2.true)
     (λ c κs. λ q. c.before.before.if1.false (c.before.before.before.byte_at.ensures ∙ q))
     (λ c. search rules)
-    (λ c l. both-broken _ _ _ _ _ (behind c.before.before.before.before.before.before.before l) _ (subst (CharSays _ _) c.enum_told.given.1 (c.before.before.char-at.ensures.0 l)))
+    (λ c l. both_broken _ _ _ _ _ (behind c.before.before.before.before.before.before.before l) _ (subst (CharSays _ _) c.enum_told.given.1 (c.before.before.char-at.ensures.0 l)))
     (λ c. search rules)
     (λ c κs. λ q. c.before.before.before.before.if2.false (c.before.before.before.before.before.byte-at3.ensures ∙ q))
     (λ c. search rules)
-    (λ c l. both-second-broken _ _ _ _ _ (behind c.before.before.before.before.before.before.before.before.before.before.before l) _ (subst (CharSays _ _) c.enum-told2.given.1 (c.before.before.char-at2.ensures.0 l)))
+    (λ c l. both_second_broken _ _ _ _ _ (behind c.before.before.before.before.before.before.before.before.before.before.before l) _ (subst (CharSays _ _) c.enum-told2.given.1 (c.before.before.char-at2.ensures.0 l)))
     (λ c. search rules)
-    (λ c l. both-differ _ _ _ _ _ (behind c.before.before.before.before.before.before.before.before.before.before.before.before.before l) _ _ _ _ _ _ (first c.before l) (second c.before l) c.if3.true)
+    (λ c l. both_differ _ _ _ _ _ (behind c.before.before.before.before.before.before.before.before.before.before.before.before.before l) _ _ _ _ _ _ (first c.before l) (second c.before l) c.if3.true)
     (λ c. omega (arith, (first-ahead c.before).forward, (first-ahead c.before).inside))
-    (λ c. ((first-ahead c.before).inside, (second-ahead c.before).inside, λ l. both-agree _ _ _ _ _ (behind c.before.before.before.before.before.before.before.before.before.before.before.before.before l) _ _ _ _ _ _ (first c.before l) (second c.before l) c.if3.false)))
+    (λ c. ((first-ahead c.before).inside, (second-ahead c.before).inside, λ l. both_agree _ _ _ _ _ (behind c.before.before.before.before.before.before.before.before.before.before.before.before.before l) _ _ _ _ _ _ (first c.before l) (second c.before l) c.if3.false)))

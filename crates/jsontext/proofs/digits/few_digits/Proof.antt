@@ -4,20 +4,20 @@ use Prim.Native.Nat.{◌-◌}
 use native.Mathlib.Omega.{arith}
 use borrow.Author.Rules.{rules}
 use borrow.Author.Tests.{not-true, not-false}
-use Rattle.classes.specs.Classes.{classTable}
+use Rattle.classes.specs.Classes.{class_table}
 use Rattle.jsontext.specs.NumberAnswer.{Short, Within, Summed}
-use Rattle.jsontext.proofs.ShortRuns.{within_none, within_more, within-room, summed-none, summed-more}
+use Rattle.jsontext.proofs.ShortRuns.{within_none, within_more, within_room, summed_none, summed_more}
 use Rattle.jsontext.proofs.digits.few_digits.Statement.{statement}
 use Rattle.jsontext.proofs.digits.few_digits.Tie as tie
 
 abbrev invariant-loop : tie.invariant-loop
-invariant-loop text classes before at last v₀ i₀ v i = Within before at last v i × (classes ≡ classTable → Summed text before at v i)
+invariant-loop text classes before at last v₀ i₀ v i = Within before at last v i × (classes ≡ class_table → Summed text before at v i)
 
 abbrev decreases-loop : tie.decreases-loop
 decreases-loop text classes before at last v₀ i₀ v i = last - i
 
 room : (c : tie.Else1 invariant-loop decreases-loop) → Short c.before.before.before.before.loop.v 18
-room c = let (n, s, h) = c.before.before.before.before.before.before.requires.1 in within-room _ _ _ _ _ c.before.before.before.before.loop.invariant.0 c.before.before.before.loop-test.true n s h
+room c = let (n, s, h) = c.before.before.before.before.before.before.requires.1 in within_room _ _ _ _ _ c.before.before.before.before.loop.invariant.0 c.before.before.before.loop-test.true n s h
 
 returns : tie.Need-returns invariant-loop decreases-loop
 returns c = (
@@ -31,7 +31,7 @@ loop-again c =
       within_more _ _ _ _ _ w c.before.before.before.before.loop-test.true _ c.digit_value.ensures.0,
       λ l.
           let there = sym (c.before.before.is_digit.ensures.1 l) ∙ not-false c.before.before.is_digit.result c.before.if1.false in
-          summed-more _ _ _ _ _ w.forward (s l) (omega arith) there _ (c.digit_value.ensures.1 there),
+          summed_more _ _ _ _ _ w.forward (s l) (omega arith) there _ (c.digit_value.ensures.1 there),
     )
 
 pub few-digits-spec : {M : Type 1} → statement M
@@ -40,7 +40,7 @@ few-digits-spec =
     (tie.spec
     invariant-loop
     decreases-loop
-    (λ c. (within_none _ _ _ c.before.requires.0.0, λ _. summed-none _ _ _))
+    (λ c. (within_none _ _ _ c.before.requires.0.0, λ _. summed_none _ _ _))
     (λ c. search rules)
     (λ c κs. search rules)
     returns

@@ -3,7 +3,7 @@ use mathlib.Core.Path.{sym}
 use native.Mathlib.Omega.{arith}
 use borrow.Author.Rules.{rules}
 use Rattle.jsontext.specs.NumberAnswer.{ShortWhole}
-use Rattle.jsontext.proofs.ShortRuns.{whole-count}
+use Rattle.jsontext.proofs.ShortRuns.{whole_count}
 use Rattle.jsontext.proofs.number.number.Statement.{statement}
 use Rattle.jsontext.proofs.number.number.Tie as tie
 
@@ -14,7 +14,7 @@ shared-slice-read-b : tie.Need-shared-slice-read-b
 shared-slice-read-b c = let p = placed c.before in omega (arith, p.early, p.inside)
 
 returns-4 : tie.Need-returns-4
-returns-4 c l = sym (whole-count _ _ _ (placed c.before.before.before) (c.before.before.before.before.short-whole.ensures.1 l c.before.before.before.if1.false) c.before.if2.false c.if3.false)
+returns-4 c l = sym (whole_count _ _ _ (placed c.before.before.before) (c.before.before.before.before.short-whole.ensures.1 l c.before.before.before.if1.false) c.before.if2.false c.if3.false)
 
 pub number-spec : {M : Type 1} → statement M
 number-spec =

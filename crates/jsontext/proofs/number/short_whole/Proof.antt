@@ -2,15 +2,15 @@
 use native.Mathlib.Omega.{arith}
 use borrow.Author.Rules.{rules}
 use Rattle.jsontext.specs.NumberAnswer.{ShortWhole}
-use Rattle.jsontext.proofs.ShortRuns.{not_short, whole-placed, whole-begins}
+use Rattle.jsontext.proofs.ShortRuns.{not_short, whole_placed, whole_begins}
 use Rattle.jsontext.proofs.number.short_whole.Statement.{statement}
 use Rattle.jsontext.proofs.number.short_whole.Tie as tie
 
-placed : (c : tie.Else3) → ShortWhole c.before.before.before.before.before.args.text.now c.before.before.before.before.before.args.at c.before.few-digits.result
-placed c = whole-placed _ _ _ c.before.few-digits.ensures.0 (omega arith) c.if3.false
+placed : (c : tie.Else3) → ShortWhole c.before.before.before.before.before.args.text.now c.before.before.before.before.before.args.at c.before.few_digits.result
+placed c = whole_placed _ _ _ c.before.few_digits.ensures.0 (omega arith) c.if3.false
 
 returns-5 : tie.Need-returns-5
-returns-5 c = let p = placed c.before.before in (λ _. p, λ l _. whole-begins _ _ _ p (c.before.before.before.few-digits.ensures.1 l) c.if4.false)
+returns-5 c = let p = placed c.before.before in (λ _. p, λ l _. whole_begins _ _ _ p (c.before.before.before.few_digits.ensures.1 l) c.if4.false)
 
 pub short-whole-spec : {M : Type 1} → statement M
 short-whole-spec =

@@ -2,9 +2,9 @@
 use mathlib.Core.Path.{◌≡◌}
 use borrow.Author.Rules.{rules}
 use native.Mathlib.Omega.{arith}
-use Rattle.jsontext.proofs.HexDigits.{sum-value}
+use Rattle.jsontext.proofs.HexDigits.{sum_value}
 use Rattle.jsontext.proofs.pieces.hex_value.Statement.{statement}
 use Rattle.jsontext.proofs.pieces.hex_value.Tie as tie
 
 pub hex-value-spec : {M : Type 1} → statement M
-hex-value-spec = tie.close (tie.spec (λ c. search rules) (λ c. search rules) (λ c. search rules) (λ c. (omega arith, λ e. sum-value _ (search rules) e)))
+hex-value-spec = tie.close (tie.spec (λ c. search rules) (λ c. search rules) (λ c. search rules) (λ c. (omega arith, λ e. sum_value _ (search rules) e)))

@@ -3,9 +3,9 @@ use mathlib.Core.Path.{sym, ap, ◌∙◌, subst}
 use Prim.Native.Nat.{◌+◌}
 use borrow.Author.Rules.{rules}
 use native.Mathlib.Omega.{arith}
-use Rattle.jsontext.specs.StringAnswers.{hexOf, Ahead, HexInside}
-use Rattle.jsontext.proofs.PieceEnds.{escape-later}
-use Rattle.jsontext.proofs.Ways.{unicode-bad, unicode-pair, unicode-one}
+use Rattle.jsontext.specs.StringAnswers.{hex_of, Ahead, HexInside}
+use Rattle.jsontext.proofs.PieceEnds.{escape_later}
+use Rattle.jsontext.proofs.Ways.{unicode_bad, unicode_pair, unicode_one}
 use Rattle.jsontext.proofs.pieces.unicode.Statement.{statement}
 use Rattle.jsontext.proofs.pieces.unicode.Tie as tie
 
@@ -15,13 +15,13 @@ module _ (c : tie.After-known-told2) where
   ahead = subst (HexInside _ _) c.before.v.given.1 c.before.before.before.first-unit.ensures.1
 
 returns : tie.Need-returns
-returns c = (λ l. c.pair.ensures.0 l ∙ unicode-pair _ _ _ _ (ap hexOf (sym c.before.before.before.v.given.1) ∙ c.before.before.before.before.before.first-unit.ensures.0 l) c.before.if1.true, escape-later _ _ _ c.pair.result (omega (arith, (ahead c.before.before).forward)) c.pair.ensures.1)
+returns c = (λ l. c.pair.ensures.0 l ∙ unicode_pair _ _ _ _ (ap hex_of (sym c.before.before.before.v.given.1) ∙ c.before.before.before.before.before.first-unit.ensures.0 l) c.before.if1.true, escape_later _ _ _ c.pair.result (omega (arith, (ahead c.before.before).forward)) c.pair.ensures.1)
 
 returns-2 : tie.Need-returns-2
-returns-2 c = (λ l. unicode-bad _ _ _ (ap hexOf (sym c.before.p.given.1) ∙ c.before.before.before.first-unit.ensures.0 l), tt)
+returns-2 c = (λ l. unicode_bad _ _ _ (ap hex_of (sym c.before.p.given.1) ∙ c.before.before.before.first-unit.ensures.0 l), tt)
 
 returns-3 : tie.Need-returns-3
-returns-3 c = (λ l. unicode-one _ _ _ _ (ap hexOf (sym c.before.before.v.given.1) ∙ c.before.before.before.before.first-unit.ensures.0 l) c.if1.false, record { forward = omega (arith, (ahead c.before).forward); inside = (ahead c.before).inside })
+returns-3 c = (λ l. unicode_one _ _ _ _ (ap hex_of (sym c.before.before.v.given.1) ∙ c.before.before.before.before.first-unit.ensures.0 l) c.if1.false, record { forward = omega (arith, (ahead c.before).forward); inside = (ahead c.before).inside })
 
 pub unicode-spec : {M : Type 1} → statement M
 unicode-spec =

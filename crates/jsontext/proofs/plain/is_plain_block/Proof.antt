@@ -5,7 +5,7 @@ use Prim.Native.Nat.{◌+◌, ◌-◌, ◌≤◌}
 use borrow.Author.Rules.{rules}
 use native.Mathlib.Omega.{arith}
 use Rattle.jsontext.specs.StringAnswers.{Plains}
-use Rattle.jsontext.proofs.PlainRuns.{block_none, block_more, block-all}
+use Rattle.jsontext.proofs.PlainRuns.{block_none, block_more, block_all}
 use Rattle.jsontext.proofs.plain.is_plain_block.Statement.{statement}
 use Rattle.jsontext.proofs.plain.is_plain_block.Tie as tie
 
@@ -28,4 +28,4 @@ is-plain-block-spec =
     (λ c. search rules)
     (λ c. search rules)
     (λ c. (omega arith, block_more c.before.before.before.before.before.args.text.now c.before.before.before.before.before.args.at c.before.before.before.loop.k c.before.before.before.loop.all c.before.before.before.loop.invariant.1 c.is_plain.result (omega (arith, c.before.before.before.before.before.requires)) c.is_plain.ensures))
-    (λ c. block-all c.before.before.before.args.text.now c.before.before.before.args.at c.before.loop.k c.before.loop.all c.before.loop.invariant.1 (omega (arith, c.before.loop.invariant.0))))
+    (λ c. block_all c.before.before.before.args.text.now c.before.before.before.args.at c.before.loop.k c.before.loop.all c.before.loop.invariant.1 (omega (arith, c.before.loop.invariant.0))))

@@ -5,7 +5,7 @@ use borrow.Author.Tests.{not-false}
 use native.Mathlib.Omega.{arith}
 use lib.ListN.{length}
 use Rattle.jsontext.specs.StringAnswers.{Plains}
-use Rattle.jsontext.proofs.PlainRuns.{plains-none, plains-join}
+use Rattle.jsontext.proofs.PlainRuns.{plains_none, plains_join}
 use Rattle.jsontext.proofs.plain.plain_blocks.Statement.{statement}
 use Rattle.jsontext.proofs.plain.plain_blocks.Tie as tie
 
@@ -21,11 +21,11 @@ plain-blocks-spec =
     (tie.spec
     invariant-loop
     decreases-loop
-    (λ c. plains-none _ _ c.before.requires)
+    (λ c. plains_none _ _ c.before.requires)
     (λ c. omega (arith, c.loop.invariant.inside))
     (λ c κs. omega (arith, c.before.loop.invariant.inside))
     (λ c. c.before.before.before.loop.invariant)
     (λ c. omega (arith, c.before.before.before.loop.invariant.inside))
     (λ c. omega (arith, c.before.before.before.loop.invariant.inside))
-    (λ c. plains-join _ _ _ c.before.before.before.loop.invariant _ (c.before.is-plain-block.ensures (not-false c.before.is-plain-block.result c.if1.false)))
+    (λ c. plains_join _ _ _ c.before.before.before.loop.invariant _ (c.before.is-plain-block.ensures (not-false c.before.is-plain-block.result c.if1.false)))
     (λ c. c.before.loop.invariant))

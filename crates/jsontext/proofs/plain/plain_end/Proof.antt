@@ -4,7 +4,7 @@ use borrow.Author.Rules.{rules}
 use native.Mathlib.Omega.{arith}
 use lib.ListN.{length}
 use Rattle.jsontext.specs.StringAnswers.{Plains}
-use Rattle.jsontext.proofs.PlainRuns.{plains-none, plains-join, plains-fewer}
+use Rattle.jsontext.proofs.PlainRuns.{plains_none, plains_join, plains_fewer}
 use Rattle.jsontext.proofs.plain.plain_end.Statement.{statement}
 use Rattle.jsontext.proofs.plain.plain_end.Tie as tie
 
@@ -23,13 +23,13 @@ plain-end-spec =
     (λ c. search rules)
     (λ c κs. search rules)
     (λ c. omega (arith, c.smaller.ensures, c.before.before.requires))
-    (λ c. (omega arith, omega (arith, c.smaller.ensures, c.before.before.requires), plains-none _ _ c.before.before.requires))
+    (λ c. (omega arith, omega (arith, c.smaller.ensures, c.before.before.requires), plains_none _ _ c.before.before.requires))
     (λ c. omega (arith, c.loop.invariant.0))
     (λ c κs. omega (arith, c.before.loop.invariant.0, c.before.loop.invariant.1))
     (λ c. omega (arith, c.before.before.loop.invariant.2.inside))
-    (λ c. plains-join _ _ _ c.before.before.before.loop.invariant.2 _ c.before.plain_word.ensures)
+    (λ c. plains_join _ _ _ c.before.before.before.loop.invariant.2 _ c.before.plain_word.ensures)
     (λ c. search rules)
     (λ c. search rules)
-    (λ c. (omega (arith, c.before.before.before.loop.invariant.0), c.before.before.before.loop.invariant.1, plains-join _ _ _ c.before.before.before.loop.invariant.2 _ (plains-fewer _ _ _ _ (omega arith) c.if1.false c.before.plain_word.ensures)))
+    (λ c. (omega (arith, c.before.before.before.loop.invariant.0), c.before.before.before.loop.invariant.1, plains_join _ _ _ c.before.before.before.loop.invariant.2 _ (plains_fewer _ _ _ _ (omega arith) c.if1.false c.before.plain_word.ensures)))
     (λ c κs. c.before.loop.invariant.2.inside)
-    (λ c. plains-join _ _ _ c.before.before.loop.invariant.2 _ c.plain-far.ensures))
+    (λ c. plains_join _ _ _ c.before.before.loop.invariant.2 _ c.plain-far.ensures))

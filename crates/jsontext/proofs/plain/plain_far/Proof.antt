@@ -1,6 +1,6 @@
 -- Blocks, then words. Assumes nothing.
 use borrow.Author.Rules.{rules}
-use Rattle.jsontext.proofs.PlainRuns.{plains-join}
+use Rattle.jsontext.proofs.PlainRuns.{plains_join}
 use Rattle.jsontext.proofs.plain.plain_far.Statement.{statement}
 use Rattle.jsontext.proofs.plain.plain_far.Tie as tie
 
@@ -10,4 +10,4 @@ plain-far-spec =
     (tie.spec
     (λ c κs. search rules)
     (λ c κs. c.plain-blocks.ensures.inside)
-    (λ c. plains-join _ _ _ c.before.plain-blocks.ensures _ c.plain-words.ensures))
+    (λ c. plains_join _ _ _ c.before.plain-blocks.ensures _ c.plain-words.ensures))

@@ -4,7 +4,7 @@ use borrow.Author.Rules.{rules}
 use native.Mathlib.Omega.{arith}
 use lib.ListN.{length}
 use Rattle.jsontext.specs.StringAnswers.{Plains}
-use Rattle.jsontext.proofs.PlainRuns.{plains-none, plains-join, plains-fewer}
+use Rattle.jsontext.proofs.PlainRuns.{plains_none, plains_join, plains_fewer}
 use Rattle.jsontext.proofs.plain.plain_words.Statement.{statement}
 use Rattle.jsontext.proofs.plain.plain_words.Tie as tie
 
@@ -20,13 +20,13 @@ plain-words-spec =
     (tie.spec
     invariant-loop
     decreases-loop
-    (λ c. plains-none _ _ c.before.requires)
+    (λ c. plains_none _ _ c.before.requires)
     (λ c. omega (arith, c.loop.invariant.inside))
     (λ c κs. omega (arith, c.before.loop.invariant.inside))
     (λ c. omega (arith, c.before.before.loop.invariant.inside))
-    (λ c. plains-join _ _ _ c.before.before.before.loop.invariant _ c.before.plain_word.ensures)
+    (λ c. plains_join _ _ _ c.before.before.before.loop.invariant _ c.before.plain_word.ensures)
     (λ c. search rules)
     (λ c. search rules)
-    (λ c. plains-join _ _ _ c.before.before.before.loop.invariant _ (plains-fewer _ _ _ _ (omega arith) c.if1.false c.before.plain_word.ensures))
+    (λ c. plains_join _ _ _ c.before.before.before.loop.invariant _ (plains_fewer _ _ _ _ (omega arith) c.if1.false c.before.plain_word.ensures))
     (λ c κs. c.before.loop.invariant.inside)
-    (λ c. plains-join _ _ _ c.before.before.loop.invariant _ c.plain-rest.ensures))
+    (λ c. plains_join _ _ _ c.before.before.loop.invariant _ c.plain-rest.ensures))

@@ -3,7 +3,7 @@ use Prim.Native.Nat.{◌-◌, ◌^◌, ◌≤◌}
 use mathlib.Core.Path.{◌≡◌, refl, ap, ◌∙◌}
 use native.Mathlib.Omega.{arith}
 use borrow.Author.Rules.{rules}
-use Rattle.jsontext.proofs.Rates.{power_below, power-more}
+use Rattle.jsontext.proofs.Rates.{power_below, power_more}
 use Rattle.jsontext.proofs.rate.power_of_ten.Statement.{statement}
 use Rattle.jsontext.proofs.rate.power_of_ten.Tie as tie
 
@@ -17,7 +17,7 @@ mul_power : tie.Need-overflow-mul-power invariant-loop decreases-loop
 mul_power c = let k = power_below c.before.loop.i 15 (omega arith) in omega arith
 
 loop-again : tie.Need-loop-preserved invariant-loop decreases-loop
-loop-again c = let k = power-more c.before.loop.i in (omega arith, omega arith)
+loop-again c = let k = power_more c.before.loop.i in (omega arith, omega arith)
 
 returns : tie.Need-returns invariant-loop decreases-loop
 returns c =

@@ -1,7 +1,7 @@
 -- The string ends in the first word behind its quote or in the second. Assumes nothing.
 use borrow.Author.Rules.{rules}
 use native.Mathlib.Omega.{arith}
-use Rattle.jsontext.proofs.PlainRuns.{plains-join, plains-fewer}
+use Rattle.jsontext.proofs.PlainRuns.{plains_join, plains_fewer}
 use Rattle.jsontext.proofs.shorts.short.Statement.{statement}
 use Rattle.jsontext.proofs.shorts.short.Tie as tie
 
@@ -24,5 +24,5 @@ short-spec =
     (λ c. search rules)
     (λ c. search rules)
     (λ c κs. search rules)
-    (λ c κs. (c.before.before.before.if3.false, plains-join _ _ _ (plains-fewer _ _ _ _ (omega arith) c.before.if4.false c.before.before.plain_word.ensures) _ c.plain-word2.ensures))
+    (λ c κs. (c.before.before.before.if3.false, plains_join _ _ _ (plains_fewer _ _ _ _ (omega arith) c.before.if4.false c.before.before.plain_word.ensures) _ c.plain-word2.ensures))
     (λ c. search rules))

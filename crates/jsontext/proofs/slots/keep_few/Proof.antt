@@ -2,17 +2,17 @@
 use mathlib.Core.Path.{sym, ap, ◌∙◌}
 use borrow.Author.Rules.{rules}
 use native.Mathlib.Omega.{arith}
-use Rattle.jsontext.specs.Decoded.{joinBytes}
+use Rattle.jsontext.specs.Decoded.{join_bytes}
 use lib.Seq.{take_all}
-use Rattle.jsontext.proofs.Keeping.{last-shifted}
+use Rattle.jsontext.proofs.Keeping.{last_shifted}
 use Rattle.jsontext.proofs.slots.keep_few.Statement.{statement}
 use Rattle.jsontext.proofs.slots.keep_few.Tie as tie
 
 returns : tie.Need-returns
 returns c = (
   λ bs xs v u e f.
-      c.keep.ensures.0 bs xs v u e (f ∙ ap joinBytes (sym (take_all 8 xs (omega (arith, c.before.requires)))))
-      (last-shifted bs xs _ _ _ v.bytes u e (omega (arith, c.before.requires)) f v.last),
+      c.keep.ensures.0 bs xs v u e (f ∙ ap join_bytes (sym (take_all 8 xs (omega (arith, c.before.requires)))))
+      (last_shifted bs xs _ _ _ v.bytes u e (omega (arith, c.before.requires)) f v.last),
   c.keep.ensures.1,
 )
 

@@ -1,7 +1,7 @@
 -- No bytes, a few, or the words at both ends. Assumes nothing.
 use borrow.Author.Rules.{rules}
 use native.Mathlib.Omega.{arith}
-use Rattle.jsontext.proofs.Keeping.{part_length, part_bytes, part-front, part-last, keep_same}
+use Rattle.jsontext.proofs.Keeping.{part_length, part_bytes, part_front, part_last, keep_same}
 use Rattle.jsontext.proofs.slots.keep_part.Statement.{statement}
 use Rattle.jsontext.proofs.slots.keep_part.Tie as tie
 
@@ -29,8 +29,8 @@ returns-3 c =
           c.keep.ensures.0 bs _ v
           (part_bytes t _ _ p.1 p.2 (λ i l. omega (arith, c.before.before.before.before.before.shared-slice-known.given i)))
           (part_length t _ _ p.1 p.2)
-          (part-front t _ _ p.1 p.2 c.before.before.before.if2.false _ c.before.before.word.ensures)
-          (part-last t _ _ p.1 p.2 c.before.before.before.if2.false bs _ c.before.word2.ensures),
+          (part_front t _ _ p.1 p.2 c.before.before.before.if2.false _ c.before.before.word.ensures)
+          (part_last t _ _ p.1 p.2 c.before.before.before.if2.false bs _ c.before.word2.ensures),
       c.keep.ensures.1,
     )
 

@@ -6,7 +6,7 @@ use borrow.Author.Tests.{not-true, not-false}
 use native.Mathlib.Omega.{arith}
 use lib.ListN.{length, length-set}
 use Rattle.jsontext.proofs.Places.{never}
-use Rattle.jsontext.proofs.Quoting.{Quoting, quoting-none, quoting-more, quoting-plain, quoting-all}
+use Rattle.jsontext.proofs.Quoting.{Quoting, quoting_none, quoting_more, quoting_plain, quoting_all}
 use Rattle.jsontext.proofs.tokens.put_quoted.Statement.{statement}
 use Rattle.jsontext.proofs.tokens.put_quoted.Tie as tie
 
@@ -17,7 +17,7 @@ abbrev decreases-loop : tie.decreases-loop
 decreases-loop out₀ bytes i₀ out i = length bytes - i
 
 loop-holds : tie.Need-loop-init invariant-loop decreases-loop
-loop-holds c = quoting-none c.before.before.args.bytes.now c.before.before.args.out.now c.before.before.requires
+loop-holds c = quoting_none c.before.before.args.bytes.now c.before.before.args.out.now c.before.before.requires
 
 stops : tie.Need-returns invariant-loop decreases-loop
 stops c =
@@ -34,13 +34,13 @@ loop-again : tie.Need-loop-preserved invariant-loop decreases-loop
 loop-again c =
     let r = c.before.is_plain in
     let l = c.before.before.before.before.loop in
-    quoting-more _ _ _ l.i l.invariant c.before.before.before.loop-test.true (sym r.ensures ∙ not-false r.result c.if1.false)
+    quoting_more _ _ _ l.i l.invariant c.before.before.before.loop-test.true (sym r.ensures ∙ not-false r.result c.if1.false)
 
 written : tie.Need-returns-2 invariant-loop decreases-loop
 written c =
     let l = c.before.loop in
     let h = c.loop-test.false in
-    (λ _. quoting-plain _ _ _ l.i l.invariant h, (λ _. quoting-all _ _ _ l.i l.invariant h, λ _. refl))
+    (λ _. quoting_plain _ _ _ l.i l.invariant h, (λ _. quoting_all _ _ _ l.i l.invariant h, λ _. refl))
 
 pub put-quoted-spec : {M : Type 1} → statement M
 put-quoted-spec =

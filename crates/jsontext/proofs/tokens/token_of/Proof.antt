@@ -6,7 +6,7 @@ use borrow.Author.Tests.{not-true, not-false}
 use native.Mathlib.Omega.{arith}
 use lib.ListN.{length}
 use Rattle.jsontext.proofs.Places.{never}
-use Rattle.jsontext.proofs.Quoting.{short-token, long-token}
+use Rattle.jsontext.proofs.Quoting.{short_token, long_token}
 use Rattle.jsontext.proofs.tokens.token_of.Statement.{statement}
 use Rattle.jsontext.proofs.tokens.token_of.Tie as tie
 
@@ -23,14 +23,14 @@ short c =
     let p = c.before.before.before.before.before.put-quoted in
     let key = c.before.before.before.before.before.before.before.before.before.args.bytes.now in
     let t = not-false p.result c.before.before.before.if2.false in
-    (λ _. short-token key _ (length key + 2) refl (omega (arith, c.before.before.before.before.before.before.before.if1.false)) (p.ensures.0 t) (p.ensures.1.0 t) c.few_bytes.result c.before.before.if3.true c.few_bytes.ensures, λ v l. refl)
+    (λ _. short_token key _ (length key + 2) refl (omega (arith, c.before.before.before.before.before.before.before.if1.false)) (p.ensures.0 t) (p.ensures.1.0 t) c.few_bytes.result c.before.before.if3.true c.few_bytes.ensures, λ v l. refl)
 
 long : tie.Need-returns-4
 long c =
     let p = c.before.before.before.before.before.before.before.put-quoted in
     let key = c.before.before.before.before.before.before.before.before.before.before.before.args.bytes.now in
     let t = not-false p.result c.before.before.before.before.before.if2.false in
-    (λ _. long-token key _ (length key + 2) refl (omega (arith, c.before.before.before.before.before.before.before.before.before.if1.false)) (p.ensures.0 t) (p.ensures.1.0 t) c.before.before.word.result c.word2.result c.before.before.before.before.if3.false c.before.before.word.ensures c.word2.ensures, λ v l. refl)
+    (λ _. long_token key _ (length key + 2) refl (omega (arith, c.before.before.before.before.before.before.before.before.before.if1.false)) (p.ensures.0 t) (p.ensures.1.0 t) c.before.before.word.result c.word2.result c.before.before.before.before.if3.false c.before.before.word.ensures c.word2.ensures, λ v l. refl)
 
 pub token-of-spec : {M : Type 1} → statement M
 token-of-spec =

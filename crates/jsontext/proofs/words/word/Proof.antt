@@ -1,7 +1,7 @@
 -- Eight bytes, each times its power of 256. Assumes nothing.
 use borrow.Author.Rules.{rules}
 use native.Mathlib.Omega.{arith}
-use Rattle.jsontext.proofs.Joining.{join-eight}
+use Rattle.jsontext.proofs.Joining.{join_eight}
 use Rattle.jsontext.proofs.words.word.Statement.{statement}
 use Rattle.jsontext.proofs.words.word.Tie as tie
 
@@ -9,7 +9,7 @@ returns : tie.Need-returns
 returns c =
     omega (
       arith,
-      join-eight c.before.before.before.before.before.before.before.before.before.before.before.before.before.before.before.before.before.args.bytes.now c.before.before.before.before.before.before.before.before.before.before.before.before.before.before.before.before.before.args.i c.before.before.before.before.before.before.before.before.before.before.before.before.before.before.before.before.before.requires,
+      join_eight c.before.before.before.before.before.before.before.before.before.before.before.before.before.before.before.before.before.args.bytes.now c.before.before.before.before.before.before.before.before.before.before.before.before.before.before.before.before.before.args.i c.before.before.before.before.before.before.before.before.before.before.before.before.before.before.before.before.before.requires,
       c.before.before.before.before.before.before.before.before.before.before.before.before.before.before.wide.ensures,
       c.before.before.before.before.before.before.before.before.before.before.before.before.wide2.ensures,
       c.before.before.before.before.before.before.before.before.before.before.wide3.ensures,

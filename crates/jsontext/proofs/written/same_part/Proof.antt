@@ -6,8 +6,8 @@ use borrow.Author.Tests.{not-false}
 use native.Mathlib.Omega.{arith}
 use Rattle.jsontext.specs.Compared.{Alike}
 use Rattle.jsontext.proofs.Places.{never}
-use Rattle.jsontext.proofs.Agreeing.{alike-none}
-use Rattle.jsontext.proofs.Writing.{alike-join}
+use Rattle.jsontext.proofs.Agreeing.{alike_none}
+use Rattle.jsontext.proofs.Writing.{alike_join}
 use Rattle.jsontext.proofs.written.same_part.Statement.{statement}
 use Rattle.jsontext.proofs.written.same_part.Tie as tie
 
@@ -23,15 +23,15 @@ same-part-spec =
     (tie.spec
     invariant-loop
     decreases-loop
-    (λ c. (omega arith, alike-none _ _ _ _ (omega arith) (omega arith)))
+    (λ c. (omega arith, alike_none _ _ _ _ (omega arith) (omega arith)))
     (λ c. search rules)
     (λ c. search rules)
     (λ c κs. search rules)
     (λ c e. never (sym e))
     (λ c. search rules)
     (λ c. search rules)
-    (λ c. (omega arith, alike-join _ _ _ _ _ _ refl c.before.before.before.loop.invariant.1 (c.before.same_word.ensures (not-false c.before.same_word.result c.if1.false))))
+    (λ c. (omega arith, alike_join _ _ _ _ _ _ refl c.before.before.before.loop.invariant.1 (c.before.same_word.ensures (not-false c.before.same_word.result c.if1.false))))
     (λ c. search rules)
     (λ c. search rules)
     (λ c κs. search rules)
-    (λ c e. alike-join _ _ _ _ _ _ (omega arith) c.before.before.loop.invariant.1 (c.same-few.ensures e)))
+    (λ c e. alike_join _ _ _ _ _ _ (omega arith) c.before.before.loop.invariant.1 (c.same_few.ensures e)))

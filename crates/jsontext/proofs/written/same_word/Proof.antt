@@ -4,14 +4,14 @@ use borrow.Author.Rules.{rules}
 use borrow.Author.Tests.{eqb-true}
 use native.Mathlib.Omega.{arith}
 use Rattle.jsontext.proofs.Places.{never}
-use Rattle.jsontext.proofs.Writing.{alike-word}
+use Rattle.jsontext.proofs.Writing.{alike_word}
 use Rattle.jsontext.proofs.written.same_word.Statement.{statement}
 use Rattle.jsontext.proofs.written.same_word.Tie as tie
 
 returns-2 : tie.Need-returns-2
 returns-2 c e =
     let (some, (first, second)) = c.before.before.before.before.before.before.requires in
-    alike-word _ _ _ _ _ some.1 first second
+    alike_word _ _ _ _ _ some.1 first second
     (λ i l. omega (arith, c.before.before.before.before.before.shared-slice-known.given i))
     (λ i l. omega (arith, c.before.before.before.before.shared-slice-known2.given i))
     _ _ c.before.before.before.word.ensures c.before.before.word2.ensures c.before.if1.false

@@ -1,12 +1,12 @@
 -- `membership::chains::scan` meets its contract. Assumes nothing.
 use Prim.Native.Nat.{◌-◌, ◌≤◌}
-use Rattle.membership.specs.Chains.{classIn, FirstWith}
+use Rattle.membership.specs.Chains.{class_in, FirstWith}
 use Rattle.membership.proofs.States.{scans}
 use Rattle.membership.proofs.chains.scan.Statement.{statement}
 use Rattle.membership.proofs.chains.scan.Tie as tie
 
 abbrev invariant-loop : tie.invariant-loop
-invariant-loop work c low high j₀ j = FirstWith (classIn work) c low j j × (j ≤ high)
+invariant-loop work c low high j₀ j = FirstWith (class_in work) c low j j × (j ≤ high)
 
 abbrev decreases-loop : tie.decreases-loop
 decreases-loop work c low high j₀ j = high - j

@@ -1,6 +1,6 @@
 -- `membership::memory::kept` meets its contract. Assumes nothing.
 use Prim.Native.Nat.{◌-◌}
-use Rattle.membership.proofs.Own.{Masking, kept_at, kept-all, nothing-dropped, masks}
+use Rattle.membership.proofs.Own.{Masking, kept_at, kept_all, nothing_dropped, masks}
 use Rattle.membership.proofs.Rowing.{zeros}
 use Rattle.membership.proofs.memory.kept.Statement.{statement}
 use Rattle.membership.proofs.memory.kept.Tie as tie
@@ -17,13 +17,13 @@ returns : tie.Need-returns invariant-loop decreases-loop
 returns c =
     let a = c.before.before.args in
     let p = c.before.before.requires in
-    (nothing-dropped a.mask a.tags a.memory.now c.before.if1.true, p.1)
+    (nothing_dropped a.mask a.tags a.memory.now c.before.if1.true, p.1)
 
 returns-2 : tie.Need-returns-2 invariant-loop decreases-loop
 returns-2 c =
     let a = c.before.before.before.args in
     let l = c.before.loop in
-    kept-all a.mask a.tags a.memory.now l.out l.rest l.k l.invariant c.loop-test.false
+    kept_all a.mask a.tags a.memory.now l.out l.rest l.k l.invariant c.loop-test.false
 
 pub kept-spec : {M : Type 1} → statement M
 kept-spec =

@@ -1,11 +1,11 @@
 -- `membership::memory::same` meets its contract. Assumes nothing.
 use Prim.Native.Nat.{◌-◌}
-use Rattle.membership.proofs.Places.{Testing, sameAt, tests}
+use Rattle.membership.proofs.Places.{Testing, same_at, tests}
 use Rattle.membership.proofs.memory.same.Statement.{statement}
 use Rattle.membership.proofs.memory.same.Tie as tie
 
 abbrev invariant-loop : tie.invariant-loop
-invariant-loop a b all₀ k₀ all k = Testing (sameAt a b) all k
+invariant-loop a b all₀ k₀ all k = Testing (same_at a b) all k
 
 abbrev decreases-loop : tie.decreases-loop
 decreases-loop a b all₀ k₀ all k = 16 - k

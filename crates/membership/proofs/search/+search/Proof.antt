@@ -5,9 +5,9 @@ use native.Mathlib.Omega.{arith}
 use borrow.Author.Rules.{rules}
 use borrow.Fn.Kinds.{In}
 use borrow.Fn.PlainCycle.{Measures, is, falls, and}
-use Rattle.membership.specs.Chains.{classIn}
-use Rattle.membership.specs.Search.{tagsIn}
-use Rattle.membership.proofs.Searching.{none_left, tried-already, start, next-ready, in_place, in-work, choice-short, more-short, class-known, skip, again, full, all, Choosing, choosing, choosing-next, class-start, first-needs, next-needs, next-windows}
+use Rattle.membership.specs.Chains.{class_in}
+use Rattle.membership.specs.Search.{tags_in}
+use Rattle.membership.proofs.Searching.{none_left, tried_already, start, next_ready, in_place, in_work, choice_short, more_short, class_known, skip, again, full, all, Choosing, choosing, choosing_next, class_start, first_needs, next_needs, next_windows}
 use Rattle.membership.proofs.search.search.Reads as search'
 use Rattle.membership.proofs.search.search.Kinds as search-kinds
 use Rattle.membership.proofs.search.+search.Lts-search as search-lts
@@ -57,7 +57,7 @@ returns t c =
 slot-for-requires : (t : ℕ) → search-lts.Need-slot-for-requires (read t) (search-at t) search'.Post invariant-loop decreases-loop
 slot-for-requires t c κs =
     let p = c.before.before.before.before.before.before.before.before.before.requires.1 in
-    let few = p.0.few-children in
+    let few = p.0.few_children in
     let within = p.1 in
     let some = c.before.before.before.before.before.before.before.if1.false in
     omega (arith, few, within, some)
@@ -65,15 +65,15 @@ slot-for-requires t c κs =
 is-tried-requires : (t : ℕ) → search-lts.Need-is-tried-requires (read t) (search-at t) search'.Post invariant-loop decreases-loop
 is-tried-requires t c κs =
     let p = c.before.before.before.before.before.before.before.before.before.before.before.before.requires.1 in
-    let few = p.0.few-children in
+    let few = p.0.few_children in
     let within = p.1 in
-    (omega arith, (p.2.few-rows, p.2.few-rules, omega (arith, few, within), p.0.few-tags))
+    (omega arith, (p.2.few_rows, p.2.few_rules, omega (arith, few, within), p.0.few_tags))
 
 returns-2 : (t : ℕ) → search-lts.Need-returns-2 (read t) (search-at t) search'.Post invariant-loop decreases-loop
 returns-2 t c =
     let a = c.before.before.before.before.before.before.before.before.before.before.before.before.before.before.args in
     let p = c.before.before.before.before.before.before.before.before.before.before.before.before.before.before.requires.1 in
-    tried-already a.work.now a.slots.now a.own.now a.plan.now a.asked.now a.left a.n a.memory.now a.children.now p.0 a.tried.now p.2 (c.before.is-tried.ensures c.if2.true)
+    tried_already a.work.now a.slots.now a.own.now a.plan.now a.asked.now a.left a.n a.memory.now a.children.now p.0 a.tried.now p.2 (c.before.is-tried.ensures c.if2.true)
 
 sub-rest : (t : ℕ) → search-lts.Need-overflow-sub-rest (read t) (search-at t) search'.Post invariant-loop decreases-loop
 sub-rest t c =
@@ -83,7 +83,7 @@ first-in-requires : (t : ℕ) → search-lts.Need-first-in-requires (read t) (se
 first-in-requires t c κs =
     let a = c.before.before.before.before.before.before.before.before.before.before.before.before.before.before.before.before.before.args in
     let p = c.before.before.before.before.before.before.before.before.before.before.before.before.before.before.before.before.before.requires.1 in
-    let (four, order, few, fits, opened) = first-needs a.work.now a.slots.now a.own.now a.plan.now a.asked.now a.left a.n a.memory.now a.children.now p.0 p.1 c.before.before.before.before.before.before.before.before.before.before.before.before.before.before.before.if1.false a.heads.now a.links.now p.5 in
+    let (four, order, few, fits, opened) = first_needs a.work.now a.slots.now a.own.now a.plan.now a.asked.now a.left a.n a.memory.now a.children.now p.0 p.1 c.before.before.before.before.before.before.before.before.before.before.before.before.before.before.before.if1.false a.heads.now a.links.now p.5 in
     ((four, c.before.class_of.ensures.1, order, few, fits), opened)
 
 loop-holds : (t : ℕ) → search-lts.Need-loop-init (read t) (search-at t) search'.Post invariant-loop decreases-loop
@@ -92,7 +92,7 @@ loop-holds t c =
     let p = c.before.before.before.before.before.before.before.before.before.before.before.before.before.before.before.before.before.before.requires.1 in
     let other = c.before.before.before.before.before.before.before.before.before.before.before.before.before.before.before.before.if1.false in
     let k = c.before.before.class_of in
-    choosing a.work.now a.slots.now a.own.now a.plan.now a.asked.now a.left a.n a.memory.now a.children.now a.heads.now a.links.now a.work.now a.slots.now a.children.now a.tried.now a.n _ (start a.work.now a.slots.now a.own.now a.plan.now a.asked.now a.left a.n a.memory.now a.children.now p.0 p.1 other a.tried.now p.2) p.5 (omega arith) (classIn a.work.now) (class-start a.work.now a.slots.now a.own.now a.plan.now a.asked.now a.left a.n a.memory.now a.children.now p.0 p.1 other a.heads.now a.links.now p.5) k.result c.first-in.result k.ensures.0 c.first-in.ensures
+    choosing a.work.now a.slots.now a.own.now a.plan.now a.asked.now a.left a.n a.memory.now a.children.now a.heads.now a.links.now a.work.now a.slots.now a.children.now a.tried.now a.n _ (start a.work.now a.slots.now a.own.now a.plan.now a.asked.now a.left a.n a.memory.now a.children.now p.0 p.1 other a.tried.now p.2) p.5 (omega arith) (class_in a.work.now) (class_start a.work.now a.slots.now a.own.now a.plan.now a.asked.now a.left a.n a.memory.now a.children.now p.0 p.1 other a.heads.now a.links.now p.5) k.result c.first_in_lem.result k.ensures.0 c.first_in_lem.ensures
 
 next-in-requires : (t : ℕ) → search-lts.Need-next-in-requires (read t) (search-at t) search'.Post invariant-loop decreases-loop
 next-in-requires t c κs =
@@ -100,7 +100,7 @@ next-in-requires t c κs =
     let l = c.before.before.loop in
     let t = c.before.loop-test.true in
     let k = c.before.before.before.before.before.class_of in
-    let (few, fits, chained, is) = next-needs a.work.now a.slots.now a.own.now a.plan.now a.asked.now a.left a.n a.memory.now a.children.now a.heads.now a.links.now l.work l.slots l.children l.tried l.m l.j l.invariant t in
+    let (few, fits, chained, is) = next_needs a.work.now a.slots.now a.own.now a.plan.now a.asked.now a.left a.n a.memory.now a.children.now a.heads.now a.links.now l.work l.slots l.children l.tried l.m l.j l.invariant t in
     ((l.invariant.from, t, few, fits), (chained, is k.result k.ensures.0))
 
 choosable-requires : (t : ℕ) → search-lts.Need-choosable-requires (read t) (search-at t) search'.Post invariant-loop decreases-loop
@@ -108,21 +108,21 @@ choosable-requires t c κs =
     let a = c.before.before.before.before.before.before.before.before.before.before.before.before.before.before.before.before.before.before.before.before.before.before.before.args in
     let l = c.before.before.before.before.loop in
     let t = c.before.before.before.loop-test.true in
-    let (few, fits) = in-work a.work.now a.slots.now a.own.now a.plan.now a.asked.now a.left a.n a.memory.now a.children.now l.work l.slots l.children l.tried l.m l.j l.invariant.searching t in
-    (l.invariant.searching.ready.few-tags, omega (arith, fits), c.before.before.before.before.before.before.before.before.before.before.before.before.before.before.before.before.before.before.before.before.before.before.before.requires.1.4, choice-short a.work.now a.slots.now a.own.now a.plan.now a.asked.now a.left a.n a.memory.now a.children.now l.work l.slots l.children l.tried l.m l.j l.invariant.searching t)
+    let (few, fits) = in_work a.work.now a.slots.now a.own.now a.plan.now a.asked.now a.left a.n a.memory.now a.children.now l.work l.slots l.children l.tried l.m l.j l.invariant.searching t in
+    (l.invariant.searching.ready.few_tags, omega (arith, fits), c.before.before.before.before.before.before.before.before.before.before.before.before.before.before.before.before.before.before.before.before.before.before.before.requires.1.4, choice_short a.work.now a.slots.now a.own.now a.plan.now a.asked.now a.left a.n a.memory.now a.children.now l.work l.slots l.children l.tried l.m l.j l.invariant.searching t)
 
 joined-with-requires : (t : ℕ) → search-lts.Need-joined-with-requires (read t) (search-at t) search'.Post invariant-loop decreases-loop
 joined-with-requires t c κs =
     let a = c.before.before.before.before.before.before.before.before.before.before.before.before.before.before.before.before.before.before.before.before.before.before.before.before.before.before.args in
     let l = c.before.before.before.before.before.before.before.loop in
-    let (few, fits) = in-work a.work.now a.slots.now a.own.now a.plan.now a.asked.now a.left a.n a.memory.now a.children.now l.work l.slots l.children l.tried l.m l.j l.invariant.searching c.before.before.before.before.before.before.loop-test.true in
+    let (few, fits) = in_work a.work.now a.slots.now a.own.now a.plan.now a.asked.now a.left a.n a.memory.now a.children.now l.work l.slots l.children l.tried l.m l.j l.invariant.searching c.before.before.before.before.before.before.loop-test.true in
     omega (arith, fits)
 
 narrow-requires : (t : ℕ) → search-lts.Need-narrow-requires (read t) (search-at t) search'.Post invariant-loop decreases-loop
 narrow-requires t c κs =
     let a = c.before.before.before.before.before.before.before.before.before.before.before.before.before.before.before.before.before.before.before.before.before.before.before.before.before.before.before.args in
     let l = c.before.before.before.before.before.before.before.before.loop in
-    let (few, fits) = in-work a.work.now a.slots.now a.own.now a.plan.now a.asked.now a.left a.n a.memory.now a.children.now l.work l.slots l.children l.tried l.m l.j l.invariant.searching c.before.before.before.before.before.before.before.loop-test.true in
+    let (few, fits) = in_work a.work.now a.slots.now a.own.now a.plan.now a.asked.now a.left a.n a.memory.now a.children.now l.work l.slots l.children l.tried l.m l.j l.invariant.searching c.before.before.before.before.before.before.before.loop-test.true in
     omega (arith, few)
 
 mul-children : (t : ℕ) → search-lts.Need-overflow-mul-children (read t) (search-at t) search'.Post invariant-loop decreases-loop
@@ -148,7 +148,7 @@ search-requires t c κs =
     let some = l.invariant.searching.some in
     let (is, p) = c.before.before.before.before.before.before.before.before.before.before.before.before.before.before.before.before.before.before.before.before.before.before.before.before.before.before.before.before.before.before.before.before.before.requires in
     let h = c.before.before.before.before.before.before.joined-with in
-    (omega (arith, some, is), (next-ready a.work.now a.slots.now a.own.now a.plan.now a.asked.now a.left a.n a.memory.now a.children.now l.work l.slots l.children l.tried l.m l.j l.invariant.searching, less, l.invariant.searching.tried, p.3, more-short a.work.now a.slots.now a.own.now a.plan.now a.asked.now a.left a.n a.memory.now a.children.now l.work l.slots l.children l.tried l.m l.j l.invariant.searching t h.result p.4 h.ensures, next-windows a.work.now a.slots.now a.own.now a.plan.now a.asked.now a.left a.n a.memory.now a.children.now a.heads.now a.links.now l.work l.slots l.children l.tried l.m l.j l.invariant t))
+    (omega (arith, some, is), (next_ready a.work.now a.slots.now a.own.now a.plan.now a.asked.now a.left a.n a.memory.now a.children.now l.work l.slots l.children l.tried l.m l.j l.invariant.searching, less, l.invariant.searching.tried, p.3, more_short a.work.now a.slots.now a.own.now a.plan.now a.asked.now a.left a.n a.memory.now a.children.now l.work l.slots l.children l.tried l.m l.j l.invariant.searching t h.result p.4 h.ensures, next_windows a.work.now a.slots.now a.own.now a.plan.now a.asked.now a.left a.n a.memory.now a.children.now a.heads.now a.links.now l.work l.slots l.children l.tried l.m l.j l.invariant t))
 
 same-length-2 : (t : ℕ) → search-lts.Need-same-length-2 (read t) (search-at t) search'.Post invariant-loop decreases-loop
 same-length-2 t c =
@@ -162,7 +162,7 @@ returns-3 t c =
     let h = c.before.before.before.before.before.before.before.before.before.before.joined-with in
     let y = c.before.before.before.before.before.before.before.before.before.narrow in
     let s = c.before.before.before.search in
-    full a.work.now a.slots.now a.own.now a.plan.now a.asked.now a.left a.n a.memory.now a.children.now l.work l.slots l.children l.tried l.m l.j l.invariant.searching c.before.before.before.before.before.before.before.before.before.before.before.before.before.before.before.before.before.loop-test.true f.result f.ensures y.result h.result s.new.0 s.new.1.1.1.1.1.1.1.1.1.0 s.new.1.1.1.1.1.1.1.0 s.new.1.1.1.1.1.1.1.1.0 s.result c.before.before.before.before.before.before.before.before.before.before.before.before.if3.true (h.ensures (tagsIn a.plan.now) l.invariant.searching.ready.few-tags) y.ensures s.ensures.0 s.ensures.1 s.ensures.2 c.if4.true
+    full a.work.now a.slots.now a.own.now a.plan.now a.asked.now a.left a.n a.memory.now a.children.now l.work l.slots l.children l.tried l.m l.j l.invariant.searching c.before.before.before.before.before.before.before.before.before.before.before.before.before.before.before.before.before.loop-test.true f.result f.ensures y.result h.result s.new.0 s.new.1.1.1.1.1.1.1.1.1.0 s.new.1.1.1.1.1.1.1.0 s.new.1.1.1.1.1.1.1.1.0 s.result c.before.before.before.before.before.before.before.before.before.before.before.before.if3.true (h.ensures (tags_in a.plan.now) l.invariant.searching.ready.few_tags) y.ensures s.ensures.0 s.ensures.1 s.ensures.2 c.if4.true
 
 loop-less : (t : ℕ) → search-lts.Need-loop-smaller (read t) (search-at t) search'.Post invariant-loop decreases-loop
 loop-less t c =
@@ -182,7 +182,7 @@ loop-again t c =
     let s = c.before.before.before.search in
     let n = c.before.before.before.before.before.before.before.before.before.before.before.before.before.before.before.next-in in
     let k = c.before.before.before.before.before.before.before.before.before.before.before.before.before.before.before.before.before.before.before.before.before.class_of in
-    choosing-next a.work.now a.slots.now a.own.now a.plan.now a.asked.now a.left a.n a.memory.now a.children.now a.heads.now a.links.now s.new.0 s.new.1.1.1.1.1.1.1.1.1.0 s.new.1.1.1.1.1.1.1.0 s.new.1.1.1.1.1.1.1.1.0 s.result l.j (again a.work.now a.slots.now a.own.now a.plan.now a.asked.now a.left a.n a.memory.now a.children.now l.work l.slots l.children l.tried l.m l.j l.invariant.searching c.before.before.before.before.before.before.before.before.before.before.before.before.before.before.before.before.before.loop-test.true f.result f.ensures y.result h.result s.new.0 s.new.1.1.1.1.1.1.1.1.1.0 s.new.1.1.1.1.1.1.1.0 s.new.1.1.1.1.1.1.1.1.0 s.result c.before.before.before.before.before.before.before.before.before.before.before.before.if3.true (h.ensures (tagsIn a.plan.now) l.invariant.searching.ready.few-tags) y.ensures s.ensures.0 s.ensures.1 s.ensures.2 s.auto.0 c.if4.false) l.invariant.windows l.invariant.from (classIn l.work) (class-known a.work.now a.slots.now a.own.now a.plan.now a.asked.now a.left a.n a.memory.now a.children.now l.work l.slots l.children l.tried l.m l.j l.invariant.searching) k.result n.result k.ensures.0 n.ensures
+    choosing_next a.work.now a.slots.now a.own.now a.plan.now a.asked.now a.left a.n a.memory.now a.children.now a.heads.now a.links.now s.new.0 s.new.1.1.1.1.1.1.1.1.1.0 s.new.1.1.1.1.1.1.1.0 s.new.1.1.1.1.1.1.1.1.0 s.result l.j (again a.work.now a.slots.now a.own.now a.plan.now a.asked.now a.left a.n a.memory.now a.children.now l.work l.slots l.children l.tried l.m l.j l.invariant.searching c.before.before.before.before.before.before.before.before.before.before.before.before.before.before.before.before.before.loop-test.true f.result f.ensures y.result h.result s.new.0 s.new.1.1.1.1.1.1.1.1.1.0 s.new.1.1.1.1.1.1.1.0 s.new.1.1.1.1.1.1.1.1.0 s.result c.before.before.before.before.before.before.before.before.before.before.before.before.if3.true (h.ensures (tags_in a.plan.now) l.invariant.searching.ready.few_tags) y.ensures s.ensures.0 s.ensures.1 s.ensures.2 s.auto.0 c.if4.false) l.invariant.windows l.invariant.from (class_in l.work) (class_known a.work.now a.slots.now a.own.now a.plan.now a.asked.now a.left a.n a.memory.now a.children.now l.work l.slots l.children l.tried l.m l.j l.invariant.searching) k.result n.result k.ensures.0 n.ensures
 
 loop-less-2 : (t : ℕ) → search-lts.Need-loop-smaller-2 (read t) (search-at t) search'.Post invariant-loop decreases-loop
 loop-less-2 t c =
@@ -199,14 +199,14 @@ loop-again-2 t c =
     let f = c.before.choosable in
     let n = c.before.before.before.next-in in
     let k = c.before.before.before.before.before.before.before.before.before.class_of in
-    choosing-next a.work.now a.slots.now a.own.now a.plan.now a.asked.now a.left a.n a.memory.now a.children.now a.heads.now a.links.now l.work l.slots l.children l.tried l.m l.j (skip a.work.now a.slots.now a.own.now a.plan.now a.asked.now a.left a.n a.memory.now a.children.now l.work l.slots l.children l.tried l.m l.j l.invariant.searching c.before.before.before.before.before.loop-test.true f.result f.ensures c.if3.false) l.invariant.windows l.invariant.from (classIn l.work) (class-known a.work.now a.slots.now a.own.now a.plan.now a.asked.now a.left a.n a.memory.now a.children.now l.work l.slots l.children l.tried l.m l.j l.invariant.searching) k.result n.result k.ensures.0 n.ensures
+    choosing_next a.work.now a.slots.now a.own.now a.plan.now a.asked.now a.left a.n a.memory.now a.children.now a.heads.now a.links.now l.work l.slots l.children l.tried l.m l.j (skip a.work.now a.slots.now a.own.now a.plan.now a.asked.now a.left a.n a.memory.now a.children.now l.work l.slots l.children l.tried l.m l.j l.invariant.searching c.before.before.before.before.before.loop-test.true f.result f.ensures c.if3.false) l.invariant.windows l.invariant.from (class_in l.work) (class_known a.work.now a.slots.now a.own.now a.plan.now a.asked.now a.left a.n a.memory.now a.children.now l.work l.slots l.children l.tried l.m l.j l.invariant.searching) k.result n.result k.ensures.0 n.ensures
 
 keep-requires : (t : ℕ) → search-lts.Need-keep-requires (read t) (search-at t) search'.Post invariant-loop decreases-loop
 keep-requires t c κs =
     let p = c.before.before.before.before.before.before.before.before.before.before.before.before.before.before.before.before.before.before.before.before.before.requires.1 in
-    let few = p.0.few-children in
+    let few = p.0.few_children in
     let within = p.1 in
-    (p.2.few-rows, p.2.few-rules, omega (arith, few, within))
+    (p.2.few_rows, p.2.few_rules, omega (arith, few, within))
 
 same-length-3 : (t : ℕ) → search-lts.Need-same-length-3 (read t) (search-at t) search'.Post invariant-loop decreases-loop
 same-length-3 t c =

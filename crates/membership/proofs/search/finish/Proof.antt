@@ -1,7 +1,7 @@
 -- `membership::search::finish` meets its contract. Assumes nothing.
 use borrow.Author.Rules.{rules}
-use Rattle.membership.specs.Search.{tagsIn}
-use Rattle.membership.proofs.Storing.{joined-short, finishing}
+use Rattle.membership.specs.Search.{tags_in}
+use Rattle.membership.proofs.Storing.{joined_short, finishing}
 use Rattle.membership.proofs.search.finish.Statement.{statement}
 use Rattle.membership.proofs.search.finish.Tie as tie
 
@@ -10,7 +10,7 @@ add-requires c κs =
     let a = c.before.before.before.before.before.before.before.before.before.args in
     let p = c.before.before.before.before.before.before.before.before.before.requires in
     let j = c.before.before.before.join in
-    (p.0, joined-short (tagsIn a.plan.now) a.memory.now a.own.now j.result p.2 p.1 j.ensures)
+    (p.0, joined_short (tags_in a.plan.now) a.memory.now a.own.now j.result p.2 p.1 j.ensures)
 
 pub finish_spec : {M : Type 1} → statement M
 finish_spec =

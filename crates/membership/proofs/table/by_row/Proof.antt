@@ -4,8 +4,8 @@ use Prim.Native.Nat.{◌+◌, ◌-◌}
 use native.Mathlib.Omega.{arith}
 use borrow.Author.Rules.{rules}
 use Rattle.automaton.specs.Stored.{decode}
-use Rattle.membership.proofs.FirstRules.{first-at}
-use Rattle.membership.proofs.Rowing.{Rowing, separate-of, few-rules, width_small, symbol-small, rowing_start, next-ready, next-windows, few-here, rowing_more, rowing-full, rowing-all}
+use Rattle.membership.proofs.FirstRules.{first_at}
+use Rattle.membership.proofs.Rowing.{Rowing, separate_of, few_rules, width_small, symbol_small, rowing_start, next_ready, next_windows, few_here, rowing_more, rowing_full, rowing_all}
 use Rattle.membership.proofs.table.by_row.Statement.{statement}
 use Rattle.membership.proofs.table.by_row.Tie as tie
 
@@ -29,7 +29,7 @@ open-windows-requires c κs =
     let x = c.before.before.before.before.before.before.before.symbol in
     let w = c.before.before.before.before.before.size in
     let q = c.before.before.before.before.plan-for in
-    separate-of a.set.now a.rows.now a.starts.now a.work.now a.slots.now a.i.0 a.tags a.room a.n x.result w.result q.result p.0.0 p.0.1 p.1.0 p.1.1.0.0 x.ensures (w.ensures.0 ∙ c.before.before.before.before.before.before.arity.ensures) q.ensures
+    separate_of a.set.now a.rows.now a.starts.now a.work.now a.slots.now a.i.0 a.tags a.room a.n x.result w.result q.result p.0.0 p.0.1 p.1.0 p.1.1.0.0 x.ensures (w.ensures.0 ∙ c.before.before.before.before.before.before.arity.ensures) q.ensures
 
 loop-holds : tie.Need-loop-init invariant-loop decreases-loop
 loop-holds c =
@@ -41,10 +41,10 @@ loop-holds c =
     let q = c.before.before.before.before.before.before.before.before.plan-for in
     let o = c.before.before.before.open-windows in
     let y = c.before.before.size2 in
-    let small = symbol-small a.set.now a.rows.now a.i.0 p.0.0 p.0.1 p.1.0.row x.result x.ensures in
+    let small = symbol_small a.set.now a.rows.now a.i.0 p.0.0 p.0.1 p.1.0.row x.result x.ensures in
     rowing_start a.set.now a.rows.now a.starts.now a.rules.now a.work.now a.slots.now a.i.0 a.tags a.room a.n x.result w.result q.result o.new.1.1.0 o.new.1.1.1.0 c.before.Cell-at.result c.cell-at2.result p.0.0 p.0.1 p.1.0 p.1.1.0.0 x.ensures (w.ensures.0 ∙ c.before.before.before.before.before.before.before.before.before.before.arity.ensures) q.ensures
-    (first-at (decode a.set.now) a.firsts.now x.result y.result c.cell-at2.result p.1.1.0.1 (omega (arith, small)) y.ensures.0 c.cell-at2.ensures)
-    (first-at (decode a.set.now) a.firsts.now (x.result + 1) (y.result + 1) c.before.Cell-at.result p.1.1.0.1 (omega (arith, small)) (ap (λ z. z + 1) y.ensures.0) c.before.Cell-at.ensures)
+    (first_at (decode a.set.now) a.firsts.now x.result y.result c.cell-at2.result p.1.1.0.1 (omega (arith, small)) y.ensures.0 c.cell-at2.ensures)
+    (first_at (decode a.set.now) a.firsts.now (x.result + 1) (y.result + 1) c.before.Cell-at.result p.1.1.0.1 (omega (arith, small)) (ap (λ z. z + 1) y.ensures.0) c.before.Cell-at.ensures)
     p.1.1.1.0 a.tried.now p.1.1.1.1 o.ensures
 
 by-rule-requires : tie.Need-by-rule-requires invariant-loop decreases-loop
@@ -53,19 +53,19 @@ by-rule-requires c κs =
     let a = k.before.before.before.before.before.before.before.before.before.before.before.before.before.before.before.before.before.before.args in
     let l = k.loop in
     let o = k.before.before.before.before.open-windows in
-    let few = few-here a.set.now a.rows.now a.starts.now a.rules.now a.work.now a.slots.now a.i.0 a.tags a.room a.n k.before.before.before.before.before.before.before.before.before.before.before.before.symbol.result k.before.before.before.before.before.before.before.before.before.before.size.result k.before.before.before.before.before.before.before.before.before.plan-for.result o.new.1.1.0 o.new.1.1.1.0 k.before.before.Cell-at.result k.before.cell-at2.result l.work l.slots l.children l.tried l.m l.r l.invariant c.before.before.before.before.before.before.before.loop-test.true in
-    ((next-ready a.set.now a.rows.now a.starts.now a.rules.now a.work.now a.slots.now a.i.0 a.tags a.room a.n k.before.before.before.before.before.before.before.before.before.before.before.before.symbol.result k.before.before.before.before.before.before.before.before.before.before.size.result k.before.before.before.before.before.before.before.before.before.plan-for.result o.new.1.1.0 o.new.1.1.1.0 k.before.before.Cell-at.result k.before.cell-at2.result l.work l.slots l.children l.tried l.m l.r l.invariant).0, few.0, few.1, l.invariant.fresh, next-windows a.set.now a.rows.now a.starts.now a.rules.now a.work.now a.slots.now a.i.0 a.tags a.room a.n k.before.before.before.before.before.before.before.before.before.before.before.before.symbol.result k.before.before.before.before.before.before.before.before.before.before.size.result k.before.before.before.before.before.before.before.before.before.plan-for.result o.new.1.1.0 o.new.1.1.1.0 k.before.before.Cell-at.result k.before.cell-at2.result l.work l.slots l.children l.tried l.m l.r l.invariant)
+    let few = few_here a.set.now a.rows.now a.starts.now a.rules.now a.work.now a.slots.now a.i.0 a.tags a.room a.n k.before.before.before.before.before.before.before.before.before.before.before.before.symbol.result k.before.before.before.before.before.before.before.before.before.before.size.result k.before.before.before.before.before.before.before.before.before.plan-for.result o.new.1.1.0 o.new.1.1.1.0 k.before.before.Cell-at.result k.before.cell-at2.result l.work l.slots l.children l.tried l.m l.r l.invariant c.before.before.before.before.before.before.before.loop-test.true in
+    ((next_ready a.set.now a.rows.now a.starts.now a.rules.now a.work.now a.slots.now a.i.0 a.tags a.room a.n k.before.before.before.before.before.before.before.before.before.before.before.before.symbol.result k.before.before.before.before.before.before.before.before.before.before.size.result k.before.before.before.before.before.before.before.before.before.plan-for.result o.new.1.1.0 o.new.1.1.1.0 k.before.before.Cell-at.result k.before.cell-at2.result l.work l.slots l.children l.tried l.m l.r l.invariant).0, few.0, few.1, l.invariant.fresh, next_windows a.set.now a.rows.now a.starts.now a.rules.now a.work.now a.slots.now a.i.0 a.tags a.room a.n k.before.before.before.before.before.before.before.before.before.before.before.before.symbol.result k.before.before.before.before.before.before.before.before.before.before.size.result k.before.before.before.before.before.before.before.before.before.plan-for.result o.new.1.1.0 o.new.1.1.1.0 k.before.before.Cell-at.result k.before.cell-at2.result l.work l.slots l.children l.tried l.m l.r l.invariant)
 
 add_r : tie.Need-overflow-add-r invariant-loop decreases-loop
 add_r c =
     let k = c.before.before.before.before.before.before.before.before.before.before.before in
     let h = k.loop.invariant.last.within in
     let t = c.before.before.before.before.before.before.before.before.before.before.loop-test.true in
-    let few = few-rules k.before.before.before.before.before.before.before.before.before.before.before.before.before.before.before.before.before.before.args.set.now k.loop.invariant.ok in
+    let few = few_rules k.before.before.before.before.before.before.before.before.before.before.before.before.before.before.before.before.before.before.args.set.now k.loop.invariant.ok in
     omega (arith, h, t, few)
 
 same_length : tie.Need-same-length invariant-loop decreases-loop
-same_length c = c.before.before.before.by-rule.auto.1.0 ∙ c.before.before.before.before.before.before.before.before.before.before.before.before.loop.invariant.turning.space
+same_length c = c.before.before.before.by_rule_lem.auto.1.0 ∙ c.before.before.before.before.before.before.before.before.before.before.before.before.loop.invariant.turning.space
 
 returns : tie.Need-returns invariant-loop decreases-loop
 returns c =
@@ -73,8 +73,8 @@ returns c =
     let a = k.before.before.before.before.before.before.before.before.before.before.before.before.before.before.before.before.before.before.args in
     let l = k.loop in
     let o = k.before.before.before.before.open-windows in
-    let s = c.before.before.before.by-rule in
-    rowing-full a.set.now a.rows.now a.starts.now a.rules.now a.work.now a.slots.now a.i.0 a.tags a.room a.n k.before.before.before.before.before.before.before.before.before.before.before.before.symbol.result k.before.before.before.before.before.before.before.before.before.before.size.result k.before.before.before.before.before.before.before.before.before.plan-for.result o.new.1.1.0 o.new.1.1.1.0 k.before.before.Cell-at.result k.before.cell-at2.result l.work l.slots l.children l.tried l.m l.r l.invariant c.before.before.before.before.before.before.before.before.before.before.before.loop-test.true s.new.1.0 s.new.1.1.1.0 s.new.1.1.1.1.1.1.1.1.0 s.new.1.1.0 s.result s.ensures.0 s.ensures.1.0 s.ensures.1.1 c.if1.true
+    let s = c.before.before.before.by_rule_lem in
+    rowing_full a.set.now a.rows.now a.starts.now a.rules.now a.work.now a.slots.now a.i.0 a.tags a.room a.n k.before.before.before.before.before.before.before.before.before.before.before.before.symbol.result k.before.before.before.before.before.before.before.before.before.before.size.result k.before.before.before.before.before.before.before.before.before.plan-for.result o.new.1.1.0 o.new.1.1.1.0 k.before.before.Cell-at.result k.before.cell-at2.result l.work l.slots l.children l.tried l.m l.r l.invariant c.before.before.before.before.before.before.before.before.before.before.before.loop-test.true s.new.1.0 s.new.1.1.1.0 s.new.1.1.1.1.1.1.1.1.0 s.new.1.1.0 s.result s.ensures.0 s.ensures.1.0 s.ensures.1.1 c.if1.true
 
 loop-again : tie.Need-loop-preserved invariant-loop decreases-loop
 loop-again c =
@@ -82,7 +82,7 @@ loop-again c =
     let a = k.before.before.before.before.before.before.before.before.before.before.before.before.before.before.before.before.before.before.args in
     let l = k.loop in
     let o = k.before.before.before.before.open-windows in
-    let s = c.before.before.before.by-rule in
+    let s = c.before.before.before.by_rule_lem in
     rowing_more a.set.now a.rows.now a.starts.now a.rules.now a.work.now a.slots.now a.i.0 a.tags a.room a.n k.before.before.before.before.before.before.before.before.before.before.before.before.symbol.result k.before.before.before.before.before.before.before.before.before.before.size.result k.before.before.before.before.before.before.before.before.before.plan-for.result o.new.1.1.0 o.new.1.1.1.0 k.before.before.Cell-at.result k.before.cell-at2.result l.work l.slots l.children l.tried l.m l.r l.invariant c.before.before.before.before.before.before.before.before.before.before.before.loop-test.true s.new.1.0 s.new.1.1.1.0 s.new.1.1.1.1.1.1.1.1.0 s.new.1.1.0 s.result s.ensures.0 s.ensures.1.0 s.ensures.1.1 s.auto.1.0 c.if1.false
 
 same-length-2 : tie.Need-same-length-2 invariant-loop decreases-loop
@@ -94,7 +94,7 @@ returns-2 c =
     let a = k.before.before.before.before.before.before.before.before.before.before.before.before.before.before.before.before.before.before.args in
     let l = k.loop in
     let o = k.before.before.before.before.open-windows in
-    rowing-all a.set.now a.rows.now a.starts.now a.rules.now a.work.now a.slots.now a.i.0 a.tags a.room a.n k.before.before.before.before.before.before.before.before.before.before.before.before.symbol.result k.before.before.before.before.before.before.before.before.before.before.size.result k.before.before.before.before.before.before.before.before.before.plan-for.result o.new.1.1.0 o.new.1.1.1.0 k.before.before.Cell-at.result k.before.cell-at2.result l.work l.slots l.children l.tried l.m l.r l.invariant c.loop-test.false
+    rowing_all a.set.now a.rows.now a.starts.now a.rules.now a.work.now a.slots.now a.i.0 a.tags a.room a.n k.before.before.before.before.before.before.before.before.before.before.before.before.symbol.result k.before.before.before.before.before.before.before.before.before.before.size.result k.before.before.before.before.before.before.before.before.before.plan-for.result o.new.1.1.0 o.new.1.1.1.0 k.before.before.Cell-at.result k.before.cell-at2.result l.work l.slots l.children l.tried l.m l.r l.invariant c.loop-test.false
 
 pub by-row-spec : {M : Type 1} → statement M
 by-row-spec =

@@ -1,7 +1,7 @@
 -- `membership::table::by_rule` meets its contract. Assumes nothing.
 use native.Mathlib.Omega.{arith}
 use borrow.Author.Rules.{rules}
-use Rattle.membership.proofs.Ruling.{rule-tried, rule-after, rule-made, alike-whole}
+use Rattle.membership.proofs.Ruling.{rule_tried, rule_after, rule_made, alike_whole}
 use Rattle.membership.proofs.table.by_rule.Statement.{statement}
 use Rattle.membership.proofs.table.by_rule.Tie as tie
 
@@ -12,7 +12,7 @@ search-requires c κs =
     let p = k.before.before.requires in
     let o = c.before.before.before.before.before.before.before.before.before.before.before.own-memory in
     let e = c.before.before.before.before.before.before.before.before.kept in
-    (p.0, omega arith, rule-tried a.plan.now a.rules.now a.row.0 a.r k.ask.result k.ask.ensures o.result a.work.now a.tried.now a.n p.1 p.2 p.3, o.ensures.1, e.ensures.1, p.4)
+    (p.0, omega arith, rule_tried a.plan.now a.rules.now a.row.0 a.r k.ask.result k.ask.ensures o.result a.work.now a.tried.now a.n p.1 p.2 p.3, o.ensures.1, e.ensures.1, p.4)
 
 returns : tie.Need-returns
 returns c =
@@ -22,10 +22,10 @@ returns c =
     let t = c.before.before.before.before.before.before.before.before.before.before.before.before.before.before.before.before.target-tags in
     let o = c.before.before.before.before.before.before.before.before.before.before.before.before.before.before.own-memory in
     let e = c.before.before.before.before.before.before.before.before.before.before.before.kept in (
-      rule-made a.plan.now a.rules.now a.row.0 a.r k.ask.result k.ask.ensures o.result e.result t.result t.ensures o.ensures.0 a.work.now s.new.0 s.new.1.1.1.1.1.1.1.1.1.0 a.children.now a.n s.result e.ensures.0 s.ensures.0,
+      rule_made a.plan.now a.rules.now a.row.0 a.r k.ask.result k.ask.ensures o.result e.result t.result t.ensures o.ensures.0 a.work.now s.new.0 s.new.1.1.1.1.1.1.1.1.1.0 a.children.now a.n s.result e.ensures.0 s.ensures.0,
       (
-        alike-whole a.plan.now a.children.now s.new.1.1.1.1.1.1.1.0 s.ensures.1,
-        λ l. rule-after a.plan.now a.rules.now a.row.0 a.r k.ask.result k.ask.ensures o.result s.new.0 s.new.1.1.1.1.1.1.1.1.0 s.result (s.ensures.2 l),
+        alike_whole a.plan.now a.children.now s.new.1.1.1.1.1.1.1.0 s.ensures.1,
+        λ l. rule_after a.plan.now a.rules.now a.row.0 a.r k.ask.result k.ask.ensures o.result s.new.0 s.new.1.1.1.1.1.1.1.1.0 s.result (s.ensures.2 l),
       ),
     )
 

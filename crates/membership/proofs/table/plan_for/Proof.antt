@@ -2,7 +2,7 @@
 use mathlib.Core.Path.{ap, ◌∙◌}
 use Prim.Native.Nat.{◌-◌}
 use Rattle.document.specs.Check.{place_in}
-use Rattle.membership.proofs.Own.{Planning, planning-more, planning}
+use Rattle.membership.proofs.Own.{Planning, planning_more, planning}
 use Rattle.membership.proofs.table.plan_for.Statement.{statement}
 use Rattle.membership.proofs.table.plan_for.Tie as tie
 
@@ -18,7 +18,7 @@ loop-again c =
     let l = c.before.before.before.before.before.before.loop in
     let low = c.before.start-at in
     let high = c.start-at2 in
-    planning-more a.rows.now a.starts.now a.i.0 a.tags a.arity a.base a.room l.out l.p l.invariant c.before.before.before.before.before.loop-test.true c.before.before.size.result low.result high.result (c.before.before.size.ensures.0 ∙ c.before.before.before.place.ensures ∙ ap (place_in a.rows.now a.i.0) c.before.before.before.before.narrow.ensures) low.ensures high.ensures
+    planning_more a.rows.now a.starts.now a.i.0 a.tags a.arity a.base a.room l.out l.p l.invariant c.before.before.before.before.before.loop-test.true c.before.before.size.result low.result high.result (c.before.before.size.ensures.0 ∙ c.before.before.before.place.ensures ∙ ap (place_in a.rows.now a.i.0) c.before.before.before.before.narrow.ensures) low.ensures high.ensures
 
 pub plan-for-spec : {M : Type 1} → statement M
 plan-for-spec =

@@ -1,7 +1,7 @@
 -- `membership::table::read_rule` meets its contract. Assumes nothing.
 use borrow.Author.Rules.{rules}
 use Rattle.automaton.specs.Stored.{decode}
-use Rattle.automaton.proofs.Parts.{length-mapped}
+use Rattle.automaton.proofs.Parts.{length_mapped}
 use Rattle.membership.proofs.Rules.{read_one}
 use Rattle.membership.proofs.table.read_rule.Statement.{statement}
 use Rattle.membership.proofs.table.read_rule.Tie as tie
@@ -18,9 +18,9 @@ read-rule-spec =
     tie.close
     (tie.spec
     (λ c κs. search rules)
-    (λ c. search (length-mapped, rules))
-    (λ c. search (length-mapped, rules))
-    (λ c. search (length-mapped, rules))
-    (λ c. search (length-mapped, rules))
+    (λ c. search (length_mapped, rules))
+    (λ c. search (length_mapped, rules))
+    (λ c. search (length_mapped, rules))
+    (λ c. search (length_mapped, rules))
     (λ c κs. search rules)
     returns)

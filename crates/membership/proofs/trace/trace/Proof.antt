@@ -2,7 +2,7 @@
 use mathlib.Core.Path.{◌∙◌}
 use native.Mathlib.Omega.{arith}
 use borrow.Author.Rules.{rules}
-use Rattle.membership.proofs.Marks.{Tracing, tracing-start, tracing-more, tracing-skip, tracing-all}
+use Rattle.membership.proofs.Marks.{Tracing, tracing_start, tracing_more, tracing_skip, tracing_all}
 use Rattle.membership.proofs.trace.trace.Statement.{statement}
 use Rattle.membership.proofs.trace.trace.Tie as tie
 
@@ -23,7 +23,7 @@ loop-holds c =
     let a = c.before.before.before.before.before.before.before.before.before.args in
     let f = c.before.before.before.before.before.before.unmark in
     let r = c.before.before.reach in
-    tracing-start a.work.now f.new.0 r.new.0 a.root f.ensures r.ensures
+    tracing_start a.work.now f.new.0 r.new.0 a.root f.ensures r.ensures
 
 is-reached-requires : tie.Need-is-reached-requires invariant-loop decreases-loop
 is-reached-requires c κs =
@@ -46,13 +46,13 @@ loop-again c =
     let l = c.before.before.before.before.before.before.before.before.loop in
     let t = c.before.before.before.before.before.is-reached in
     let r = c.before.before.reach-children in
-    tracing-more c.before.before.before.before.before.before.before.before.before.before.before.reach.new.0 c.before.before.before.before.before.before.before.before.before.before.before.before.before.before.before.before.before.before.args.root l.work l.i l.invariant c.before.before.before.before.before.before.before.loop-test.true r.new.0 t.result t.ensures c.before.before.before.before.if1.true r.ensures r.auto.0
+    tracing_more c.before.before.before.before.before.before.before.before.before.before.before.reach.new.0 c.before.before.before.before.before.before.before.before.before.before.before.before.before.before.before.before.before.before.args.root l.work l.i l.invariant c.before.before.before.before.before.before.before.loop-test.true r.new.0 t.result t.ensures c.before.before.before.before.if1.true r.ensures r.auto.0
 
 loop-again-2 : tie.Need-loop-preserved-2 invariant-loop decreases-loop
 loop-again-2 c =
     let l = c.before.before.before.before.loop in
     let t = c.before.is-reached in
-    tracing-skip c.before.before.before.before.before.before.before.reach.new.0 c.before.before.before.before.before.before.before.before.before.before.before.before.before.before.args.root l.work l.i l.invariant c.before.before.before.loop-test.true t.result t.ensures c.if1.false
+    tracing_skip c.before.before.before.before.before.before.before.reach.new.0 c.before.before.before.before.before.before.before.before.before.before.before.before.before.before.args.root l.work l.i l.invariant c.before.before.before.loop-test.true t.result t.ensures c.if1.false
 
 same_length : tie.Need-same-length invariant-loop decreases-loop
 same_length c =
@@ -64,7 +64,7 @@ returns c =
     let l = c.before.loop in
     let f = c.before.before.before.before.before.before.before.before.unmark in
     let r = c.before.before.before.before.reach in
-    tracing-all a.work.now f.new.0 r.new.0 l.work a.root l.i f.ensures r.ensures l.invariant c.loop-test.false
+    tracing_all a.work.now f.new.0 r.new.0 l.work a.root l.i f.ensures r.ensures l.invariant c.loop-test.false
 
 pub trace-spec : {M : Type 1} → statement M
 trace-spec =

@@ -2,11 +2,11 @@
 use mathlib.Core.Path.{refl}
 use borrow.Author.Rules.{rules}
 use Rattle.automaton.specs.Stored.{decode}
-use Rattle.automaton.proofs.Sound.{sound-decode}
-use Rattle.document.specs.Rows.{decodeRows}
-use Rattle.membership.proofs.ByRow.{few-children}
-use Rattle.membership.proofs.Rowing.{tags-small}
-use Rattle.membership.proofs.Handing.{nothing_written, run-written}
+use Rattle.automaton.proofs.Sound.{sound_decode}
+use Rattle.document.specs.Rows.{decode_rows}
+use Rattle.membership.proofs.ByRow.{few_children}
+use Rattle.membership.proofs.Rowing.{tags_small}
+use Rattle.membership.proofs.Handing.{nothing_written, run_written}
 use Rattle.membership.proofs.write.write_run.Statement.{statement}
 use Rattle.membership.proofs.write.write_run.Tie as tie
 
@@ -16,9 +16,9 @@ returns c =
     let p = c.before.before.before.before.before.before.before.before.requires in
     let l = c.before.before.before.last_row in
     let f = c.before.first-accepting in
-    let narrow = few-children (decode a.set.now) (decodeRows a.rows.now) (sound-decode a.set.now p.0.0) p.0.1 in
-    let tags = tags-small a.set.now (decode a.set.now).tags p.0.0 refl in
-    nothing_written (decode a.set.now) (decodeRows a.rows.now) narrow tags a.work.now a.n l.result.0 f.result p.1.0.0 p.1.1.0 p.1.1.1 l.ensures f.ensures a.run.now c.if1.true
+    let narrow = few_children (decode a.set.now) (decode_rows a.rows.now) (sound_decode a.set.now p.0.0) p.0.1 in
+    let tags = tags_small a.set.now (decode a.set.now).tags p.0.0 refl in
+    nothing_written (decode a.set.now) (decode_rows a.rows.now) narrow tags a.work.now a.n l.result.0 f.result p.1.0.0 p.1.1.0 p.1.1.1 l.ensures f.ensures a.run.now c.if1.true
 
 returns-2 : tie.Need-returns-2
 returns-2 c =
@@ -26,11 +26,11 @@ returns-2 c =
     let p = c.before.before.before.before.before.before.before.before.before.before.before.before.before.before.before.before.before.before.before.requires in
     let l = c.before.before.before.before.before.before.before.before.before.before.before.before.before.before.last_row in
     let f = c.before.before.before.before.before.before.before.before.before.before.before.before.first-accepting in
-    let narrow = few-children (decode a.set.now) (decodeRows a.rows.now) (sound-decode a.set.now p.0.0) p.0.1 in
-    let tags = tags-small a.set.now (decode a.set.now).tags p.0.0 refl in
+    let narrow = few_children (decode a.set.now) (decode_rows a.rows.now) (sound_decode a.set.now p.0.0) p.0.1 in
+    let tags = tags_small a.set.now (decode a.set.now).tags p.0.0 refl in
     let t = c.before.before.before.before.before.before.before.before.before.trace in
     let w = c.before.before.before.before.write-steps in
-    run-written (decode a.set.now) (decodeRows a.rows.now) narrow tags a.work.now a.n l.result.0 f.result p.1.0.0 p.1.1.0 p.1.1.1 l.ensures f.ensures a.run.now c.before.before.before.before.before.before.before.before.before.before.before.if1.false t.new.0 w.new.1.0 w.result t.ensures w.ensures
+    run_written (decode a.set.now) (decode_rows a.rows.now) narrow tags a.work.now a.n l.result.0 f.result p.1.0.0 p.1.1.0 p.1.1.1 l.ensures f.ensures a.run.now c.before.before.before.before.before.before.before.before.before.before.before.if1.false t.new.0 w.new.1.0 w.result t.ensures w.ensures
 
 pub write-run-spec : {M : Type 1} → statement M
 write-run-spec =

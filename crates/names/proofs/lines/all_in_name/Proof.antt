@@ -2,12 +2,12 @@
 use Prim.Native.Nat.{◌-◌}
 use lib.ListN.{length, get_or}
 use Rattle.model.proofs.Below.{Passed, loops}
-use Rattle.names.specs.Names.{nameByte?}
+use Rattle.names.specs.Names.{name_byte?}
 use Rattle.names.proofs.lines.all_in_name.Statement.{statement}
 use Rattle.names.proofs.lines.all_in_name.Tie as tie
 
 abbrev invariant-loop : tie.invariant-loop
-invariant-loop s classes n i₀ i = Passed (λ k. nameByte? (get_or s k 0)) (length s) n i
+invariant-loop s classes n i₀ i = Passed (λ k. name_byte? (get_or s k 0)) (length s) n i
 
 abbrev decreases-loop : tie.decreases-loop
 decreases-loop s classes n i₀ i = n - i

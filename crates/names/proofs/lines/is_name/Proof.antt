@@ -1,7 +1,7 @@
 -- One test of the definition after the other. Assumes nothing.
 use native.Mathlib.Omega.{arith}
 use borrow.Author.Rules.{rules}
-use Rattle.names.proofs.Naming.{long-no-name, naming}
+use Rattle.names.proofs.Naming.{long_no_name, naming}
 use Rattle.names.proofs.lines.is_name.Statement.{statement}
 use Rattle.names.proofs.lines.is_name.Tie as tie
 
@@ -10,7 +10,7 @@ is-name-spec =
     tie.close
     (tie.spec
     (λ c. search naming)
-    (λ c. long-no-name c.before.before.before.args.s.now (omega arith))
+    (λ c. long_no_name c.before.before.before.args.s.now (omega arith))
     (λ c. search rules)
     (λ c κs. search rules)
     (λ c κs. search rules)

@@ -2,7 +2,7 @@
 use borrow.Author.Rules.{rules}
 use Prim.Native.Nat.{◌-◌, ◌≤◌}
 use lib.ListN.{length}
-use Rattle.names.proofs.Scan.{Scanned, scan-stop, scan-more, scan-end, scanning}
+use Rattle.names.proofs.Scan.{Scanned, scan_stop, scan_more, scan_end, scanning}
 use Rattle.names.proofs.lines.line_end.Statement.{statement}
 use Rattle.names.proofs.lines.line_end.Tie as tie
 
@@ -20,8 +20,8 @@ line-end-spec =
     decreases-loop
     (λ c. search scanning)
     (λ c. search scanning)
-    (λ c h. scan-stop _ _ _ (c.before.before.before.loop.invariant h) (search rules) c.if1.true)
+    (λ c h. scan_stop _ _ _ (c.before.before.before.loop.invariant h) (search rules) c.if1.true)
     (λ c. search scanning)
     (λ c. search scanning)
-    (λ c h. scan-more _ _ _ (c.before.before.before.loop.invariant h) (search rules) c.if1.false)
-    (λ c h. scan-end _ _ _ (c.before.loop.invariant h) (search rules)))
+    (λ c h. scan_more _ _ _ (c.before.before.before.loop.invariant h) (search rules) c.if1.false)
+    (λ c h. scan_end _ _ _ (c.before.loop.invariant h) (search rules)))

@@ -4,7 +4,7 @@ use mathlib.Core.Path.{◌≡◌, subst}
 use native.Mathlib.Omega.{arith}
 use borrow.Author.Rules.{rules}
 use Rattle.names.specs.Places.{Starts}
-use Rattle.names.proofs.Scan.{starts_first, starts-late}
+use Rattle.names.proofs.Scan.{starts_first, starts_late}
 use Rattle.names.proofs.lines.line_start.Statement.{statement}
 use Rattle.names.proofs.lines.line_start.Tie as tie
 
@@ -26,7 +26,7 @@ line-start-spec =
     invariant-loop
     decreases-loop
     (λ c. (starts_first _, omega arith))
-    (λ c. starts-late _ _ _ c.before.before.loop.invariant.0 _ c.if1.true (omega arith))
+    (λ c. starts_late _ _ _ c.before.before.loop.invariant.0 _ c.if1.true (omega arith))
     (λ c κs. search rules)
     (λ c. search rules)
     (λ c. search rules)

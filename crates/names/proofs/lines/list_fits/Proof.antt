@@ -1,6 +1,6 @@
 -- At the loop's head k lines are passed and the next starts at a. Assumes nothing.
 use Prim.Native.Nat.{◌-◌}
-use Rattle.model.specs.Limits.{maxSymbols}
+use Rattle.model.specs.Limits.{max_symbols}
 use Rattle.names.proofs.Listed.{LinesPassed, listing}
 use Rattle.names.proofs.lines.list_fits.Statement.{statement}
 use Rattle.names.proofs.lines.list_fits.Tie as tie
@@ -9,7 +9,7 @@ abbrev invariant-loop : tie.invariant-loop
 invariant-loop s classes a₀ k₀ a k = LinesPassed s k a
 
 abbrev decreases-loop : tie.decreases-loop
-decreases-loop s classes a₀ k₀ a k = maxSymbols - k
+decreases-loop s classes a₀ k₀ a k = max_symbols - k
 
 pub list-fits-spec : {M : Type 1} → statement M
 list-fits-spec =

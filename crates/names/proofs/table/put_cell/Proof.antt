@@ -6,22 +6,22 @@ use borrow.Author.Rules.{rules}
 use lib.ListN.{length-set}
 use lib.Seq.{length-take-le}
 use Rattle.model.specs.Space.{put_at}
-use Rattle.names.specs.Table.{cellBytes, cell_of}
-use Rattle.names.proofs.Cells.{cell-put, cell-too-long}
+use Rattle.names.specs.Table.{cell_bytes, cell_of}
+use Rattle.names.proofs.Cells.{cell_put, cell_too_long}
 use Rattle.names.proofs.table.put_cell.Statement.{statement}
 use Rattle.names.proofs.table.put_cell.Tie as tie
 
 returns : tie.Need-returns
 returns c =
     let a = c.before.before.before.before.before.before.before.before.before.before.args in
-    cell-put a.t.now _ _ a.bytes.now c.before.before.before.before.before.before.smaller.ensures _ c.before.before.before.before.before.if1.true c.before.before.put.ensures
-    ∙ ap (λ k. put_at a.t.now (k * cellBytes) (cell_of a.bytes.now)) c.before.before.before.before.before.before.before.size.ensures.0
+    cell_put a.t.now _ _ a.bytes.now c.before.before.before.before.before.before.smaller.ensures _ c.before.before.before.before.before.if1.true c.before.before.put.ensures
+    ∙ ap (λ k. put_at a.t.now (k * cell_bytes) (cell_of a.bytes.now)) c.before.before.before.before.before.before.before.size.ensures.0
 
 returns-2 : tie.Need-returns-2
 returns-2 c =
     let a = c.before.before.before.before.before.args in
-    cell-too-long a.t.now _ _ a.bytes.now c.before.smaller.ensures c.if1.false
-    ∙ ap (λ k. put_at a.t.now (k * cellBytes) (cell_of a.bytes.now)) c.before.before.size.ensures.0
+    cell_too_long a.t.now _ _ a.bytes.now c.before.smaller.ensures c.if1.false
+    ∙ ap (λ k. put_at a.t.now (k * cell_bytes) (cell_of a.bytes.now)) c.before.before.size.ensures.0
 
 pub put-cell-spec : {M : Type 1} → statement M
 put-cell-spec =

@@ -3,7 +3,7 @@ use mathlib.Core.Path.{◌∙◌}
 use mathlib.Core.List.{[], ◌∷◌}
 use native.Mathlib.Omega.{arith}
 use borrow.Author.Rules.{rules}
-use Rattle.names.proofs.Cells.{number_put, one-digit, two_digits, cells}
+use Rattle.names.proofs.Cells.{number_put, one_digit, two_digits, cells}
 use Rattle.names.proofs.table.put_shown.Statement.{statement}
 use Rattle.names.proofs.table.put_shown.Tie as tie
 
@@ -12,7 +12,7 @@ returns-2 c =
     let a = c.before.before.before.before.before.before.before.before.before.before.before.args in
     let d = c.before.before.before.before.before.digit in
     number_put a.t.now _ a.part.now _ a.i (115 ∷ d.result ∷ []) (omega arith)
-    (one-digit _ c.before.before.before.before.before.before.before.if2.true ∙ cc) c.before.before.put-cell2.ensures
+    (one_digit _ c.before.before.before.before.before.before.before.if2.true ∙ cc) c.before.before.put-cell2.ensures
 
 returns-3 : tie.Need-returns-3
 returns-3 c =

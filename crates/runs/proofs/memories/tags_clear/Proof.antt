@@ -1,13 +1,13 @@
 -- `runs::memories::tags_clear` meets its contract: no tag passed clashes. Assumes nothing.
 use Prim.Native.Nat.{◌-◌}
 use Rattle.automaton.specs.Stored.{decode}
-use Rattle.runs.specs.Steps.{decodeSteps}
+use Rattle.runs.specs.Steps.{decode_steps}
 use Rattle.runs.proofs.ByTag.{Clearing, clearing}
 use Rattle.runs.proofs.memories.tags_clear.Statement.{statement}
 use Rattle.runs.proofs.memories.tags_clear.Tie as tie
 
 abbrev invariant-loop : tie.invariant-loop
-invariant-loop set run n tags masks forgets cells₀ k₀ cells k = Clearing (decode set) (decodeSteps run) n tags masks forgets cells k
+invariant-loop set run n tags masks forgets cells₀ k₀ cells k = Clearing (decode set) (decode_steps run) n tags masks forgets cells k
 
 abbrev decreases-loop : tie.decreases-loop
 decreases-loop set run n tags masks forgets cells₀ k₀ cells k = tags - k

@@ -1,12 +1,12 @@
 -- `runs::steps::cell` meets its contract: past the end a cell counts as 0. Assumes nothing.
 use borrow.Author.Rules.{rules}
-use Rattle.runs.specs.Steps.{cellIn}
-use Rattle.runs.proofs.Reading.{cell-past}
+use Rattle.runs.specs.Steps.{cell_in}
+use Rattle.runs.proofs.Reading.{cell_past}
 use Rattle.runs.proofs.steps.cell.Statement.{statement}
 use Rattle.runs.proofs.steps.cell.Tie as tie
 
 pub cell-spec : {M : Type 1} → statement M
-unfolding cellIn
+unfolding cell_in
 cell-spec =
     tie.close
     (tie.spec
@@ -17,4 +17,4 @@ cell-spec =
     (λ c. search rules)
     (λ c. search rules)
     (λ c. cc)
-    (λ c. search (cell-past, rules)))
+    (λ c. search (cell_past, rules)))

@@ -1,6 +1,6 @@
 -- `runs::steps::place` meets its contract. Assumes nothing.
 use borrow.Author.Rules.{rules}
-use Rattle.runs.proofs.Reading.{place-cell, place-past}
+use Rattle.runs.proofs.Reading.{place_cell, place_past}
 use Rattle.runs.proofs.steps.place.Statement.{statement}
 use Rattle.runs.proofs.steps.place.Tie as tie
 
@@ -10,5 +10,5 @@ place-spec =
     (tie.spec
     (λ c. search rules)
     (λ c κs. search rules)
-    (λ c. search (place-cell, rules))
-    (λ c. search (place-past, rules)))
+    (λ c. search (place_cell, rules))
+    (λ c. search (place_past, rules)))

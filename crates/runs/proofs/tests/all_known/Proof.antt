@@ -4,13 +4,13 @@ use lib.ListN.{length}
 use Rattle.model.specs.WrittenTest.{known?}
 use Rattle.model.proofs.Below.{Passed, loops}
 use Rattle.automaton.specs.Stored.{decode}
-use Rattle.document.specs.Rows.{decodeRows}
-use Rattle.runs.specs.Steps.{decodeSteps}
+use Rattle.document.specs.Rows.{decode_rows}
+use Rattle.runs.specs.Steps.{decode_steps}
 use Rattle.runs.proofs.tests.all_known.Statement.{statement}
 use Rattle.runs.proofs.tests.all_known.Tie as tie
 
 abbrev invariant-loop : tie.invariant-loop
-invariant-loop set rows run n i₀ i = Passed (known? (decode set) (decodeRows rows) (decodeSteps run)) (length (decodeSteps run)) n i
+invariant-loop set rows run n i₀ i = Passed (known? (decode set) (decode_rows rows) (decode_steps run)) (length (decode_steps run)) n i
 
 abbrev decreases-loop : tie.decreases-loop
 decreases-loop set rows run n i₀ i = n - i

@@ -1,6 +1,6 @@
 -- `spelling::piece::hex_digit` meets its contract: the sum is the digit's byte. Assumes nothing.
 use borrow.Author.Rules.{rules}
-use Rattle.spelling.proofs.HexDigits.{hex-sum}
+use Rattle.spelling.proofs.HexDigits.{hex_sum}
 use Rattle.spelling.proofs.piece.hex_digit.Statement.{statement}
 use Rattle.spelling.proofs.piece.hex_digit.Tie as tie
 
@@ -12,4 +12,4 @@ hex-digit-spec =
     (λ c. search rules)
     (λ c. search rules)
     (λ c. search rules)
-    (λ c. hex-sum _ (search rules)))
+    (λ c. hex_sum _ (search rules)))

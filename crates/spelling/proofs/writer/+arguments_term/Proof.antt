@@ -5,12 +5,12 @@ use mathlib.Core.Path.{◌≡◌, refl}
 use native.Mathlib.Omega.{arith}
 use borrow.Author.Rules.{rules}
 use lib.ListN.{length}
-use Rattle.model.specs.Limits.{maxChildren}
-use Rattle.names.specs.Table.{nameIn}
-use Rattle.spelling.specs.Rows.{rowText}
-use Rattle.spelling.proofs.Summing.{place-in-use}
-use Rattle.spelling.proofs.Texts.{sound-scalar}
-use Rattle.spelling.proofs.Putting.{name-room, leaf_room, leaf-wrote, children-room, children-wrote, Listing, list-none, list-end-room, list-end, list-room, list-below, list-fits, list-more}
+use Rattle.model.specs.Limits.{max_children}
+use Rattle.names.specs.Table.{name_in}
+use Rattle.spelling.specs.Rows.{row_text}
+use Rattle.spelling.proofs.Summing.{place_in_use}
+use Rattle.spelling.proofs.Texts.{sound_scalar}
+use Rattle.spelling.proofs.Putting.{name_room, leaf_room, leaf_wrote, children_room, children_wrote, Listing, list_none, list_end_room, list_end, list_room, list_below, list_fits, list_more}
 use borrow.Fn.Kinds.{In}
 use borrow.Fn.PlainCycle.{Measures, is, falls, and}
 use Rattle.spelling.proofs.writer.arguments.Reads as arguments
@@ -23,7 +23,7 @@ use Rattle.document.proofs.rows.place.Reads as place-reads
 use Rattle.document.proofs.rows.symbol.Reads as symbol-reads
 use Rattle.spelling.proofs.writer.byte.Reads as byte-Reads
 use Rattle.spelling.proofs.writer.name.Reads as name-reads
-use Rattle.spelling.proofs.writer.scalar.Reads as scalar-reads
+use Rattle.spelling.proofs.writer.scalar.Reads as scalar_reads
 use Rattle.spelling.proofs.writer.+arguments_term.{statement}
 use Rattle.spelling.proofs.writer.+arguments_term.Tie.{close}
 
@@ -46,10 +46,10 @@ abbrev term-below : ℕ → In 3 term-kinds.ps
 term-below t = and 3 term-kinds.ps (falls 3 term-kinds.ps ◌<◌ μ-term t) term.Pre
 
 abbrev invariant-loop : arguments-lts.invariant-loop
-invariant-loop rows names i out₀ at p₀ lead₀ k₀ out p lead k = Listing (rowText (nameIn names) rows) rows i.0 out₀ at lead k p out × (k ≤ maxChildren) × (length out ≡ length out₀)
+invariant-loop rows names i out₀ at p₀ lead₀ k₀ out p lead k = Listing (row_text (name_in names) rows) rows i.0 out₀ at lead k p out × (k ≤ max_children) × (length out ≡ length out₀)
 
 abbrev decreases-loop : arguments-lts.decreases-loop
-decreases-loop rows names i out₀ at p₀ lead₀ k₀ out p lead k = maxChildren - k
+decreases-loop rows names i out₀ at p₀ lead₀ k₀ out p lead k = max_children - k
 
 -- what the calls of the list writer and of the term writer ask and tell
 abbrev list : ℕ → arguments-lts.Claims
@@ -63,62 +63,62 @@ one t = (
   name-reads.Learnt,
   place-reads.Asked,
   place-reads.Learnt,
-  scalar-reads.Asked,
-  scalar-reads.Learnt,
+  scalar_reads.Asked,
+  scalar_reads.Learnt,
   arguments-below t,
   arguments.Post,
 )
 
 arguments-loop-holds : (t : ℕ) → arguments-lts.Need-loop-init (list t) (arguments-at t) arguments.Post invariant-loop decreases-loop
-arguments-loop-holds t c = (list-none _ _ _ _ _ c.before.before.before.requires.1.0 c.before.before.before.requires.1.1.0 c.before.before.before.requires.1.1.1, omega arith, refl)
+arguments-loop-holds t c = (list_none _ _ _ _ _ c.before.before.before.requires.1.0 c.before.before.before.requires.1.1.0 c.before.before.before.requires.1.1.1, omega arith, refl)
 
 arguments-byte-requires : (t : ℕ) → arguments-lts.Need-byte-requires (list t) (arguments-at t) arguments.Post invariant-loop decreases-loop
-arguments-byte-requires t c κs = list-end-room _ _ _ _ _ _ _ _ _ c.before.before.before.before.loop.invariant.0 _ c.before.before.before.place.ensures c.before.if1.true
+arguments-byte-requires t c κs = list_end_room _ _ _ _ _ _ _ _ _ c.before.before.before.before.loop.invariant.0 _ c.before.before.before.place.ensures c.before.if1.true
 
 arguments-returns : (t : ℕ) → arguments-lts.Need-returns (list t) (arguments-at t) arguments.Post invariant-loop decreases-loop
-arguments-returns t c = list-end _ _ _ _ _ _ _ _ _ c.before.before.before.before.before.before.before.loop.invariant.0 _ c.before.before.before.before.before.before.place.ensures c.before.before.before.before.if1.true _ _ c.before.before.byte.ensures
+arguments-returns t c = list_end _ _ _ _ _ _ _ _ _ c.before.before.before.before.before.before.before.loop.invariant.0 _ c.before.before.before.before.before.before.place.ensures c.before.before.before.before.if1.true _ _ c.before.before.byte.ensures
 
 arguments-byte-requires-2 : (t : ℕ) → arguments-lts.Need-byte-requires-2 (list t) (arguments-at t) arguments.Post invariant-loop decreases-loop
-arguments-byte-requires-2 t c κs = list-room _ _ _ _ _ _ _ _ _ c.before.before.before.before.loop.invariant.0 _ c.before.before.before.place.ensures c.before.if1.false
+arguments-byte-requires-2 t c κs = list_room _ _ _ _ _ _ _ _ _ c.before.before.before.before.loop.invariant.0 _ c.before.before.before.place.ensures c.before.if1.false
 
 arguments-term-requires : (t : ℕ) → arguments-lts.Need-term-requires (list t) (arguments-at t) arguments.Post invariant-loop decreases-loop
 arguments-term-requires t c κs =
-    let low = list-below _ _ _ _ _ _ _ _ _ c.before.before.before.before.before.before.before.before.loop.invariant.0 _ c.before.before.before.before.before.before.before.place.ensures c.before.before.before.before.before.if1.false in (
+    let low = list_below _ _ _ _ _ _ _ _ _ c.before.before.before.before.before.before.before.before.loop.invariant.0 _ c.before.before.before.before.before.before.before.place.ensures c.before.before.before.before.before.if1.false in (
       omega (arith, low, c.before.before.before.before.before.before.before.before.before.before.before.before.requires.0),
       (
         c.before.before.before.before.before.before.before.before.before.before.before.before.requires.1.0,
         (
           omega (arith, low, c.before.before.before.before.before.before.before.before.before.before.before.before.requires.1.1.0),
-          list-fits _ _ _ _ _ _ _ _ _ c.before.before.before.before.before.before.before.before.loop.invariant.0 _ c.before.before.before.before.before.before.before.place.ensures c.before.before.before.before.before.if1.false _ _ c.before.before.before.byte2.ensures,
+          list_fits _ _ _ _ _ _ _ _ _ c.before.before.before.before.before.before.before.before.loop.invariant.0 _ c.before.before.before.before.before.before.before.place.ensures c.before.before.before.before.before.if1.false _ _ c.before.before.before.byte2.ensures,
         ),
       ),
     )
 
 -- the place is one of four
 arguments-add-k : (t : ℕ) → arguments-lts.Need-overflow-add-k (list t) (arguments-at t) arguments.Post invariant-loop decreases-loop
-arguments-add-k t c = omega (arith, place-in-use _ _ _ _ c.before.before.before.before.before.before.before.before.before.before.place.ensures c.before.before.before.before.before.before.before.before.if1.false)
+arguments-add-k t c = omega (arith, place_in_use _ _ _ _ c.before.before.before.before.before.before.before.before.before.before.place.ensures c.before.before.before.before.before.before.before.before.if1.false)
 
 arguments-loop-less : (t : ℕ) → arguments-lts.Need-loop-smaller (list t) (arguments-at t) arguments.Post invariant-loop decreases-loop
-arguments-loop-less t c = omega (arith, place-in-use _ _ _ _ c.before.before.before.before.before.before.before.before.before.before.place.ensures c.before.before.before.before.before.before.before.before.if1.false)
+arguments-loop-less t c = omega (arith, place_in_use _ _ _ _ c.before.before.before.before.before.before.before.before.before.before.place.ensures c.before.before.before.before.before.before.before.before.if1.false)
 
 arguments-loop-again : (t : ℕ) → arguments-lts.Need-loop-preserved (list t) (arguments-at t) arguments.Post invariant-loop decreases-loop
 arguments-loop-again t c = (
-  list-more _ _ _ _ _ _ _ _ _ c.before.before.before.before.before.before.before.before.before.before.before.loop.invariant.0 _ c.before.before.before.before.before.before.before.before.before.before.place.ensures c.before.before.before.before.before.before.before.before.if1.false _ _ c.before.before.before.before.before.before.byte2.ensures _ _ c.before.before.term.ensures,
-  omega (arith, place-in-use _ _ _ _ c.before.before.before.before.before.before.before.before.before.before.place.ensures c.before.before.before.before.before.before.before.before.if1.false),
+  list_more _ _ _ _ _ _ _ _ _ c.before.before.before.before.before.before.before.before.before.before.before.loop.invariant.0 _ c.before.before.before.before.before.before.before.before.before.before.place.ensures c.before.before.before.before.before.before.before.before.if1.false _ _ c.before.before.before.before.before.before.byte2.ensures _ _ c.before.before.term.ensures,
+  omega (arith, place_in_use _ _ _ _ c.before.before.before.before.before.before.before.before.before.before.place.ensures c.before.before.before.before.before.before.before.before.if1.false),
   search rules,
 )
 
 term-name-requires : (t : ℕ) → term-lts.Need-name-requires (one t) (term-at t) term.Post
-term-name-requires t c κs = name-room _ _ c.before.before.before.before.before.requires.1.0 _ c.before.before.before.before.before.requires.1.1.0 _ c.before.symbol.ensures c.before.before.before.before.before.args.out.now _ c.before.before.before.before.before.requires.1.1.1
+term-name-requires t c κs = name_room _ _ c.before.before.before.before.before.requires.1.0 _ c.before.before.before.before.before.requires.1.1.0 _ c.before.symbol.ensures c.before.before.before.before.before.args.out.now _ c.before.before.before.before.before.requires.1.1.1
 
 term-scalar-requires : (t : ℕ) → term-lts.Need-scalar-requires (one t) (term-at t) term.Post
 term-scalar-requires t c κs = (
-  sound-scalar _ c.before.before.before.before.before.before.before.before.before.before.before.before.requires.1.0 _ c.before.before.before.before.before.before.before.before.before.before.before.before.requires.1.1.0,
+  sound_scalar _ c.before.before.before.before.before.before.before.before.before.before.before.before.requires.1.0 _ c.before.before.before.before.before.before.before.before.before.before.before.before.requires.1.1.0,
   leaf_room _ _ c.before.before.before.before.before.before.before.before.before.before.before.before.requires.1.0 _ c.before.before.before.before.before.before.before.before.before.before.before.before.requires.1.1.0 _ c.before.before.before.before.before.before.before.before.symbol.ensures _ _ c.before.before.before.before.before.before.before.before.before.before.before.before.requires.1.1.1 _ _ c.before.before.before.before.before.before.name.ensures _ c.before.before.before.place.ensures c.before.if1.true,
 )
 
 term-returns : (t : ℕ) → term-lts.Need-returns (one t) (term-at t) term.Post
-term-returns t c = leaf-wrote _ _ c.before.before.before.before.before.before.before.before.before.before.before.before.before.before.before.requires.1.0 _ c.before.before.before.before.before.before.before.before.before.before.before.before.before.before.before.requires.1.1.0 _ c.before.before.before.before.before.before.before.before.before.before.before.symbol.ensures _ _ c.before.before.before.before.before.before.before.before.before.before.before.before.before.before.before.requires.1.1.1 _ _ c.before.before.before.before.before.before.before.before.before.name.ensures _ c.before.before.before.before.before.before.place.ensures c.before.before.before.before.if1.true _ _ c.before.before.scalar.ensures
+term-returns t c = leaf_wrote _ _ c.before.before.before.before.before.before.before.before.before.before.before.before.before.before.before.requires.1.0 _ c.before.before.before.before.before.before.before.before.before.before.before.before.before.before.before.requires.1.1.0 _ c.before.before.before.before.before.before.before.before.before.before.before.symbol.ensures _ _ c.before.before.before.before.before.before.before.before.before.before.before.before.before.before.before.requires.1.1.1 _ _ c.before.before.before.before.before.before.before.before.before.name.ensures _ c.before.before.before.before.before.before.place.ensures c.before.before.before.before.if1.true _ _ c.before.before.scalar.ensures
 
 term-arguments-requires : (t : ℕ) → term-lts.Need-arguments-requires (one t) (term-at t) term.Post
 term-arguments-requires t c κs = (
@@ -127,13 +127,13 @@ term-arguments-requires t c κs = (
     c.before.before.before.before.before.before.before.before.before.before.before.before.requires.1.0,
     (
       c.before.before.before.before.before.before.before.before.before.before.before.before.requires.1.1.0,
-      children-room _ _ c.before.before.before.before.before.before.before.before.before.before.before.before.requires.1.0 _ c.before.before.before.before.before.before.before.before.before.before.before.before.requires.1.1.0 _ c.before.before.before.before.before.before.before.before.symbol.ensures _ _ c.before.before.before.before.before.before.before.before.before.before.before.before.requires.1.1.1 _ _ c.before.before.before.before.before.before.name.ensures _ c.before.before.before.place.ensures c.before.if1.false,
+      children_room _ _ c.before.before.before.before.before.before.before.before.before.before.before.before.requires.1.0 _ c.before.before.before.before.before.before.before.before.before.before.before.before.requires.1.1.0 _ c.before.before.before.before.before.before.before.before.symbol.ensures _ _ c.before.before.before.before.before.before.before.before.before.before.before.before.requires.1.1.1 _ _ c.before.before.before.before.before.before.name.ensures _ c.before.before.before.place.ensures c.before.if1.false,
     ),
   ),
 )
 
 term-returns-2 : (t : ℕ) → term-lts.Need-returns-2 (one t) (term-at t) term.Post
-term-returns-2 t c = children-wrote _ _ c.before.before.before.before.before.before.before.before.before.before.before.before.before.before.before.requires.1.0 _ c.before.before.before.before.before.before.before.before.before.before.before.before.before.before.before.requires.1.1.0 _ c.before.before.before.before.before.before.before.before.before.before.before.symbol.ensures _ _ c.before.before.before.before.before.before.before.before.before.before.before.before.before.before.before.requires.1.1.1 _ _ c.before.before.before.before.before.before.before.before.before.name.ensures _ c.before.before.before.before.before.before.place.ensures c.before.before.before.before.if1.false _ _ c.before.before.arguments.ensures
+term-returns-2 t c = children_wrote _ _ c.before.before.before.before.before.before.before.before.before.before.before.before.before.before.before.requires.1.0 _ c.before.before.before.before.before.before.before.before.before.before.before.before.before.before.before.requires.1.1.0 _ c.before.before.before.before.before.before.before.before.before.before.before.symbol.ensures _ _ c.before.before.before.before.before.before.before.before.before.before.before.before.before.before.before.requires.1.1.1 _ _ c.before.before.before.before.before.before.before.before.before.name.ensures _ c.before.before.before.before.before.before.place.ensures c.before.before.before.before.if1.false _ _ c.before.before.arguments.ensures
 
 pub +arguments-term-spec : {M : Type 1} → statement M
 +arguments-term-spec =

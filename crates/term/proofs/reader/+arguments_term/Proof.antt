@@ -6,17 +6,17 @@ use native.Mathlib.Omega.{arith}
 use borrow.Author.Rules.{rules}
 use borrow.Author.Tests.{not-true, not-false}
 use lib.ListN.{length, get_or}
-use Rattle.document.specs.Rows.{rowsBelow}
+use Rattle.document.specs.Rows.{rows_below}
 use Rattle.document.specs.declared.scalar.Scalar.TheVariants.{Bare}
-use Rattle.names.specs.Names.{letter?, findIn}
-use Rattle.names.specs.Table.{nameIn}
-use Rattle.term.specs.Grammar.{afterArgs, readTerm}
+use Rattle.names.specs.Names.{letter?, find_in}
+use Rattle.names.specs.Table.{name_in}
+use Rattle.term.specs.Grammar.{after_args, read_term}
 use Rattle.term.specs.State.{setting_of, named_of}
 use Rattle.base.proofs.Bytes.{byte_inside}
-use Rattle.term.proofs.Ending.{says-by}
-use Rattle.term.proofs.Reading.{no-letter, too-deep, term-unnamed, term-leaf, term-args}
-use Rattle.term.proofs.Listing.{Listing, list-start, list-refused, list-ready, list-ahead, list_held, list-last, list-other, list-more, says-bare}
-use Rattle.term.proofs.Meaning.{term-ahead, term-ends}
+use Rattle.term.proofs.Ending.{says_by}
+use Rattle.term.proofs.Reading.{no_letter, too_deep, term_unnamed, term_leaf, term_args}
+use Rattle.term.proofs.Listing.{Listing, list_start, list_refused, list_ready, list_ahead, list_held, list_last, list_other, list_more, says_bare}
+use Rattle.term.proofs.Meaning.{term_ahead, term_ends}
 use borrow.Fn.Kinds.{In}
 use borrow.Fn.PlainCycle.{Measures, is, falls, and}
 use Rattle.term.proofs.reader.arguments.Reads as arguments
@@ -55,7 +55,7 @@ term-below t = and 6 term-kinds.ps (falls 6 term-kinds.ps ◌<◌ μ-term t) ter
 
 abbrev invariant-loop : arguments-lts.invariant-loop
 invariant-loop text classes set names symbols limit rows₀ slots₀ used level start first symbol at₀ known₀ count₀ fields₀ rows slots at known count fields =
-    Listing (readTerm (setting_of set names symbols limit) text level) text start (rowsBelow rows₀ used) limit rows slots at known count fields.places × (length rows ≡ length rows₀) × (fields.symbol ≡ symbol) × (fields.scalar ≡ Bare)
+    Listing (read_term (setting_of set names symbols limit) text level) text start (rows_below rows₀ used) limit rows slots at known count fields.places × (length rows ≡ length rows₀) × (fields.symbol ≡ symbol) × (fields.scalar ≡ Bare)
 
 abbrev decreases-loop : arguments-lts.decreases-loop
 decreases-loop text classes set names symbols limit rows₀ slots₀ used level start first symbol at₀ known₀ count₀ fields₀ rows slots at known count fields = length text - at
@@ -91,8 +91,8 @@ one t = (
 
 arguments-loop-holds : (t : ℕ) → arguments-lts.Need-loop-init (list t) (arguments-at t) arguments.Post invariant-loop decreases-loop
 arguments-loop-holds t c =
-    let is = c.no-children.ensures in (
-      list-start _ _ _ _ _ _ _ _ _ _ _ is refl c.before.before.before.before.before.requires.1.0,
+    let is = c.no_children_lem.ensures in (
+      list_start _ _ _ _ _ _ _ _ _ _ _ is refl c.before.before.before.before.before.requires.1.0,
       refl,
       ap (λ f. f.symbol) is,
       ap (λ f. f.scalar) is,
@@ -103,9 +103,9 @@ arguments-term-requires t c κs = (omega (arith, c.before.before.before.before.b
 
 arguments-returns : (t : ℕ) → arguments-lts.Need-returns (list t) (arguments-at t) arguments.Post invariant-loop decreases-loop
 arguments-returns t c =
-    says-by _ _ _ _
-    (ap (afterArgs _ c.before.before.before.before.before.before.before.before.before.before.before.before.before.before.args.first c.before.before.before.before.before.before.before.before.before.before.before.before.before.before.args.symbol)
-    (list-refused _ _ _ _ _ (term-ends _ _ _) (term-ahead _ _ _ _ c.before.before.before.before.before.before.before.before.before.before.before.before.before.before.requires.1.1.1.0 _ _) _ _ _ _ _ c.before.before.before.before.before.before.before.before.loop.fields c.before.before.before.before.before.before.before.before.loop.invariant.0 _ _ _ c.before.before.before.before.before.term.ensures _ _ c.before.w.given.1))
+    says_by _ _ _ _
+    (ap (after_args _ c.before.before.before.before.before.before.before.before.before.before.before.before.before.before.args.first c.before.before.before.before.before.before.before.before.before.before.before.before.before.before.args.symbol)
+    (list_refused _ _ _ _ _ (term_ends _ _ _) (term_ahead _ _ _ _ c.before.before.before.before.before.before.before.before.before.before.before.before.before.before.requires.1.1.1.0 _ _) _ _ _ _ _ c.before.before.before.before.before.before.before.before.loop.fields c.before.before.before.before.before.before.before.before.loop.invariant.0 _ _ _ c.before.before.before.before.before.term.ensures _ _ c.before.w.given.1))
     refl
 
 -- a term of the list was read
@@ -115,7 +115,7 @@ arguments-add-count t c =
       arith,
       c.before.before.before.before.before.before.before.before.before.loop.invariant.0.few,
       c.before.before.before.before.before.before.before.before.before.before.before.before.before.before.before.well-formed.0,
-      list-ahead _ _ _ _ _ (term-ends _ _ _) (term-ahead _ _ _ _ c.before.before.before.before.before.before.before.before.before.before.before.before.before.before.before.requires.1.1.1.0 _ _) _ _ _ _ _ c.before.before.before.before.before.before.before.before.before.loop.fields c.before.before.before.before.before.before.before.before.before.loop.invariant.0 _ _ _ c.before.before.before.before.before.before.term.ensures _ _ _ c.before.before.j.given.1,
+      list_ahead _ _ _ _ _ (term_ends _ _ _) (term_ahead _ _ _ _ c.before.before.before.before.before.before.before.before.before.before.before.before.before.before.before.requires.1.1.1.0 _ _) _ _ _ _ _ c.before.before.before.before.before.before.before.before.before.loop.fields c.before.before.before.before.before.before.before.before.before.loop.invariant.0 _ _ _ c.before.before.before.before.before.before.term.ensures _ _ _ c.before.before.j.given.1,
     )
 
 arguments-add-end-term : (t : ℕ) → arguments-lts.Need-overflow-add-end-term (list t) (arguments-at t) arguments.Post invariant-loop decreases-loop
@@ -124,25 +124,25 @@ arguments-add-end-term t c =
 
 arguments-end-term-requires : (t : ℕ) → arguments-lts.Need-end-term-requires (list t) (arguments-at t) arguments.Post invariant-loop decreases-loop
 arguments-end-term-requires t c κs = (
-  list-ready _ _ _ _ _ (term-ends _ _ _) (term-ahead _ _ _ _ c.before.before.before.before.before.before.before.before.before.before.before.before.before.before.before.before.before.before.before.requires.1.1.1.0 _ _) _ _ _ _ _ c.before.before.before.before.before.before.before.before.before.before.before.before.before.loop.fields c.before.before.before.before.before.before.before.before.before.before.before.before.before.loop.invariant.0 _ _ _ c.before.before.before.before.before.before.before.before.before.before.term.ensures _ _ _ c.before.before.before.before.before.before.j.given.1,
+  list_ready _ _ _ _ _ (term_ends _ _ _) (term_ahead _ _ _ _ c.before.before.before.before.before.before.before.before.before.before.before.before.before.before.before.before.before.before.before.requires.1.1.1.0 _ _) _ _ _ _ _ c.before.before.before.before.before.before.before.before.before.before.before.before.before.loop.fields c.before.before.before.before.before.before.before.before.before.before.before.before.before.loop.invariant.0 _ _ _ c.before.before.before.before.before.before.before.before.before.before.term.ensures _ _ _ c.before.before.before.before.before.before.j.given.1,
   c.before.before.before.before.before.before.before.before.before.before.before.before.before.before.before.before.before.before.before.requires.1.1.0,
 )
 
 arguments-returns-2 : (t : ℕ) → arguments-lts.Need-returns-2 (list t) (arguments-at t) arguments.Post invariant-loop decreases-loop
 arguments-returns-2 t c =
-    says-by _ _ _ _
-    (ap (afterArgs _ c.before.before.before.before.before.before.before.before.before.before.before.before.before.before.before.before.before.before.before.before.before.before.args.first c.before.before.before.before.before.before.before.before.before.before.before.before.before.before.before.before.before.before.before.before.before.before.args.symbol)
-    (list-last _ _ _ _ _ (term-ends _ _ _) (term-ahead _ _ _ _ c.before.before.before.before.before.before.before.before.before.before.before.before.before.before.before.before.before.before.before.before.before.before.requires.1.1.1.0 _ _) _ _ _ _ _ c.before.before.before.before.before.before.before.before.before.before.before.before.before.before.before.before.loop.fields c.before.before.before.before.before.before.before.before.before.before.before.before.before.before.before.before.loop.invariant.0 _ _ _ c.before.before.before.before.before.before.before.before.before.before.before.before.before.term.ensures _ _ _ c.before.before.before.before.before.before.before.before.before.j.given.1
+    says_by _ _ _ _
+    (ap (after_args _ c.before.before.before.before.before.before.before.before.before.before.before.before.before.before.before.before.before.before.before.before.before.before.args.first c.before.before.before.before.before.before.before.before.before.before.before.before.before.before.before.before.before.before.before.before.before.before.args.symbol)
+    (list_last _ _ _ _ _ (term_ends _ _ _) (term_ahead _ _ _ _ c.before.before.before.before.before.before.before.before.before.before.before.before.before.before.before.before.before.before.before.before.before.before.requires.1.1.1.0 _ _) _ _ _ _ _ c.before.before.before.before.before.before.before.before.before.before.before.before.before.before.before.before.loop.fields c.before.before.before.before.before.before.before.before.before.before.before.before.before.before.before.before.loop.invariant.0 _ _ _ c.before.before.before.before.before.before.before.before.before.before.before.before.before.term.ensures _ _ _ c.before.before.before.before.before.before.before.before.before.j.given.1
     (sym c.before.before.before.before.before.before.byte_at.ensures ∙ c.before.before.before.before.before.if1.true)))
-    (says-bare _ _ _ _ _ _ _ _ _ _ c.before.before.before.before.before.before.before.with-child.result (ap (λ f. f.symbol) c.before.before.before.before.before.before.before.with-child.ensures ∙ c.before.before.before.before.before.before.before.before.before.before.before.before.before.before.before.before.loop.invariant.2) (ap (λ f. f.scalar) c.before.before.before.before.before.before.before.with-child.ensures ∙ c.before.before.before.before.before.before.before.before.before.before.before.before.before.before.before.before.loop.invariant.3)
+    (says_bare _ _ _ _ _ _ _ _ _ _ c.before.before.before.before.before.before.before.with_child_lem.result (ap (λ f. f.symbol) c.before.before.before.before.before.before.before.with_child_lem.ensures ∙ c.before.before.before.before.before.before.before.before.before.before.before.before.before.before.before.before.loop.invariant.2) (ap (λ f. f.scalar) c.before.before.before.before.before.before.before.with_child_lem.ensures ∙ c.before.before.before.before.before.before.before.before.before.before.before.before.before.before.before.before.loop.invariant.3)
     (c.before.before.end-term.ensures _
-    (list_held _ _ _ _ _ (term-ends _ _ _) (term-ahead _ _ _ _ c.before.before.before.before.before.before.before.before.before.before.before.before.before.before.before.before.before.before.before.before.before.before.requires.1.1.1.0 _ _) _ _ _ _ _ c.before.before.before.before.before.before.before.before.before.before.before.before.before.before.before.before.loop.fields c.before.before.before.before.before.before.before.before.before.before.before.before.before.before.before.before.loop.invariant.0 _ _ _ c.before.before.before.before.before.before.before.before.before.before.before.before.before.term.ensures _ _ _ c.before.before.before.before.before.before.before.before.before.j.given.1 _ c.before.before.before.before.before.before.before.with-child.ensures)))
+    (list_held _ _ _ _ _ (term_ends _ _ _) (term_ahead _ _ _ _ c.before.before.before.before.before.before.before.before.before.before.before.before.before.before.before.before.before.before.before.before.before.before.requires.1.1.1.0 _ _) _ _ _ _ _ c.before.before.before.before.before.before.before.before.before.before.before.before.before.before.before.before.loop.fields c.before.before.before.before.before.before.before.before.before.before.before.before.before.before.before.before.loop.invariant.0 _ _ _ c.before.before.before.before.before.before.before.before.before.before.before.before.before.term.ensures _ _ _ c.before.before.before.before.before.before.before.before.before.j.given.1 _ c.before.before.before.before.before.before.before.with_child_lem.ensures)))
 
 arguments-returns-3 : (t : ℕ) → arguments-lts.Need-returns-3 (list t) (arguments-at t) arguments.Post invariant-loop decreases-loop
 arguments-returns-3 t c =
-    says-by _ _ _ _
-    (ap (afterArgs _ c.before.before.before.before.before.before.before.before.before.before.before.before.before.before.before.before.before.before.args.first c.before.before.before.before.before.before.before.before.before.before.before.before.before.before.before.before.before.before.args.symbol)
-    (list-other _ _ _ _ _ (term-ends _ _ _) (term-ahead _ _ _ _ c.before.before.before.before.before.before.before.before.before.before.before.before.before.before.before.before.before.before.requires.1.1.1.0 _ _) _ _ _ _ _ c.before.before.before.before.before.before.before.before.before.before.before.before.loop.fields c.before.before.before.before.before.before.before.before.before.before.before.before.loop.invariant.0 _ _ _ c.before.before.before.before.before.before.before.before.before.term.ensures _ _ _ c.before.before.before.before.before.j.given.1
+    says_by _ _ _ _
+    (ap (after_args _ c.before.before.before.before.before.before.before.before.before.before.before.before.before.before.before.before.before.before.args.first c.before.before.before.before.before.before.before.before.before.before.before.before.before.before.before.before.before.before.args.symbol)
+    (list_other _ _ _ _ _ (term_ends _ _ _) (term_ahead _ _ _ _ c.before.before.before.before.before.before.before.before.before.before.before.before.before.before.before.before.before.before.requires.1.1.1.0 _ _) _ _ _ _ _ c.before.before.before.before.before.before.before.before.before.before.before.before.loop.fields c.before.before.before.before.before.before.before.before.before.before.before.before.loop.invariant.0 _ _ _ c.before.before.before.before.before.before.before.before.before.term.ensures _ _ _ c.before.before.before.before.before.j.given.1
     (λ e. c.if2.true (c.before.before.byte_at.ensures ∙ e)) (λ e. c.before.if1.false (c.before.before.byte_at.ensures ∙ e))))
     refl
 
@@ -154,16 +154,16 @@ arguments-loop-less : (t : ℕ) → arguments-lts.Need-loop-smaller (list t) (ar
 arguments-loop-less t c =
     omega (
       arith,
-      list-ahead _ _ _ _ _ (term-ends _ _ _) (term-ahead _ _ _ _ c.before.before.before.before.before.before.before.before.before.before.before.before.before.before.before.before.before.before.requires.1.1.1.0 _ _) _ _ _ _ _ c.before.before.before.before.before.before.before.before.before.before.before.before.loop.fields c.before.before.before.before.before.before.before.before.before.before.before.before.loop.invariant.0 _ _ _ c.before.before.before.before.before.before.before.before.before.term.ensures _ _ _ c.before.before.before.before.before.j.given.1,
+      list_ahead _ _ _ _ _ (term_ends _ _ _) (term_ahead _ _ _ _ c.before.before.before.before.before.before.before.before.before.before.before.before.before.before.before.before.before.before.requires.1.1.1.0 _ _) _ _ _ _ _ c.before.before.before.before.before.before.before.before.before.before.before.before.loop.fields c.before.before.before.before.before.before.before.before.before.before.before.before.loop.invariant.0 _ _ _ c.before.before.before.before.before.before.before.before.before.term.ensures _ _ _ c.before.before.before.before.before.j.given.1,
     )
 
 arguments-loop-again : (t : ℕ) → arguments-lts.Need-loop-preserved (list t) (arguments-at t) arguments.Post invariant-loop decreases-loop
 arguments-loop-again t c = (
-  list-more _ _ _ _ _ (term-ends _ _ _) (term-ahead _ _ _ _ c.before.before.before.before.before.before.before.before.before.before.before.before.before.before.before.before.before.before.requires.1.1.1.0 _ _) _ _ _ _ _ c.before.before.before.before.before.before.before.before.before.before.before.before.loop.fields c.before.before.before.before.before.before.before.before.before.before.before.before.loop.invariant.0 _ _ _ c.before.before.before.before.before.before.before.before.before.term.ensures _ _ _ c.before.before.before.before.before.j.given.1 _ c.before.before.before.with-child.ensures
+  list_more _ _ _ _ _ (term_ends _ _ _) (term_ahead _ _ _ _ c.before.before.before.before.before.before.before.before.before.before.before.before.before.before.before.before.before.before.requires.1.1.1.0 _ _) _ _ _ _ _ c.before.before.before.before.before.before.before.before.before.before.before.before.loop.fields c.before.before.before.before.before.before.before.before.before.before.before.before.loop.invariant.0 _ _ _ c.before.before.before.before.before.before.before.before.before.term.ensures _ _ _ c.before.before.before.before.before.j.given.1 _ c.before.before.before.with_child_lem.ensures
       (sym c.before.before.byte_at.ensures ∙ c.if2.false),
   search rules,
-  ap (λ f. f.symbol) c.before.before.before.with-child.ensures ∙ c.before.before.before.before.before.before.before.before.before.before.before.before.loop.invariant.2,
-  ap (λ f. f.scalar) c.before.before.before.with-child.ensures ∙ c.before.before.before.before.before.before.before.before.before.before.before.before.loop.invariant.3,
+  ap (λ f. f.symbol) c.before.before.before.with_child_lem.ensures ∙ c.before.before.before.before.before.before.before.before.before.before.before.before.loop.invariant.2,
+  ap (λ f. f.scalar) c.before.before.before.with_child_lem.ensures ∙ c.before.before.before.before.before.before.before.before.before.before.before.before.loop.invariant.3,
 )
 
 -- the term reader: what stands at the place
@@ -172,21 +172,21 @@ term-letter t c = ap letter? (sym c.before.before.byte_at.ensures) ∙ sym (c.be
 
 term-returns : (t : ℕ) → term-lts.Need-returns (one t) (term-at t) term.Post
 term-returns t c =
-    says-by _ _ _ _
-    (no-letter _ _ _ _ _ (ap letter? (sym c.before.before.byte_at.ensures) ∙ sym (c.before.is-letter.ensures.1 c.before.before.before.before.before.before.before.requires.1.1.1.1) ∙ not-true c.before.is-letter.result c.if1.true))
+    says_by _ _ _ _
+    (no_letter _ _ _ _ _ (ap letter? (sym c.before.before.byte_at.ensures) ∙ sym (c.before.is-letter.ensures.1 c.before.before.before.before.before.before.before.requires.1.1.1.1) ∙ not-true c.before.is-letter.result c.if1.true))
     refl
 
 term-returns-2 : (t : ℕ) → term-lts.Need-returns-2 (one t) (term-at t) term.Post
-term-returns-2 t c = says-by _ _ _ _ (too-deep _ _ _ _ (term-letter t c.before) _ c.if2.true) refl
+term-returns-2 t c = says_by _ _ _ _ (too_deep _ _ _ _ (term-letter t c.before) _ c.if2.true) refl
 
 term-symbol-at-requires : (t : ℕ) → term-lts.Need-symbol-at-requires (one t) (term-at t) term.Post
 term-symbol-at-requires t c κs = (term-letter t c.before, search rules)
 
 term-returns-3 : (t : ℕ) → term-lts.Need-returns-3 (one t) (term-at t) term.Post
 term-returns-3 t c =
-    says-by _ _ _ _
-    (term-leaf _ _ _ _ (term-letter t c.before.before.before.before.before.before.before.before.before.before.before.before) _ _ (sym c.before.before.before.before.before.before.before.before.before.before.symbol-at.ensures ∙ ap named_of c.before.before.before.before.before.before.before.before.s.given.1) _ c.before.before.before.before.before.before.before.before.before.before.before.if2.false (λ e. c.before.before.before.before.before.if3.true (c.before.before.before.before.before.before.byte-at2.ensures ∙ e)))
-    (c.before.before.leaf.ensures (findIn c.before.before.before.before.before.before.before.before.before.before.before.before.before.before.before.before.before.before.before.args.symbols (nameIn c.before.before.before.before.before.before.before.before.before.before.before.before.before.before.before.before.before.before.before.args.names.now)))
+    says_by _ _ _ _
+    (term_leaf _ _ _ _ (term-letter t c.before.before.before.before.before.before.before.before.before.before.before.before) _ _ (sym c.before.before.before.before.before.before.before.before.before.before.symbol_at.ensures ∙ ap named_of c.before.before.before.before.before.before.before.before.s.given.1) _ c.before.before.before.before.before.before.before.before.before.before.before.if2.false (λ e. c.before.before.before.before.before.if3.true (c.before.before.before.before.before.before.byte-at2.ensures ∙ e)))
+    (c.before.before.leaf.ensures (find_in c.before.before.before.before.before.before.before.before.before.before.before.before.before.before.before.before.before.before.before.args.symbols (name_in c.before.before.before.before.before.before.before.before.before.before.before.before.before.before.before.before.before.before.before.args.names.now)))
 
 term-add-arguments : (t : ℕ) → term-lts.Need-overflow-add-arguments (one t) (term-at t) term.Post
 term-add-arguments t c =
@@ -197,14 +197,14 @@ term-arguments-requires t c κs = (omega (arith, c.before.before.before.before.b
 
 term-returns-4 : (t : ℕ) → term-lts.Need-returns-4 (one t) (term-at t) term.Post
 term-returns-4 t c =
-    says-by _ _ _ _
-    (term-unnamed _ _ _ _ (term-letter t c.before.before.before.before.before) _ _ _ c.before.before.before.before.if2.false (sym c.before.before.before.symbol-at.ensures ∙ ap named_of c.before.w.given.1))
+    says_by _ _ _ _
+    (term_unnamed _ _ _ _ (term-letter t c.before.before.before.before.before) _ _ _ c.before.before.before.before.if2.false (sym c.before.before.before.symbol_at.ensures ∙ ap named_of c.before.w.given.1))
     refl
 
 term-returns-5 : (t : ℕ) → term-lts.Need-returns-5 (one t) (term-at t) term.Post
 term-returns-5 t c =
-    says-by _ _ _ _
-    (term-args _ _ _ _ (term-letter t c.before.before.before.before.before.before.before.before.before.before.before.before) _ _ (sym c.before.before.before.before.before.before.before.before.before.before.symbol-at.ensures ∙ ap named_of c.before.before.before.before.before.before.before.before.s.given.1) _ c.before.before.before.before.before.before.before.before.before.before.before.if2.false (sym c.before.before.before.before.before.before.byte-at2.ensures ∙ c.before.before.before.before.before.if3.false))
+    says_by _ _ _ _
+    (term_args _ _ _ _ (term-letter t c.before.before.before.before.before.before.before.before.before.before.before.before) _ _ (sym c.before.before.before.before.before.before.before.before.before.before.symbol_at.ensures ∙ ap named_of c.before.before.before.before.before.before.before.before.s.given.1) _ c.before.before.before.before.before.before.before.before.before.before.before.if2.false (sym c.before.before.before.before.before.before.byte-at2.ensures ∙ c.before.before.before.before.before.if3.false))
     c.before.before.arguments.ensures
 
 pub +arguments-term-spec : {M : Type 1} → statement M

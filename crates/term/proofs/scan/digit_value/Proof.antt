@@ -2,7 +2,7 @@
 use mathlib.Core.Path.{refl}
 use native.Mathlib.Omega.{arith}
 use borrow.Author.Rules.{rules}
-use Rattle.term.proofs.Bytes.{digit-range}
+use Rattle.term.proofs.Bytes.{digit_range}
 use Rattle.term.proofs.scan.digit_value.Statement.{statement}
 use Rattle.term.proofs.scan.digit_value.Tie as tie
 
@@ -10,6 +10,6 @@ pub digit-value-spec : {M : Type 1} → statement M
 digit-value-spec =
     tie.close
     (tie.spec
-    (λ c. omega (arith, digit-range _ c.requires))
+    (λ c. omega (arith, digit_range _ c.requires))
     (λ c. search rules)
-    (λ c. (refl, omega (arith, digit-range _ c.requires))))
+    (λ c. (refl, omega (arith, digit_range _ c.requires))))

@@ -7,13 +7,13 @@ use native.Mathlib.Omega.{arith}
 use borrow.Author.Rules.{rules}
 use borrow.Author.Tests.{not-true, not-false}
 use Rattle.names.specs.Names.{digit?}
-use Rattle.term.proofs.Bytes.{digit-inside}
-use Rattle.term.proofs.Scalars.{number-none, number_digits, number_more, number-zero}
+use Rattle.term.proofs.Bytes.{digit_inside}
+use Rattle.term.proofs.Scalars.{number_none, number_digits, number_more, number_zero}
 use Rattle.term.proofs.scan.number.Statement.{statement}
 use Rattle.term.proofs.scan.number.Tie as tie
 
 returns : tie.Need-returns
-returns c = number-none _ _ _ _ c.before.before.byte_at.ensures (sym (c.before.is_digit.ensures.1 c.before.before.before.before.requires.1) ∙ not-true c.before.is_digit.result c.if1.true)
+returns c = number_none _ _ _ _ c.before.before.byte_at.ensures (sym (c.before.is_digit.ensures.1 c.before.before.before.before.requires.1) ∙ not-true c.before.is_digit.result c.if1.true)
 
 -- a digit stands there, inside the text
 module _ (c : tie.Else1) where
@@ -21,7 +21,7 @@ module _ (c : tie.Else1) where
   digit = sym (c.before.is_digit.ensures.1 c.before.before.before.before.requires.1) ∙ not-false c.before.is_digit.result c.if1.false
 
   inside : c.before.before.before.before.args.at < length c.before.before.before.before.args.text.now
-  inside = digit-inside c.before.before.before.before.args.text.now c.before.before.before.before.args.at (ap digit? (sym c.before.before.byte_at.ensures) ∙ digit)
+  inside = digit_inside c.before.before.before.before.args.text.now c.before.before.before.before.args.at (ap digit? (sym c.before.before.byte_at.ensures) ∙ digit)
 
 returns-2 : tie.Need-returns-2
 returns-2 c =
@@ -35,7 +35,7 @@ returns-3 c =
 
 returns-4 : tie.Need-returns-4
 returns-4 c =
-    number-zero _ _ _ _ c.before.before.before.before.before.before.byte_at.ensures (digit c.before.before.before.before) c.before.before.before.if2.false
+    number_zero _ _ _ _ c.before.before.before.before.before.before.byte_at.ensures (digit c.before.before.before.before) c.before.before.before.if2.false
     (ap digit? (sym c.before.before.byte-at2.ensures) ∙ sym (c.before.is-digit2.ensures.1 c.before.before.before.before.before.before.before.before.requires.1) ∙ c.if3.false)
 
 pub number-spec : {M : Type 1} → statement M

@@ -5,14 +5,14 @@ use native.Mathlib.Omega.{arith}
 use borrow.Author.Rules.{rules}
 use Rattle.term.specs.Answer.{number_of}
 use Rattle.base.proofs.Got.{read_is}
-use Rattle.term.proofs.Scalars.{NumberFrom, hex-below, rate-number, rate-fault}
+use Rattle.term.proofs.Scalars.{NumberFrom, hex_below, rate_number, rate_fault}
 use Rattle.term.proofs.scan.rate.Statement.{statement}
 use Rattle.term.proofs.scan.rate.Tie as tie
 
 returns : tie.Need-returns
 returns c =
-    let small = read_is (NumberFrom (2 ^ 64) _) _ _ (sym c.before.before.before.before.hex-bits.ensures ∙ ap number_of c.before.before.n.given.1) (hex-below _ 16 0 _ 0 (omega arith)) in
-    rate-number _ c.before.before.before.before.hex-bits.ensures _ _ c.row-rate.ensures small.0 c.before.before.n.given.1
+    let small = read_is (NumberFrom (2 ^ 64) _) _ _ (sym c.before.before.before.before.hex-bits.ensures ∙ ap number_of c.before.before.n.given.1) (hex_below _ 16 0 _ 0 (omega arith)) in
+    rate_number _ c.before.before.before.before.hex-bits.ensures _ _ c.row-rate.ensures small.0 c.before.before.n.given.1
 
 pub rate-spec : {M : Type 1} → statement M
 rate-spec =
@@ -23,4 +23,4 @@ rate-spec =
     (λ c κs. search rules)
     (λ c. search rules)
     returns
-    (λ c. rate-fault _ c.before.before.before.hex-bits.ensures c.before.p.given.1))
+    (λ c. rate_fault _ c.before.before.before.hex-bits.ensures c.before.p.given.1))

@@ -3,7 +3,7 @@ use mathlib.Core.Path.{sym, ◌∙◌}
 use native.Mathlib.Omega.{arith}
 use borrow.Author.Rules.{rules}
 use Rattle.base.proofs.Bytes.{byte_inside}
-use Rattle.term.proofs.Scalars.{value-true, value-false, value-count, kind-number, kind-fault}
+use Rattle.term.proofs.Scalars.{value_true, value_false, value_count, kind_number, kind_fault}
 use Rattle.term.proofs.scan.value.Statement.{statement}
 use Rattle.term.proofs.scan.value.Tie as tie
 
@@ -15,13 +15,13 @@ flag-requires-2 c κs = omega (arith, byte_inside c.before.before.before.before.
 
 returns-3 : tie.Need-returns-3
 returns-3 c =
-    kind-number 2 _ _ c.before.before.before.number.ensures c.before.n.given.1
-    ∙ sym (value-count _ _ _ c.before.before.before.before.before.before.byte_at.ensures c.before.before.before.before.before.if1.false c.before.before.before.before.if2.false)
+    kind_number 2 _ _ c.before.before.before.number.ensures c.before.n.given.1
+    ∙ sym (value_count _ _ _ c.before.before.before.before.before.before.byte_at.ensures c.before.before.before.before.before.if1.false c.before.before.before.before.if2.false)
 
 returns-4 : tie.Need-returns-4
 returns-4 c =
-    kind-fault 2 0 _ c.before.before.before.number.ensures c.before.p.given.1
-    ∙ sym (value-count _ _ _ c.before.before.before.before.before.before.byte_at.ensures c.before.before.before.before.before.if1.false c.before.before.before.before.if2.false)
+    kind_fault 2 0 _ c.before.before.before.number.ensures c.before.p.given.1
+    ∙ sym (value_count _ _ _ c.before.before.before.before.before.before.byte_at.ensures c.before.before.before.before.before.if1.false c.before.before.before.before.if2.false)
 
 pub value_spec : {M : Type 1} → statement M
 value_spec =
@@ -30,10 +30,10 @@ value_spec =
     (λ c κs. search rules)
     (λ c. search rules)
     flag-requires
-    (λ c. c.flag.ensures ∙ sym (value-true _ _ _ c.before.before.before.byte_at.ensures c.before.before.if1.true))
+    (λ c. c.flag.ensures ∙ sym (value_true _ _ _ c.before.before.before.byte_at.ensures c.before.before.if1.true))
     (λ c. search rules)
     flag-requires-2
-    (λ c. c.flag2.ensures ∙ sym (value-false _ _ _ c.before.before.before.before.byte_at.ensures c.before.before.before.if1.false c.before.before.if2.true))
+    (λ c. c.flag2.ensures ∙ sym (value_false _ _ _ c.before.before.before.before.byte_at.ensures c.before.before.before.if1.false c.before.before.if2.true))
     (λ c κs. search rules)
     (λ c. search rules)
     (λ c. search rules)
