@@ -35,6 +35,10 @@ MET = {
 FIELDS = {"tree-of": "crates/emptiness/"}
 
 
+# A crate that a library of the kit is named as.
+CRATES = {"json": "jsonrows"}
+
+
 def snake(name):
     name = re.sub(r"(?<=[a-z0-9?])[A-Z]", lambda m: "_" + m[0].lower(), name)
     return name.replace("-", "_") if re.match(r"[a-z]", name) else name
@@ -122,7 +126,26 @@ def main(argv):
             if not check:
                 with open(p, "w", encoding="utf-8") as f:
                     f.write(new)
+    for old, new in CRATES.items():
+        if not check and os.path.isdir(f"crates/{old}"):
+            rename(old, new)
     print(f"{len(table)} names, {changed} files")
+
+
+def rename(old, new):
+    """Moves a crate, and turns its name in paths of the code, of clauses and of proofs, and in crates.txt."""
+    os.rename(f"crates/{old}", f"crates/{new}")
+    turns = [(rf"\bRattle\.{old}\.", f"Rattle.{new}."), (rf"(?<![\w:]){old}::", f"{new}::"), (rf"\buse {old}\b", f"use {new}")]
+    for p in texts("crates", (".antt", ".rt", ".edit")):
+        t = turned = read(p)
+        for a, b in turns:
+            turned = re.sub(a, b, turned)
+        if turned != t:
+            with open(p, "w", encoding="utf-8") as f:
+                f.write(turned)
+    t = read("crates.txt")
+    with open("crates.txt", "w", encoding="utf-8") as f:
+        f.write(re.sub(rf"(?m)(?<=[ :]){old}(?= |$)|^{old}(?=:)", new, t))
 
 
 if __name__ == "__main__":

@@ -1,4 +1,6 @@
 // The stored forms of an automaton: their check, what they say by index, and their writing (`write`).
+#![tactic(auto)]
+
 ghost use Rattle.std.specs.Prelude.{◌≡◌, map, eqb, length};
 ghost use Rattle.model.specs.Automaton.{state_at, arity_of, final?, forgets_nothing?};
 ghost use Rattle.model.specs.Limits.{max_children};
@@ -27,7 +29,7 @@ use raw::{
 };
 
 // A stored form: one byte for a state's tags, or two; and two with rules that may forget tags.
-#[derive(Drop)]
+#[derive(Clone, Copy)]
 pub enum Form {
     Narrow,
     Wide,
@@ -35,11 +37,11 @@ pub enum Form {
 }
 
 // A state's number.
-#[derive(Drop)]
+#[derive(Clone, Copy)]
 pub struct State(pub u16);
 
 // What the header says.
-#[derive(Drop)]
+#[derive(Clone, Copy)]
 pub struct StoredHeader {
     pub symbols: u16,
     pub states: u16,
@@ -49,7 +51,7 @@ pub struct StoredHeader {
 }
 
 // A rule with its child places and the tags that it forgets, bit k for tag k; an unused place is State(UNUSED).
-#[derive(Drop)]
+#[derive(Clone, Copy)]
 pub struct StoredRule {
     pub symbol: u16,
     pub target: State,
@@ -58,14 +60,14 @@ pub struct StoredRule {
 }
 
 // The check's answer: passed, or refused with a number of the documents.
-#[derive(Drop)]
+#[derive(Clone, Copy)]
 pub enum Checked {
     Passed,
     Refused(u16),
 }
 
 // The answer of what writes a set: how many bytes were written, or a refusal's number.
-#[derive(Drop)]
+#[derive(Clone, Copy)]
 pub enum Written {
     Length(usize),
     Refused(u16),

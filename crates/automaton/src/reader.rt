@@ -5,7 +5,7 @@ ghost use Rattle.automaton.specs.Number.{NumberAt};
 
 use super::slice::word_from;
 
-#[derive(Drop)]
+#[derive(Clone, Copy)]
 pub struct SetReader<'a> {
     set: &'a [u8],
     at: usize,

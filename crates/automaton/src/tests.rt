@@ -110,7 +110,7 @@ pub(crate) fn states(set: &[u8]) -> bool
 }
 
 // What the header says that the test of a rule needs.
-#[derive(Drop)]
+#[derive(Clone, Copy)]
 struct Frame {
     symbols: u16,
     states: u16,

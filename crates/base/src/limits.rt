@@ -24,7 +24,7 @@ pub const UNUSED: u16 = 65535;
 pub const PLACES: usize = MAX_CHILDREN as usize;
 
 // The limits side by side.
-#[derive(Drop)]
+#[derive(Clone, Copy)]
 struct Limits {
     symbols: u16,
     children: u16,

@@ -1,4 +1,6 @@
 // Union and product of two stored automata, written in the wide form, or in the one with rules that forget tags if either has such rules.
+#![tactic(auto)]
+
 ghost use Rattle.std.specs.Prelude.{◌≡◌, eqb, leb};
 ghost use Rattle.model.specs.Automaton.{arity_of};
 ghost use Rattle.model.specs.Boolean.{union, product};
@@ -22,7 +24,7 @@ use automaton::{Checked, Form, Written};
 use base::limits::{MAX_RULES, MAX_STATES, MAX_TAGS};
 
 // How large a result is; the numbers of two sets' states and rules may be multiplied.
-#[derive(Drop)]
+#[derive(Clone, Copy)]
 struct Size {
     states: usize,
     tags: usize,

@@ -12,7 +12,7 @@ ghost use Rattle.boolean.specs.Ready.{Ready, Window, row};
 use super::keys::paired_key;
 
 // The rules of one symbol: from one rule up to another.
-#[derive(Drop)]
+#[derive(Clone, Copy)]
 pub(crate) struct Range {
     from: u16,
     to: u16,

@@ -27,11 +27,11 @@ use Rattle.names.specs.Lines.{lines}
 use Rattle.runs.specs.Steps.{step_cells}
 use Rattle.membership.specs.Cells.{annotation_cells, room_of}
 use Rattle.membership.specs.Judge.{judge_check_of}
-use Rattle.json.specs.Signature.{json_arity, Over}
-use Rattle.json.specs.Read.{rows_read, refused_at, read_of}
-use Rattle.json.specs.Meaning.{TreeOfText}
-use Rattle.json.proofs.Computing.{bytes, answered}
-use Rattle.json.proofs.ReadTexts.{read_means}
+use Rattle.jsonrows.specs.Signature.{json_arity, Over}
+use Rattle.jsonrows.specs.Read.{rows_read, refused_at, read_of}
+use Rattle.jsonrows.specs.Meaning.{TreeOfText}
+use Rattle.jsonrows.proofs.Computing.{bytes, answered}
+use Rattle.jsonrows.proofs.ReadTexts.{read_means}
 use Rattle.cases.proofs.JudgedJson.{answer_of, judged_json}
 
 -- 24 symbols, 24 states, 1 tag, 25 rules; 0 is the tagged state, on the pools, and 23 the final one

@@ -22,11 +22,11 @@ use Rattle.runs.specs.Steps.{step_cells}
 use Rattle.membership.specs.Cells.{room_of}
 use Rattle.membership.specs.Judge.{judge_check_of}
 use Rattle.membership.proofs.Meaning.{judged_means}
-use Rattle.json.specs.Signature.{Over}
-use Rattle.json.specs.Read.{rows_read, read_of}
-use Rattle.json.specs.Meaning.{TreeOfText}
-use Rattle.json.proofs.ReadTexts.{read_means}
-use Rattle.json.proofs.Exactly.{tree_unique}
+use Rattle.jsonrows.specs.Signature.{Over}
+use Rattle.jsonrows.specs.Read.{rows_read, read_of}
+use Rattle.jsonrows.specs.Meaning.{TreeOfText}
+use Rattle.jsonrows.proofs.ReadTexts.{read_means}
+use Rattle.jsonrows.proofs.Exactly.{tree_unique}
 
 -- what the judge answers by its definition, with so many cells in the work and the run space
 abbrev pub answer_of : List ℕ → List ℕ → ℕ → ℕ → Answer Bool

@@ -5,7 +5,7 @@ use Rattle.model.specs.Refusal.{Answer, gives, refuses}
 use Rattle.membership.specs.declared.Judged.{Judged}
 use Rattle.membership.specs.Judge.{Judging}
 use Rattle.term.specs.Read.{Reading, rows_read, refused_at}
-use Rattle.json.specs.Read.{Reading as JsonReading, rows_read as jsonRows, refused_at as jsonRefused}
+use Rattle.jsonrows.specs.Read.{Reading as JsonReading, rows_read as jsonRows, refused_at as jsonRefused}
 
 -- a refusal: the highest bit, the place cut at 2^55 - 1, and the number in the lowest byte
 abbrev pub refusal_code : ℕ → ℕ → ℕ

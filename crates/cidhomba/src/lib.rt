@@ -1,4 +1,6 @@
 // The C interface: slices pass as pointer and count of elements, and every function answers one 64-bit number (include/cidhomba.h).
+#![tactic(auto)]
+
 mod code; // code.rt: answers as numbers
 
 ghost use Rattle.std.specs.Prelude.{◌≡◌, length};
@@ -14,14 +16,14 @@ ghost use Rattle.emptiness.specs.Answer.{emptiness_of};
 ghost use Rattle.emptiness.specs.Answer.{space_after as witnessSpace};
 ghost use Rattle.term.specs.Read.{reading_map, read_of};
 ghost use Rattle.term.specs.Read.{space_after as readSpace};
-ghost use Rattle.json.specs.Read.{reading_map as jsonMap, read_of as jsonOf};
-ghost use Rattle.json.specs.Answer.{space_after as jsonSpace};
+ghost use Rattle.jsonrows.specs.Read.{reading_map as jsonMap, read_of as jsonOf};
+ghost use Rattle.jsonrows.specs.Answer.{space_after as jsonSpace};
 ghost use Rattle.spelling.specs.Write.{write_of};
 ghost use Rattle.spelling.specs.Write.{space_after as writeSpace};
 ghost use Rattle.cidhomba.specs.Code.{check_code, JudgingCode, count_code, witness_code, read_code, json_code};
 
 use code::{check_code, judged_code, refusal_code, witness_code, write_code, written_code};
-use json::JsonRead;
+use jsonrows::JsonRead;
 use term::TermRead;
 
 // 0, or the refusal of the set.
@@ -148,7 +150,7 @@ pub extern "C" fn cidhomba_read_json(keys: &[u8], text: &[u8], rows: &mut [u16])
     ensures answer { result ≡ json_code (jsonMap length (jsonOf keys.now text.now (length rows.old))) }
     ensures space { rows.new ≡ jsonSpace (jsonOf keys.now text.now (length rows.old)) rows.old }
 {
-    match json::read(keys, text, rows) {
+    match jsonrows::read(keys, text, rows) {
         JsonRead::Rows(n) => n as u64,
         JsonRead::Refused(n, p) => refusal_code(n, p),
     }

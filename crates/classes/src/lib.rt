@@ -1,5 +1,7 @@
 // The classes of a byte, in a table of 256 entries: bit k of an entry says whether its byte is in class k.
 // An entry point makes the table once and lends it to its readers, since a constant array is built anew at each use. The tests answer from whatever table is lent; from this one they say what comparing the byte says.
+#![tactic(auto)]
+
 mod entries; // entries.rt: the table
 
 ghost use Rattle.std.specs.Prelude.{◌≡◌, ◌||◌, ◌<◌, get_or};

@@ -1,4 +1,6 @@
 // What the two programs print, byte by byte: proved functions from the bytes of standard input to those of standard output.
+#![tactic(auto)]
+
 mod line; // line.rt: the pieces of a line
 
 ghost use Rattle.std.specs.Prelude.{[], ◌≤◌, length};

@@ -11,7 +11,7 @@ use base::limits::MAX_ROWS;
 use base::numbers::size;
 
 // A row that was there, one that was added, or no room for one.
-#[derive(Drop)]
+#[derive(Clone, Copy)]
 pub enum Placed {
     Known(Row),
     Added(Row),

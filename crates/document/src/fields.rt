@@ -14,7 +14,7 @@ use base::limits::{PLACES, UNUSED};
 const LAST_PLACE: usize = PLACES - 1;
 
 // Places after the first unused one do not count.
-#[derive(Drop)]
+#[derive(Clone, Copy)]
 pub struct RowFields {
     pub symbol: u16,
     pub places: [Row; PLACES],

@@ -17,7 +17,7 @@ use base::numbers::size;
 pub const SLOTS: usize = 2048;
 
 // What a probe finds: an equal row, the empty slot where the row belongs, or neither.
-#[derive(Drop)]
+#[derive(Clone, Copy)]
 pub enum Probed {
     Found(Row),
     Free(usize),

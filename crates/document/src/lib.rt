@@ -1,4 +1,6 @@
 // Documents: row tables, their scalars, and the index that finds an equal row while a table is built.
+#![tactic(auto)]
+
 pub mod rows; // rows.rt: lent rows, cell by cell
 pub mod scalar; // scalar.rt: the five kinds of scalars
 pub mod words; // words.rt: a row's cells as three numbers

@@ -13,11 +13,11 @@ use base::numbers::{size, wide};
 use base::space;
 
 // A row's number.
-#[derive(Drop)]
+#[derive(Clone, Copy)]
 pub struct Row(pub u16);
 
 // The number of a step of a written run.
-#[derive(Drop)]
+#[derive(Clone, Copy)]
 pub struct Step(pub u16);
 
 pub const ROW_CELLS: usize = 10;

@@ -19,7 +19,7 @@ const MINUS_ZERO: u64 = SIGN;
 const NAMES: u64 = 4294967296;
 
 // A rate is any 64 bits. Those of a NaN, which no f64 can be asked for again, are kept as a number. The type has both zeros; readers make their rates by `row_rate`, which gives one.
-#[derive(Drop)]
+#[derive(Clone, Copy)]
 pub enum Scalar {
     Bare,
     Flag(bool),
@@ -104,7 +104,7 @@ pub fn payload(s: Scalar) -> u64
 }
 
 // What a kind and a payload hold: a scalar, or nothing that is one.
-#[derive(Drop)]
+#[derive(Clone, Copy)]
 pub enum Decoded {
     Is(Scalar),
     Not,

@@ -1,4 +1,6 @@
 // Emptiness of an automaton: dead, or live with the witness, which document 01 calls the sample.
+#![tactic(auto)]
+
 mod places; // places.rt: which rules name a state
 mod marking; // marking.rt: which states have a tree, by rounds
 mod tags; // tags.rt: tags that two states share
@@ -23,7 +25,7 @@ use places::STATES;
 use tags::all_apart;
 
 // No tree is accepted; some tree is, with the rows and the levels of the witness; or refused with a number of document 01.
-#[derive(Drop)]
+#[derive(Clone, Copy)]
 pub enum Emptiness {
     Dead,
     Live(u16, u16),

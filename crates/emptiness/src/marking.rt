@@ -13,7 +13,7 @@ use base::limits::{MAX_CHILDREN, MAX_STATES, PLACES, UNUSED};
 use base::numbers::size;
 
 // The state that the witness is the tree of, or UNUSED; the round that marks it; and each state's mark, 0 or 1 more than its rule.
-#[derive(Drop)]
+#[derive(Clone, Copy)]
 pub struct Marking {
     pub state: State,
     pub round: u16,
@@ -21,7 +21,7 @@ pub struct Marking {
 }
 
 // The marks after a round, and the states that it marks.
-#[derive(Drop)]
+#[derive(Clone, Copy)]
 struct After {
     marks: [u16; STATES],
     added: [u16; STATES],

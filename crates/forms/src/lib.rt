@@ -1,4 +1,6 @@
 // A stored set moved from one form to another: the automaton that it stands for is the same.
+#![tactic(auto)]
+
 ghost use Rattle.std.specs.Prelude.{◌≡◌, ◌||◌, ◌++◌, ◌≤◌, length, drop};
 ghost use Rattle.model.specs.Automaton.{forgets_nothing?};
 ghost use Rattle.automaton.specs.declared.Form.TheVariants.{Narrow, Wide, Isolating};

@@ -9,14 +9,14 @@ use crate::pieces::{StringPiece, piece_at};
 use crate::words::few_bytes;
 
 // Bytes joined into a number, the first lowest, and how many they are.
-#[derive(Drop)]
+#[derive(Clone, Copy)]
 pub(crate) struct Packed {
     bytes: u32,
     count: usize,
 }
 
 // A character's bytes, joined, how many they are and the place after it; or the place of the byte that no rule allows.
-#[derive(Drop)]
+#[derive(Clone, Copy)]
 pub(crate) enum CharRead {
     Char(u64, usize, usize),
     Broken(usize),

@@ -9,7 +9,7 @@ use classes::is_digit;
 pub(crate) const FITTING: usize = 19;
 
 // The whole number that digits come to, and the place after them.
-#[derive(Drop)]
+#[derive(Clone, Copy)]
 pub(crate) struct ShortRun {
     pub value: u64,
     pub end: usize,

@@ -1,4 +1,6 @@
 // JSON (RFC 8259) at a place of a text: white space, strings, numbers.
+#![tactic(auto)]
+
 pub mod number; // number.rt: a number, and the scalar that it becomes
 mod digits; // digits.rt: digits that fit into 64 bits
 mod rate; // rate.rt: a decimal number as a rate

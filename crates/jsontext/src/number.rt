@@ -20,7 +20,7 @@ const TENTH: u64 = 1844674407370955160;
 const MAX_DIGITS: usize = 15;
 
 // Digits: the whole number that they come to, or 2^64 - 1 where that does not fit, and how many they are.
-#[derive(Drop)]
+#[derive(Clone, Copy)]
 pub(crate) struct DigitRun {
     value: u64,
     fits: bool,
@@ -28,14 +28,14 @@ pub(crate) struct DigitRun {
 }
 
 // Digits and the place after them, or the place of the byte that no rule allows.
-#[derive(Drop)]
+#[derive(Clone, Copy)]
 pub(crate) enum DigitsRead {
     Digits(DigitRun, usize),
     Fault(usize),
 }
 
 // A count or a rate's bits, of which a row takes minus zero for zero, and the place after the number; the place after one that becomes none; or the place of the byte that no rule allows.
-#[derive(Drop)]
+#[derive(Clone, Copy)]
 pub enum NumberRead {
     Counted(u64, usize),
     Rated(u64, usize),

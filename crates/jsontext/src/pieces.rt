@@ -12,14 +12,14 @@ use classes::{is_control, is_hex_digit};
 const UNIT_DIGITS: usize = 4;
 
 // A number and the place after it, or the place of the byte that no rule allows.
-#[derive(Drop)]
+#[derive(Clone, Copy)]
 pub(crate) enum HexRead {
     Number(u32, usize),
     Fault(usize),
 }
 
 // The closing quote, bytes up to a place, a code point by escape and the place after it, or the place of the byte that no rule allows.
-#[derive(Drop)]
+#[derive(Clone, Copy)]
 pub(crate) enum StringPiece {
     Closed,
     Raw(usize),

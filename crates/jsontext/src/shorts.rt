@@ -16,7 +16,7 @@ const AHEAD: usize = 24;
 const LONGEST: usize = 16;
 
 // The slot of a string and the place of its closing quote. Place 0: it is to be read in another way.
-#[derive(Drop)]
+#[derive(Clone, Copy)]
 pub struct ShortString {
     pub slot: u16,
     pub end: usize,

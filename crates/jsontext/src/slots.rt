@@ -13,7 +13,7 @@ const MODULUS: u64 = 4294967296;
 const SLOT_UNIT: u64 = 2097152;
 
 // How many bytes there are, modulo 2^32, and counted up to eight; the first eight, with zeros behind fewer, and the last eight, with zeros ahead of fewer.
-#[derive(Drop)]
+#[derive(Clone, Copy)]
 pub(crate) struct Kept {
     count: u32,
     few: usize,

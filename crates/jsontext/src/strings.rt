@@ -13,7 +13,7 @@ use crate::slots::{keep_few, keep_none, keep_part, kept_slot};
 use base::text::byte_at;
 
 // The slot of a string and the place after it, or the place of the byte that no rule allows.
-#[derive(Drop)]
+#[derive(Clone, Copy)]
 pub enum StringRead {
     Whole(u16, usize),
     Fault(usize),

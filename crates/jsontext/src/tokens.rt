@@ -14,7 +14,7 @@ const LONGEST: usize = 16;
 const QUOTES: usize = 2;
 
 // What a string is compared by. Fewer than eight bytes stand in the highest places of the first number; of others the first holds the first eight and the last the last eight, which may overlap. Length 0: there is none.
-#[derive(Drop)]
+#[derive(Clone, Copy)]
 pub struct Token {
     pub first: u64,
     pub last: u64,

@@ -7,7 +7,7 @@ ghost use Rattle.jsontext.specs.StringAnswers.{stretch_of};
 use base::text::byte_at;
 
 // The place up to which bytes belong together, or the place of the first that does not.
-#[derive(Drop)]
+#[derive(Clone, Copy)]
 pub(crate) enum StretchRead {
     UpTo(usize),
     BrokenAt(usize),

@@ -1,4 +1,6 @@
 // The judging program: reads a stored set and a text directly behind it, and prints whether the set lets the document in. Where the input cannot be read to its end it prints nothing.
+#![tactic(auto)]
+
 use console::{INPUT, OUTPUT};
 use libc::{STDERR_FILENO, STDIN_FILENO, STDOUT_FILENO};
 use stream::Received;

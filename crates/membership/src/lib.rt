@@ -1,4 +1,6 @@
 // The judge: annotations in a lent work space, a run of those reached from an accepting one, and the decision.
+#![tactic(auto)]
+
 mod memory; // memory.rt: memories, place by place
 mod entries; // entries.rt: annotations with their sources in the work space
 mod index; // index.rt: finding an equal annotation
@@ -20,7 +22,7 @@ use crate::write::write_run;
 use automaton::Checked;
 
 // The judge's answer: yes with the number of steps of the run handed back, no, or refused with a number of document 01.
-#[derive(Drop)]
+#[derive(Clone, Copy)]
 pub enum Judged {
     Yes(u16),
     No,

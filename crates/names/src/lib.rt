@@ -1,4 +1,6 @@
 // The two lent name lists: their check, the lookup of a symbol's name, and a table for finding a symbol by its name.
+#![tactic(auto)]
+
 pub mod bytes; // bytes.rt: comparing two parts
 pub mod lines; // lines.rt: the lines of a list, and the lookup
 pub mod table; // table.rt: the names shown, in cells of one width
@@ -15,7 +17,7 @@ use lines::list_fits;
 use table::{Found, TABLE, fill, find, shown};
 
 // What the check says of two lists.
-#[derive(Drop)]
+#[derive(Clone, Copy)]
 pub enum NamesChecked {
     Distinct,
     Refused(u16),

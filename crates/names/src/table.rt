@@ -18,7 +18,7 @@ pub const CELL: usize = 17;
 pub const TABLE: usize = 1088;
 
 // The symbol that some bytes name.
-#[derive(Drop)]
+#[derive(Clone, Copy)]
 pub enum Found {
     Symbol(u16),
     Unknown,

@@ -1,4 +1,6 @@
 // The written run: its steps, lent as cells, and its check.
+#![tactic(auto)]
+
 ghost use Rattle.std.specs.Prelude.{◌≡◌};
 ghost use Rattle.model.specs.Refusal.{unless};
 ghost use Rattle.automaton.specs.Stored.{decode};

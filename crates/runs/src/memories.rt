@@ -22,11 +22,11 @@ use document::rows::{Row, Step};
 const STEPS: usize = MAX_STEPS as usize;
 
 // A tag's place in a memory: 0 where the tag has no row, else the row's number and 1.
-#[derive(Drop)]
+#[derive(Clone, Copy)]
 struct Place(u16);
 
 // Places joined, and whether no two of them name two rows.
-#[derive(Drop)]
+#[derive(Clone, Copy)]
 struct Joined {
     clear: bool,
     place: Place,

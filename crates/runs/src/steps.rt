@@ -13,7 +13,7 @@ use base::space::put_cells;
 use document::rows::{Row, Step};
 
 // A step by value; an unused place holds UNUSED.
-#[derive(Drop)]
+#[derive(Clone, Copy)]
 pub struct StepFields {
     pub rule: u16,
     pub row: Row,

@@ -1,4 +1,6 @@
 // The sample program: reads a stored set, and prints the height and the text of the lowest document that it lets in, or that it is dead. Where the input cannot be read to its end it prints nothing.
+#![tactic(auto)]
+
 use console::{INPUT, OUTPUT};
 use libc::{STDERR_FILENO, STDIN_FILENO, STDOUT_FILENO};
 use stream::Received;

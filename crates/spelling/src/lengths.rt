@@ -14,7 +14,7 @@ use names::table::shown_length;
 const ROWS: usize = MAX_ROWS as usize;
 
 // A length, where it is at most that of the space.
-#[derive(Drop)]
+#[derive(Clone, Copy)]
 pub(crate) enum Length {
     Fits(usize),
     Over,

@@ -1,4 +1,6 @@
 // Term text: the writer of a row table as a text.
+#![tactic(auto)]
+
 mod lengths; // lengths.rt: how long the text is, row by row
 pub mod number; // number.rt: a number in decimal
 mod piece; // piece.rt: the text of a scalar
@@ -19,7 +21,7 @@ use names::table::{TABLE, fill};
 use writer::term;
 
 // What writing a table says: the number of bytes written, or a refusal's number.
-#[derive(Drop)]
+#[derive(Clone, Copy)]
 pub enum TermWritten {
     Bytes(usize),
     Refused(u16),

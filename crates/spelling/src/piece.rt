@@ -19,7 +19,7 @@ pub(crate) const PIECE: usize = 21;
 const HEX_DIGITS: usize = 16;
 
 // The text stands from `start` to the end of the bytes.
-#[derive(Drop)]
+#[derive(Clone, Copy)]
 pub(crate) struct Piece {
     pub(crate) bytes: [u8; PIECE],
     pub(crate) start: usize,

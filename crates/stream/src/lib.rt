@@ -1,4 +1,6 @@
 // A program's input, read to its end. A read that fails is told, and is never taken for the end.
+#![tactic(auto)]
+
 ghost use Rattle.std.specs.Prelude.{◌≡◌, ◌-◌, ◌≤◌, ◌<◌, length};
 ghost use Rattle.libc.specs.Io.{Moved};
 ghost use Rattle.stream.specs.Reading.{after_read, Ahead, Within};

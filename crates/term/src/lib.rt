@@ -1,4 +1,6 @@
 // Term text: the reader of a text into a row table.
+#![tactic(auto)]
+
 ghost use Rattle.std.specs.Prelude.{◌≡◌, ◌/◌, min, length};
 ghost use Rattle.model.specs.Limits.{max_rows};
 ghost use Rattle.automaton.specs.Stored.{decode};
@@ -25,7 +27,7 @@ mod scan; // scan.rt: names and scalars at a place
 const CELLS: usize = MAX_ROWS as usize * ROW_CELLS;
 
 // What reading a text says: the number of rows written, or a refusal's number and place.
-#[derive(Drop)]
+#[derive(Clone, Copy)]
 pub enum TermRead {
     Rows(u16),
     Refused(u16, usize),

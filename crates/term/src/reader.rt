@@ -28,14 +28,14 @@ use names::lines::MAX_NAME;
 use names::table::{Found, find};
 
 // A symbol and the place after its name, or a refusal's number and place.
-#[derive(Drop)]
+#[derive(Clone, Copy)]
 pub(crate) enum SymbolRead {
     Symbol(u16, usize),
     Unnamed(u16, usize),
 }
 
 // A term's row, the place after it and the rows so far, or a refusal's number and place.
-#[derive(Drop)]
+#[derive(Clone, Copy)]
 pub(crate) enum TermPart {
     Read(Row, usize, u16),
     Refused(u16, usize),

@@ -18,14 +18,14 @@ const MAX_COUNT: u64 = 18446744073709551615;
 const MAX_NAME_NUMBER: u64 = 4294967295;
 
 // A number and the place after it, or the place of the byte that no rule allows.
-#[derive(Drop)]
+#[derive(Clone, Copy)]
 pub(crate) enum NumberRead {
     Number(u64, usize),
     Fault(usize),
 }
 
 // The same for a scalar.
-#[derive(Drop)]
+#[derive(Clone, Copy)]
 pub(crate) enum ScalarRead {
     Is(Scalar, usize),
     Fault(usize),

@@ -2,8 +2,8 @@
 use mathlib.Core.Path.{sym, ap, ◌∙◌}
 use native.Mathlib.Omega.{arith}
 use borrow.Author.Rules.{rules}
-use Rattle.json.specs.Answer.{read_answer}
-use Rattle.json.proofs.Refusals.{refused_most}
+use Rattle.jsonrows.specs.Answer.{read_answer}
+use Rattle.jsonrows.proofs.Refusals.{refused_most}
 use Rattle.cidhomba.specs.Code.{json_code}
 use Rattle.cidhomba.proofs.cidhomba_read_json.Statement.{statement}
 use Rattle.cidhomba.proofs.cidhomba_read_json.Tie as tie
