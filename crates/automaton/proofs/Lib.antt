@@ -16,4 +16,3 @@ pub mod RoundTrip
 pub mod Bytes
 pub mod Answering
 pub mod Known
-pub mod Held

@@ -1,0 +1,21 @@
+-- `automaton::copy::put_rules` meets its contract: the loop has put the rules before its index. Assumes nothing.
+use mathlib.Core.Path.{◌≡◌, ap, ◌∙◌}
+use Prim.Native.Nat.{ℕ, ◌-◌, ◌*◌}
+use native.Mathlib.Omega.{arith}
+use borrow.Author.Tests.{not-true, not-false}
+use lib.ListN.{length}
+use Rattle.automaton.specs.Stored.{decode}
+use Rattle.automaton.proofs.Laying.{Parts, parts_none, parts_put, parts_all, parts_fit, parts_stay, laid_length, put_laid}
+use Rattle.model.specs.Written.{no_rule}
+use Rattle.automaton.specs.Form.{rule_width}
+use Rattle.automaton.specs.Encode.{encode_rule}
+use Rattle.automaton.proofs.Encoded.{rule_width_lem}
+use Rattle.automaton.proofs.Known.{rule_bytes}
+use borrow.Author.Rules.{rules}
+use Rattle.automaton.proofs.copy.put_rules.Given as goal
+
+abbrev pub invariant-loop-i : goal.invariant-loop-i
+invariant-loop-i l = (l.n ≡ length (decode l.set).rules) × Parts (encode_rule l.form) (decode l.set).rules l.initial.out l.out l.at l.end l.i
+
+abbrev pub decreases-loop-i : goal.decreases-loop-i
+decreases-loop-i l = l.n - l.i

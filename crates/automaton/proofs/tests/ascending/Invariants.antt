@@ -1,0 +1,12 @@
+-- `automaton::tests::ascending` meets its contract: the loop has passed every rule before its index. Assumes nothing.
+use Prim.Native.Nat.{◌-◌}
+use Rattle.model.proofs.Below.{Passed, loops}
+use Rattle.automaton.specs.Stored.{rule_count}
+use Rattle.automaton.specs.Check.{ascends_at}
+use Rattle.automaton.proofs.tests.ascending.Given as goal
+
+abbrev pub invariant-loop-i : goal.invariant-loop-i
+invariant-loop-i l = Passed (ascends_at l.set) (rule_count l.set - 1) l.n l.i
+
+abbrev pub decreases-loop-i : goal.decreases-loop-i
+decreases-loop-i l = l.n - l.i
