@@ -30,9 +30,9 @@ equals_itself (inf s) e = tt
 equals_itself (fin s m e') e = tt
 
 -- the bits that the definition gives a NaN
-pub nan_bits : (x : Float) → ne x x ≡ true → 9221120237041090560 ≡ to_bits binary64 x
+pub nan_bits_lem : (x : Float) → ne x x ≡ true → 9221120237041090560 ≡ to_bits binary64 x
 unfolding to_bits
-nan_bits x e = sym (ap (to_bits binary64) (differs_from_itself x (subst T (sym e) tt)))
+nan_bits_lem x e = sym (ap (to_bits binary64) (differs_from_itself x (subst T (sym e) tt)))
 
 pub payload_rate : (b : ℕ) → b < 2 ^ 64 → payload_of (rate_of b) ≡ b
 unfolding rate_of
