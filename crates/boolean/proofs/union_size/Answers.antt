@@ -1,0 +1,16 @@
+-- `boolean::union_size` meets its contract. Assumes nothing.
+use native.Mathlib.Omega.{arith}
+use borrow.Author.Rules.{rules}
+use Rattle.model.proofs.SoundUnion.{union_states, union_rules_lem}
+use Rattle.automaton.specs.Stored.{decode}
+use Rattle.boolean.proofs.union_size.Goals as goal
+
+pub returns : goal.returns
+returns c =
+    let A = decode c.args.first.now in
+    let B = decode c.args.second.now in
+    record {
+      states = omega (arith, c.header-a.ensures.states, c.header-b.ensures.states, union_states A B);
+      tags = omega (arith, c.header-a.ensures.tags, c.header-b.ensures.tags);
+      rules = omega (arith, c.header-a.ensures.rules, c.header-b.ensures.rules, union_rules_lem A B);
+    }

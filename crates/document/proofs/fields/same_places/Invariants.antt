@@ -1,0 +1,17 @@
+-- `document::fields::same_places` meets its contract: the places passed are used and the same on both sides. Assumes nothing.
+use Prim.Native.Nat.{◌-◌}
+use borrow.Author.Rules.{rules}
+use mathlib.Core.Path.{◌≡◌, sym}
+use lib.ListN.{length}
+use Rattle.document.specs.Rows.{places_in}
+use Rattle.document.specs.Fields.{numbers_of}
+use Rattle.document.specs.Check.{place_in}
+use Rattle.document.proofs.Numbers.{number_at, numbers_length}
+use Rattle.document.proofs.Children.{Alike, alike_none, alike_not, alike_end, alike_more, alike_all}
+use Rattle.document.proofs.fields.same_places.Given as goal
+
+abbrev pub invariant-loop-k : goal.invariant-loop-k
+invariant-loop-k l = (length (numbers_of l.places) ≡ 4) × Alike (numbers_of l.places) (places_in l.rows l.i.0) l.k
+
+abbrev pub decreases-loop-k : goal.decreases-loop-k
+decreases-loop-k l = 4 - l.k

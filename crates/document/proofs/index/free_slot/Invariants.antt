@@ -1,0 +1,13 @@
+-- `document::index::free_slot` meets its contract: the slots tried held rows, and none passes. Assumes nothing.
+use mathlib.Core.Path.{refl}
+use mathlib.Core.Bool.{false}
+use Prim.Native.Nat.{◌-◌}
+use borrow.Author.Rules.{rules}
+use Rattle.document.proofs.Searching.{Searched, searched_none, searched_free, searched_more, searched_all}
+use Rattle.document.proofs.index.free_slot.Given as goal
+
+abbrev pub invariant-loop-d : goal.invariant-loop-d
+invariant-loop-d l = Searched l.slots (λ _. false) l.start l.d
+
+abbrev pub decreases-loop-d : goal.decreases-loop-d
+decreases-loop-d l = 2048 - l.d

@@ -1,0 +1,10 @@
+-- `document::rows::place` meets its contract. Assumes nothing.
+use borrow.Author.Rules.{rules}
+use Rattle.document.proofs.Places.{place_cell, place_past}
+use Rattle.document.proofs.rows.place.Goals as goal
+
+pub returns-then-k-lt-MAX_CHILDREN : goal.returns-then-k-lt-MAX_CHILDREN
+returns-then-k-lt-MAX_CHILDREN c = search (place_cell, rules)
+
+pub returns : goal.returns
+returns c = search (place_past, rules)

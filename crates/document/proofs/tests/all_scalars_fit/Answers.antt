@@ -1,0 +1,26 @@
+use Prim.Native.Nat.{◌-◌}
+use Rattle.model.proofs.Below.{Passed, loops}
+use Rattle.automaton.specs.Stored.{decode}
+use Rattle.document.specs.Check.{row_count, scalar_fits?}
+use Rattle.document.proofs.tests.all_scalars_fit.Goals as goal
+
+pub loop-i-init : goal.loop-i-init
+loop-i-init c = search loops
+
+pub scalar_fits-requires : goal.scalar_fits-requires
+scalar_fits-requires c = search loops
+
+pub overflow_add-i : goal.overflow_add-i
+overflow_add-i c = search loops
+
+pub loop-i-smaller : goal.loop-i-smaller
+loop-i-smaller c = search loops
+
+pub loop-i-preserved : goal.loop-i-preserved
+loop-i-preserved c = search loops
+
+pub returns-else-scalar_fits : goal.returns-else-scalar_fits
+returns-else-scalar_fits c = search loops
+
+pub returns : goal.returns
+returns c = search loops

@@ -1,0 +1,12 @@
+-- `document::tests::all_scalars_fit` meets its contract. Assumes nothing.
+use Prim.Native.Nat.{◌-◌}
+use Rattle.model.proofs.Below.{Passed, loops}
+use Rattle.automaton.specs.Stored.{decode}
+use Rattle.document.specs.Check.{row_count, scalar_fits?}
+use Rattle.document.proofs.tests.all_scalars_fit.Given as goal
+
+abbrev pub invariant-loop-i : goal.invariant-loop-i
+invariant-loop-i l = Passed (scalar_fits? (decode l.set) l.rows) (row_count l.rows) l.n l.i
+
+abbrev pub decreases-loop-i : goal.decreases-loop-i
+decreases-loop-i l = l.n - l.i

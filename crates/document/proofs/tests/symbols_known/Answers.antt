@@ -1,0 +1,26 @@
+use Prim.Native.Nat.{◌-◌}
+use Rattle.model.proofs.Below.{Passed, loops}
+use Rattle.automaton.specs.Stored.{decode}
+use Rattle.document.specs.Check.{row_count, known?}
+use Rattle.document.proofs.tests.symbols_known.Goals as goal
+
+pub loop-i-init : goal.loop-i-init
+loop-i-init c = search loops
+
+pub symbol_known-requires : goal.symbol_known-requires
+symbol_known-requires c = search loops
+
+pub overflow_add-i : goal.overflow_add-i
+overflow_add-i c = search loops
+
+pub loop-i-smaller : goal.loop-i-smaller
+loop-i-smaller c = search loops
+
+pub loop-i-preserved : goal.loop-i-preserved
+loop-i-preserved c = search loops
+
+pub returns-else-symbol_known : goal.returns-else-symbol_known
+returns-else-symbol_known c = search loops
+
+pub returns : goal.returns
+returns c = search loops

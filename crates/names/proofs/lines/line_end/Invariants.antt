@@ -1,0 +1,12 @@
+-- At the loop's head the line that starts at a has come to i. Assumes nothing.
+use borrow.Author.Rules.{rules}
+use Prim.Native.Nat.{◌-◌, ◌≤◌}
+use lib.ListN.{length}
+use Rattle.names.proofs.Scan.{Scanned, scan_stop, scan_more, scan_end, scanning}
+use Rattle.names.proofs.lines.line_end.Given as goal
+
+abbrev pub invariant-loop-i : goal.invariant-loop-i
+invariant-loop-i l = l.a ≤ length l.s → Scanned l.s l.a l.i
+
+abbrev pub decreases-loop-i : goal.decreases-loop-i
+decreases-loop-i l = length l.s - l.i

@@ -1,0 +1,16 @@
+-- At the loop's head no symbol below i has the name. Assumes nothing.
+use Prim.Native.Nat.{◌-◌}
+use mathlib.Core.Path.{◌≡◌}
+use mathlib.Core.Bool.{true, false}
+use borrow.Author.Rules.{rules}
+use Rattle.model.specs.Lists.{eq_list}
+use Rattle.names.specs.Names.{find_in}
+use Rattle.names.specs.Table.{name_in}
+use Rattle.names.proofs.First.{Unfound, found_at, unfound_more, finding}
+use Rattle.names.proofs.table.find.Given as goal
+
+abbrev pub invariant-loop-i : goal.invariant-loop-i
+invariant-loop-i l = Unfound (λ k. eq_list (name_in l.t k) l.bytes) l.symbols l.i
+
+abbrev pub decreases-loop-i : goal.decreases-loop-i
+decreases-loop-i l = l.symbols - l.i

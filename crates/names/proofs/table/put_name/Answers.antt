@@ -1,0 +1,6 @@
+-- The name in the cell, put. Assumes nothing.
+use borrow.Author.Rules.{rules}
+use Rattle.names.proofs.table.put_name.Goals as goal
+
+pub returns : goal.returns
+returns c = cc
