@@ -185,7 +185,7 @@ module _ (t : List ℕ) where
   before_exp no_exp stop = (stop.other_digit, stop.other_point)
   before_exp {i = i} (with_exp (exp b s h)) stop = let k = e_above (byte_at t i) b in (e_no_digit (byte_at t i) b, ne_eqb (byte_at t i) 46 (λ z. omega arith))
 
-  before_frac : {i j n places : ℕ} {d e : Digits} {f x : Bool} → FracOption t d i e places f j → ExpOption t j x n → Ends n → digit? (byte_at t i) ≡ false
+  before_frac : {i j n : ℕ} {d e : Digits} {places : ℕ} {f x : Bool} → FracOption t d i e places f j → ExpOption t j x n → Ends n → digit? (byte_at t i) ≡ false
   before_frac no_frac y stop = (before_exp y stop).0
   before_frac {i = i} (frac h) y stop = point_no_digit (byte_at t i) h.decimal_point
 
@@ -199,7 +199,7 @@ module _ (t : List ℕ) where
   exp_all {i = i} (with_exp (exp {j = j} b g h)) stop s e places f =
       rw (exponent_at, b) (ap (λ (k : ℕ). with_exponent (plain_number s e places f) (some_digits t no_digits k)) (sign_all g h.first) ∙ ap (with_exponent (plain_number s e places f)) (some_all h stop.other_digit))
 
-  frac_all : {i j n places : ℕ} {d e : Digits} {f x : Bool} → FracOption t d i e places f j → ExpOption t j x n → Ends n → (s : Bool) → fraction_at t s d i ≡ got (found s e places f x) n
+  frac_all : {i j n : ℕ} {d e : Digits} {places : ℕ} {f x : Bool} → FracOption t d i e places f j → ExpOption t j x n → Ends n → (s : Bool) → fraction_at t s d i ≡ got (found s e places f x) n
   unfolding fraction_at
   frac_all {d = d} no_frac y stop s = rw (fraction_at, (before_exp y stop).1) (exp_all y stop s d 0 false)
   frac_all {d = d} {e = e} (frac h) y stop s =
@@ -244,7 +244,7 @@ module _ (t : List ℕ) where
   minus_ahead no_minus = omega arith
   minus_ahead (minus e q) = omega arith
 
-  frac_ahead : {i n places : ℕ} {d e : Digits} {f : Bool} → FracOption t d i e places f n → i ≤ length t → (i ≤ n) × (n ≤ length t)
+  frac_ahead : {i n : ℕ} {d e : Digits} {places : ℕ} {f : Bool} → FracOption t d i e places f n → i ≤ length t → (i ≤ n) × (n ≤ length t)
   frac_ahead no_frac inside = (omega arith, inside)
   frac_ahead (frac h) inside = let r = some_ahead h.digits in (omega arith, r.1)
 

@@ -41,7 +41,7 @@ neither true b e = never e
 neither false b e = (refl, e)
 
 -- none of a list
-pub none_of : {A : Type 0} (p : A → Bool) {xs : List A} {x : A} → any p xs ≡ false → In x xs → p x ≡ false
+pub none_of : {A : Type 0} (p : A → Bool) {x : A} {xs : List A} → any p xs ≡ false → In x xs → p x ≡ false
 none_of p {x = x} none (here {x = y} {xs = xs} e) = ap p e ∙ (neither (p y) (any p xs) none).0
 none_of p none (there {x = y} {xs = xs} h) = none_of p (neither (p y) (any p xs) none).1 h
 

@@ -1,0 +1,22 @@
+-- A short whole part with a fraction behind it or nothing, or any number. Assumes nothing.
+use mathlib.Core.Path.{sym}
+use native.Mathlib.Omega.{arith}
+use borrow.Author.Rules.{rules}
+use Rattle.jsontext.specs.NumberAnswer.{ShortWhole}
+use Rattle.jsontext.proofs.ShortRuns.{whole_count}
+use Rattle.jsontext.proofs.number.number.Goals as goal
+
+placed : (c : tie.Else1) → ShortWhole c.before.before.before.args.text.now c.before.before.before.args.at c.before.short-whole.result
+placed c = c.before.short-whole.ensures.0 c.if1.false
+
+pub bounds-text-next : goal.bounds-text-next
+bounds-text-next c = let p = placed c in omega (arith, p.early, p.inside)
+
+pub short_fraction-requires : goal.short_fraction-requires
+short_fraction-requires c = placed c
+
+pub returns-then-b-eq46 : goal.returns-then-b-eq46
+returns-then-b-eq46 c l = c.short_fraction.ensures l (c.short_whole-run.ensures.begins l c.if-next-eq0.false) c.if-b-eq46.true
+
+pub returns : goal.returns
+returns c l = sym (whole_count _ _ _ (placed c) (c.short_whole-run.ensures.begins l c.if-next-eq0.false) c.if-b-eq46.false c.if-b.false)

@@ -1,0 +1,27 @@
+-- Digits that end early, none of them a 0 before others, are the whole part. Assumes nothing.
+use native.Mathlib.Omega.{arith}
+use borrow.Author.Rules.{rules}
+use Rattle.jsontext.specs.NumberAnswer.{ShortWhole}
+use Rattle.jsontext.proofs.ShortRuns.{not_short, whole_placed, whole_begins}
+use Rattle.jsontext.proofs.number.short_whole.Goals as goal
+
+placed : (c : tie.Else3) → ShortWhole c.before.before.before.before.before.args.text.now c.before.before.before.before.before.args.at c.before.few_digits.result
+placed c = whole_placed _ _ _ c.before.few_digits.ensures.0 (omega arith) c.if3.false
+
+pub returns-then-text-lt-FITTING : goal.returns-then-text-lt-FITTING
+returns-then-text-lt-FITTING c = record { placed = not_short; begins = λ _. not_short }
+
+pub returns-then-at-text : goal.returns-then-at-text
+returns-then-at-text c = record { placed = not_short; begins = λ _. not_short }
+
+pub few_digits-run-requires : goal.few_digits-run-requires
+few_digits-run-requires c = ((omega arith, omega arith), (0, omega arith, omega arith))
+
+pub returns-then-next-at : goal.returns-then-next-at
+returns-then-next-at c = record { placed = not_short; begins = λ _. not_short }
+
+pub returns-then-text-at : goal.returns-then-text-at
+returns-then-text-at c = record { placed = not_short; begins = λ _. not_short }
+
+pub returns : goal.returns
+returns c = let p = placed c in record { placed = λ _. p; begins = λ l _. whole_begins _ _ _ p (c.few_digits-run.ensures.few_read l) c.if-text-at.false }

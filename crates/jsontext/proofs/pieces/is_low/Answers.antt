@@ -1,0 +1,8 @@
+-- The definition. Assumes nothing.
+use borrow.Author.Rules.{rules}
+use Rattle.jsontext.specs.Strings.{low?}
+use Rattle.jsontext.proofs.pieces.is_low.Goals as goal
+
+pub returns : goal.returns
+unfolding low?
+returns c = cc

@@ -1,0 +1,17 @@
+-- A quote at the end closes the string. Assumes nothing.
+use mathlib.Core.Path.{sym, ◌∙◌}
+use mathlib.Core.List.{[]}
+use borrow.Author.Rules.{rules}
+use Rattle.jsontext.proofs.shorts.short_to.Goals as goal
+
+pub returns-then-byte_at-ne34 : goal.returns-then-byte_at-ne34
+returns-then-byte_at-ne34 c h = absurd (h c.no_short.ensures)
+
+pub returns : goal.returns
+returns c _ =
+    record {
+      opens = c.requires.0;
+      plain = c.requires.1;
+      closes = sym c.byte_at.ensures ∙ c.if-byte_at-ne34.false;
+      slot_is = c.kept_slot.ensures _ (c.keep_part.ensures.by_index [] c.keep_none.ensures);
+    }

@@ -1,0 +1,15 @@
+-- At the loop's head all bytes so far are spaces. Assumes nothing.
+use Prim.Native.Nat.{◌-◌}
+use mathlib.Core.Path.{◌≡◌, sym, ◌∙◌}
+use borrow.Author.Rules.{rules}
+use borrow.Author.Tests.{not-true, not-false}
+use lib.ListN.{length}
+use Rattle.classes.specs.Classes.{class_table}
+use Rattle.jsontext.proofs.Blanks.{Blank, blank_none, blank_more, blank_stop, blank_all, blank_above}
+use Rattle.jsontext.proofs.spaces.space_end.Given as goal
+
+abbrev pub invariant-loop-i : goal.invariant-loop-i
+invariant-loop-i l = l.classes ≡ class_table → Blank l.text l.at l.i
+
+abbrev pub decreases-loop-i : goal.decreases-loop-i
+decreases-loop-i l = length l.text - l.i

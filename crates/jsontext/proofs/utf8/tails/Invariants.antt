@@ -1,0 +1,16 @@
+-- What is left comes to the whole. Assumes nothing.
+use mathlib.Core.Path.{◌≡◌, refl, ◌∙◌}
+use Prim.Native.Nat.{◌-◌}
+use borrow.Author.Rules.{rules}
+use native.Mathlib.Omega.{arith}
+use borrow.Author.Tests.{not-true, not-false}
+use lib.ListN.{replicate}
+use Rattle.jsontext.specs.Utf8.{tail, pass_at}
+use Rattle.jsontext.proofs.LeadRows.{tail_inside, tails_none, tails_stop, tails_more}
+use Rattle.jsontext.proofs.utf8.tails.Given as goal
+
+abbrev pub invariant-loop-left : goal.invariant-loop-left
+invariant-loop-left l = pass_at (replicate l.left tail) l.text l.i ≡ pass_at (replicate l.count tail) l.text l.at
+
+abbrev pub decreases-loop-left : goal.decreases-loop-left
+decreases-loop-left l = l.left

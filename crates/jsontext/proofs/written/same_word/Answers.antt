@@ -1,0 +1,20 @@
+-- What is shifted out is not compared. Assumes nothing.
+use mathlib.Core.Path.{sym}
+use borrow.Author.Rules.{rules}
+use borrow.Author.Tests.{eqb-true}
+use native.Mathlib.Omega.{arith}
+use Rattle.jsontext.proofs.Places.{never}
+use Rattle.jsontext.proofs.Writing.{alike_word}
+use Rattle.jsontext.proofs.written.same_word.Goals as goal
+
+pub returns-then-word-others : goal.returns-then-word-others
+returns-then-word-others c e = never (sym e)
+
+pub returns : goal.returns
+returns c e =
+    let (some, (first, second)) = c.requires in
+    alike_word _ _ _ _ _ some.1 first second
+    (λ i l. omega (arith, c.shared_slice_known-1.given i))
+    (λ i l. omega (arith, c.shared_slice_known-2-1.given i))
+    _ _ c.word.ensures c.word-2.ensures c.if-word-others.false
+    _ c.word_marks.ensures (eqb-true _ _ e)

@@ -1,0 +1,6 @@
+-- `runs::memories::with` meets its contract. Assumes nothing.
+use borrow.Author.Rules.{rules}
+use Rattle.runs.proofs.memories.with.Goals as goal
+
+pub returns : goal.returns
+returns c = record { clear = cc; place = cc }

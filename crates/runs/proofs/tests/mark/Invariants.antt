@@ -1,0 +1,13 @@
+-- `runs::tests::mark` meets its contract: the invariant says what the places from k on still add. Assumes nothing.
+use Prim.Native.Nat.{◌-◌}
+use Rattle.model.specs.Limits.{max_children}
+use Rattle.document.proofs.Marking.{Marking, marking_more, markings}
+use Rattle.runs.specs.Fields.{step_numbers}
+use Rattle.runs.proofs.Marks.{number_at, step_marks}
+use Rattle.runs.proofs.tests.mark.Given as goal
+
+abbrev pub invariant-loop-k : goal.invariant-loop-k
+invariant-loop-k l = Marking (step_numbers l.places) l.j.0 l.initial.marks l.marks l.k
+
+abbrev pub decreases-loop-k : goal.decreases-loop-k
+decreases-loop-k l = max_children - l.k

@@ -1,0 +1,29 @@
+use Prim.Native.Nat.{◌-◌}
+use Rattle.model.specs.Limits.{max_children}
+use Rattle.model.specs.WrittenTest.{place_fits?}
+use Rattle.model.proofs.Below.{Passed, loops}
+use Rattle.automaton.specs.Stored.{decode}
+use Rattle.document.specs.Rows.{decode_rows}
+use Rattle.runs.specs.Steps.{place_in, decode_steps}
+use Rattle.runs.proofs.tests.places_fit.Goals as goal
+
+pub loop-k-init : goal.loop-k-init
+loop-k-init c = search loops
+
+pub place_fits-requires : goal.place_fits-requires
+place_fits-requires c = search loops
+
+pub overflow_add-k : goal.overflow_add-k
+overflow_add-k c = search loops
+
+pub loop-k-smaller : goal.loop-k-smaller
+loop-k-smaller c = search loops
+
+pub loop-k-preserved : goal.loop-k-preserved
+loop-k-preserved c = search loops
+
+pub returns-else-place_fits : goal.returns-else-place_fits
+returns-else-place_fits c = search loops
+
+pub returns : goal.returns
+returns c = search loops
