@@ -7,19 +7,14 @@ use Rattle.jsontext.specs.StringAnswers.{piece_of, Ahead, PieceInside}
 use Rattle.jsontext.proofs.CharReads.{raw_character, code_character, quoted, joined_few}
 use Rattle.jsontext.proofs.chars.char_at.Goals as goal
 
--- a raw piece is short and stands inside
-module _ (c : tie.After-known-told2) where
-  short : Ahead c.before.before.before.before.before.args.text.now (c.before.before.before.before.before.args.at + 1) c.before.n.given.0.0 × (c.before.n.given.0.0 ≤ c.before.before.before.before.before.args.at + 4)
-  short = subst (PieceInside _ _) c.before.n.given.1 c.before.before.before.piece-at.ensures.1
-
 pub overflow_sub-n : goal.overflow_sub-n
-overflow_sub-n c = omega (arith, (short c).0.forward)
+overflow_sub-n c = omega (arith, (let h-short : Ahead c.args.text.now (c.args.at + 1) c.in-Raw.n × (c.in-Raw.n ≤ c.args.at + 4) = subst (PieceInside _ _) c.in-Raw.is c.piece_at.ensures.inside in h-short).0.forward)
 
 pub few_bytes-requires : goal.few_bytes-requires
-few_bytes-requires c = (omega (arith, (short c).0.forward), omega (arith, (short c).1), omega (arith, (short c).0.forward, (short c).0.inside))
+few_bytes-requires c = (omega (arith, (let h-short : Ahead c.args.text.now (c.args.at + 1) c.in-Raw.n × (c.in-Raw.n ≤ c.args.at + 4) = subst (PieceInside _ _) c.in-Raw.is c.piece_at.ensures.inside in h-short).0.forward), omega (arith, (let h-short : Ahead c.args.text.now (c.args.at + 1) c.in-Raw.n × (c.in-Raw.n ≤ c.args.at + 4) = subst (PieceInside _ _) c.in-Raw.is c.piece_at.ensures.inside in h-short).1), omega (arith, (let h-short : Ahead c.args.text.now (c.args.at + 1) c.in-Raw.n × (c.in-Raw.n ≤ c.args.at + 4) = subst (PieceInside _ _) c.in-Raw.is c.piece_at.ensures.inside in h-short).0.forward, (let h-short : Ahead c.args.text.now (c.args.at + 1) c.in-Raw.n × (c.in-Raw.n ≤ c.args.at + 4) = subst (PieceInside _ _) c.in-Raw.is c.piece_at.ensures.inside in h-short).0.inside))
 
 pub overflow_sub-result : goal.overflow_sub-result
-overflow_sub-result c = omega (arith, (short c).0.forward)
+overflow_sub-result c = omega (arith, (let h-short : Ahead c.args.text.now (c.args.at + 1) c.in-Raw.n × (c.in-Raw.n ≤ c.args.at + 4) = subst (PieceInside _ _) c.in-Raw.is c.piece_at.ensures.inside in h-short).0.forward)
 
 pub returns-in-Closed : goal.returns-in-Closed
 returns-in-Closed c = record { char_says = λ l. absurd (c.requires.open (quoted _ _ (sym (c.piece_at.ensures.result_value l) ∙ ap piece_of c.in-Closed.is))); inside = tt }
@@ -29,7 +24,7 @@ returns-in-Bad c = record { char_says = λ l. sym (c.piece_at.ensures.result_val
 
 pub returns-in-Raw : goal.returns-in-Raw
 returns-in-Raw c =
-    let s = short c in
+    let s = (let h-short : Ahead c.args.text.now (c.args.at + 1) c.in-Raw.n × (c.in-Raw.n ≤ c.args.at + 4) = subst (PieceInside _ _) c.in-Raw.is c.piece_at.ensures.inside in h-short) in
     record { char_says = λ l. raw_character _ _ _ _ (λ i h. omega (arith, c.shared_slice_known-1.given i)) (sym (c.piece_at.ensures.result_value l) ∙ ap piece_of c.in-Raw.is) c.few_bytes.ensures; inside = (s.0, omega (arith, s.0.forward), omega (arith, s.1)) }
 
 pub returns-in-Code : goal.returns-in-Code

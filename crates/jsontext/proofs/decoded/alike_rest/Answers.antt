@@ -8,11 +8,6 @@ use Rattle.jsontext.specs.Compared.{Alike}
 use Rattle.jsontext.proofs.Agreeing.{plain_inside, alike_none, alike_more}
 use Rattle.jsontext.proofs.decoded.alike_rest.Goals as goal
 
--- the byte read is plain, and so stands inside
-module _ (c : tie.Else2 invariant-loop decreases-loop) where
-  inside : c.before.before.before.before.before.before.before.before.args.i + c.before.before.before.before.before.loop.n < length c.before.before.before.before.before.before.before.before.args.s.now
-  inside = plain_inside c.before.before.before.before.before.before.before.before.args.s.now _ _ c.before.before.before.before.byte_at.ensures (sym c.before.before.before.is_plain.ensures ∙ not-false c.before.before.before.is_plain.result c.before.before.if1.false)
-
 pub loop-i-init : goal.loop-i-init
 loop-i-init c = alike_none _ _ _ _ c.requires.first c.requires.second
 
@@ -29,10 +24,10 @@ pub returns-then-byte_at-b : goal.returns-then-byte_at-b
 returns-then-byte_at-b c = c.loop-i.invariant
 
 pub overflow_add-n : goal.overflow_add-n
-overflow_add-n c = omega (arith, inside c)
+overflow_add-n c = omega (arith, (let h-inside : c.args.i + c.loop-i.n < length c.args.s.now = plain_inside c.args.s.now _ _ c.byte_at-b.ensures (sym c.is_plain.ensures ∙ c.if-not-is_plain.false) in h-inside))
 
 pub loop-i-smaller : goal.loop-i-smaller
-loop-i-smaller c = omega (arith, inside c)
+loop-i-smaller c = omega (arith, (let h-inside : c.args.i + c.loop-i.n < length c.args.s.now = plain_inside c.args.s.now _ _ c.byte_at-b.ensures (sym c.is_plain.ensures ∙ c.if-not-is_plain.false) in h-inside))
 
 pub loop-i-preserved : goal.loop-i-preserved
 loop-i-preserved c = alike_more _ _ _ _ _ _ _ c.loop-i.invariant c.byte_at-b.ensures (sym c.is_plain.ensures ∙ c.if-not-is_plain.false) c.byte_at.ensures c.if-byte_at-b.false

@@ -16,14 +16,6 @@ module _ (c : tie.After-alike invariant-loop decreases-loop) (l : c.before.befor
   behind : Running c.before.before.before.before.before.before.args.text.now c.before.before.before.before.before.before.args.at c.before.before.before.before.before.before.args.bytes.now (c.before.loop.i + c.alike.result) (c.before.loop.k + c.alike.result)
   behind = running_alike _ _ _ _ _ (c.before.loop.invariant.2 l) _ c.alike.ensures
 
--- a char, and its places
-module _ (c : tie.After-known-told invariant-loop decreases-loop) where
-  there : c.before.before.before.before.before.before.before.before.before.before.before.before.args.classes.now ≡ class_table → Character c.before.before.before.before.before.before.before.before.before.before.before.before.args.text.now (c.before.before.before.before.before.before.before.loop.i + c.before.before.before.before.before.before.alike.result) c.before.w.given.0.0 c.before.w.given.0.1.0 c.before.w.given.0.1.1.0
-  there l = subst (CharSays _ _) c.before.w.given.1 (c.before.before.before.char-at.ensures.0 l)
-
-  ahead : CharInside c.before.before.before.before.before.before.before.before.before.before.before.before.args.text.now (c.before.before.before.before.before.before.before.loop.i + c.before.before.before.before.before.before.alike.result) (Char c.before.w.given.0.0 c.before.w.given.0.1.0 c.before.w.given.0.1.1.0)
-  ahead = subst (CharInside _ _) c.before.w.given.1 c.before.before.before.char-at.ensures.1
-
 pub returns-then-byte_at-ne34 : goal.returns-then-byte_at-ne34
 returns-then-byte_at-ne34 c l = text_none c.args.text.now c.args.at _ _ c.byte_at.ensures c.if-byte_at-ne34.true
 
@@ -46,7 +38,7 @@ pub returns-then-byte_at-eq34 : goal.returns-then-byte_at-eq34
 returns-then-byte_at-eq34 c l = running_end _ _ _ _ _ (behind c l) _ c.byte_at-in-loop-at.ensures c.if-byte_at-eq34.true
 
 pub char_at-requires : goal.char_at-requires
-char_at-requires c = record { open = λ q. c.if-byte_at-eq34.false (c.byte_at-in-loop-at.ensures ∙ q) }
+char_at-requires c = record { «open» = λ q. c.if-byte_at-eq34.false (c.byte_at-in-loop-at.ensures ∙ q) }
 
 pub returns-in-Broken : goal.returns-in-Broken
 returns-in-Broken c l = running_broken _ _ _ _ _ (behind c l) _ (subst (CharSays _ _) c.in-Broken.is (c.char_at.ensures.char_says l))
@@ -55,19 +47,19 @@ pub overflow_sub-bytes : goal.overflow_sub-bytes
 overflow_sub-bytes c = c.alike-n.ensures.second.inside
 
 pub returns-then-bytes-k : goal.returns-then-bytes-k
-returns-then-bytes-k c l = running_short _ _ _ _ _ (behind c l) _ _ _ (there c l) c.if-bytes-k.true
+returns-then-bytes-k c l = running_short _ _ _ _ _ (behind c l) _ _ _ ((let h-there : c.args.classes.now ≡ class_table → Character c.args.text.now (c.loop-at.i + c.alike-n.result) c.in-Char.w c.in-Char.m c.in-Char.x = λ l. subst (CharSays _ _) c.in-Char.is (c.char_at.ensures.char_says l) in h-there) l) c.if-bytes-k.true
 
 pub few_bytes-requires : goal.few_bytes-requires
-few_bytes-requires c = (omega (arith, (ahead c).1), omega (arith, (ahead c).2), omega (arith, c.alike-n.ensures.second.inside, c.if-bytes-k.false))
+few_bytes-requires c = (omega (arith, (let h-ahead : CharInside c.args.text.now (c.loop-at.i + c.alike-n.result) (Char c.in-Char.w c.in-Char.m c.in-Char.x) = subst (CharInside _ _) c.in-Char.is c.char_at.ensures.inside in h-ahead).1), omega (arith, (let h-ahead : CharInside c.args.text.now (c.loop-at.i + c.alike-n.result) (Char c.in-Char.w c.in-Char.m c.in-Char.x) = subst (CharInside _ _) c.in-Char.is c.char_at.ensures.inside in h-ahead).2), omega (arith, c.alike-n.ensures.second.inside, c.if-bytes-k.false))
 
 pub returns-then-few_bytes-w : goal.returns-then-few_bytes-w
-returns-then-few_bytes-w c l = running_differ _ _ _ _ _ (behind c l) _ _ _ (there c l) c.if-bytes-k.false _ c.few_bytes.ensures c.if-few_bytes-w.true
+returns-then-few_bytes-w c l = running_differ _ _ _ _ _ (behind c l) _ _ _ ((let h-there : c.args.classes.now ≡ class_table → Character c.args.text.now (c.loop-at.i + c.alike-n.result) c.in-Char.w c.in-Char.m c.in-Char.x = λ l. subst (CharSays _ _) c.in-Char.is (c.char_at.ensures.char_says l) in h-there) l) c.if-bytes-k.false _ c.few_bytes.ensures c.if-few_bytes-w.true
 
 pub overflow_add-k-in-Char : goal.overflow_add-k-in-Char
 overflow_add-k-in-Char c = omega (arith, c.alike-n.ensures.second.inside, c.if-bytes-k.false)
 
 pub loop-at-smaller : goal.loop-at-smaller
-loop-at-smaller c = omega (arith, (ahead c).0.forward, (ahead c).0.inside)
+loop-at-smaller c = omega (arith, (let h-ahead : CharInside c.args.text.now (c.loop-at.i + c.alike-n.result) (Char c.in-Char.w c.in-Char.m c.in-Char.x) = subst (CharInside _ _) c.in-Char.is c.char_at.ensures.inside in h-ahead).0.forward, (let h-ahead : CharInside c.args.text.now (c.loop-at.i + c.alike-n.result) (Char c.in-Char.w c.in-Char.m c.in-Char.x) = subst (CharInside _ _) c.in-Char.is c.char_at.ensures.inside in h-ahead).0.inside)
 
 pub loop-at-preserved : goal.loop-at-preserved
-loop-at-preserved c = ((ahead c).0.inside, omega (arith, c.alike-n.ensures.second.inside, c.if-bytes-k.false), λ l. running_agree _ _ _ _ _ (behind c l) _ _ _ (there c l) c.if-bytes-k.false _ c.few_bytes.ensures (λ i h. omega (arith, c.shared_slice_known-2-1.given i)) c.if-few_bytes-w.false)
+loop-at-preserved c = ((let h-ahead : CharInside c.args.text.now (c.loop-at.i + c.alike-n.result) (Char c.in-Char.w c.in-Char.m c.in-Char.x) = subst (CharInside _ _) c.in-Char.is c.char_at.ensures.inside in h-ahead).0.inside, omega (arith, c.alike-n.ensures.second.inside, c.if-bytes-k.false), λ l. running_agree _ _ _ _ _ (behind c l) _ _ _ ((let h-there : c.args.classes.now ≡ class_table → Character c.args.text.now (c.loop-at.i + c.alike-n.result) c.in-Char.w c.in-Char.m c.in-Char.x = λ l. subst (CharSays _ _) c.in-Char.is (c.char_at.ensures.char_says l) in h-there) l) c.if-bytes-k.false _ c.few_bytes.ensures (λ i h. omega (arith, c.shared_slice_known-2-1.given i)) c.if-few_bytes-w.false)

@@ -22,14 +22,6 @@ module _ (c : tie.After-known-told2 invariant-loop decreases-loop) (l : c.before
   second : Character c.before.before.before.before.before.before.before.before.before.before.before.before.before.before.before.args.text.now (c.before.before.before.before.before.before.before.before.before.before.before.before.before.loop.j + c.before.before.before.before.before.before.before.before.before.before.before.before.alike.result) c.before.w.given.0.0 c.before.w.given.0.1.0 c.before.w.given.0.1.1.0
   second = subst (CharSays _ _) c.before.w.given.1 (c.before.before.before.char-at2.ensures.0 l)
 
--- their places
-module _ (c : tie.After-known-told2 invariant-loop decreases-loop) where
-  first-ahead : Ahead c.before.before.before.before.before.before.before.before.before.before.before.before.before.before.before.args.text.now (c.before.before.before.before.before.before.before.before.before.before.before.before.before.loop.i + c.before.before.before.before.before.before.before.before.before.before.before.before.alike.result + 1) c.before.before.before.before.before.v.given.0.1.1.0
-  first-ahead = (subst (CharInside _ _) c.before.before.before.before.before.v.given.1 c.before.before.before.before.before.before.before.char-at.ensures.1).0
-
-  second-ahead : Ahead c.before.before.before.before.before.before.before.before.before.before.before.before.before.before.before.args.text.now (c.before.before.before.before.before.before.before.before.before.before.before.before.before.loop.j + c.before.before.before.before.before.before.before.before.before.before.before.before.alike.result + 1) c.before.w.given.0.1.1.0
-  second-ahead = (subst (CharInside _ _) c.before.w.given.1 c.before.before.before.char-at2.ensures.1).0
-
 pub overflow_add-i : goal.overflow_add-i
 overflow_add-i c = omega (arith, c.requires.0.inside)
 
@@ -55,13 +47,13 @@ pub returns-then-byte_at-eq34-2 : goal.returns-then-byte_at-eq34-2
 returns-then-byte_at-eq34-2 c l = both_second_end _ _ _ _ _ (behind c l) _ _ c.byte_at.ensures c.if-byte_at-eq34.false c.byte_at-in-loop-a.ensures c.if-byte_at-eq34-2.true
 
 pub char_at-requires : goal.char_at-requires
-char_at-requires c = record { open = λ q. c.if-byte_at-eq34.false (c.byte_at.ensures ∙ q) }
+char_at-requires c = record { «open» = λ q. c.if-byte_at-eq34.false (c.byte_at.ensures ∙ q) }
 
 pub returns-in-Broken : goal.returns-in-Broken
 returns-in-Broken c l = both_broken _ _ _ _ _ (behind c l) _ (subst (CharSays _ _) c.in-Broken.is (c.char_at.ensures.char_says l))
 
 pub char_at-requires-in-Char : goal.char_at-requires-in-Char
-char_at-requires-in-Char c = record { open = λ q. c.if-byte_at-eq34-2.false (c.byte_at-in-loop-a.ensures ∙ q) }
+char_at-requires-in-Char c = record { «open» = λ q. c.if-byte_at-eq34-2.false (c.byte_at-in-loop-a.ensures ∙ q) }
 
 pub returns-in-Broken-char_at : goal.returns-in-Broken-char_at
 returns-in-Broken-char_at c l = both_second_broken _ _ _ _ _ (behind c l) _ (subst (CharSays _ _) c.in-Broken-char_at.is (c.char_at-in-Char.ensures.char_says l))
@@ -70,7 +62,7 @@ pub returns-then-v-w : goal.returns-then-v-w
 returns-then-v-w c l = both_differ _ _ _ _ _ (behind c l) _ _ _ _ _ _ (first c l) (second c l) c.if-v-w.true
 
 pub loop-a-smaller : goal.loop-a-smaller
-loop-a-smaller c = omega (arith, (first-ahead c).forward, (first-ahead c).inside)
+loop-a-smaller c = omega (arith, (let h-first-ahead : Ahead c.args.text.now (c.loop-a.i + c.alike-n.result + 1) c.in-Char.x = (subst (CharInside _ _) c.in-Char.is c.char_at.ensures.inside).0 in h-first-ahead).forward, (let h-first-ahead : Ahead c.args.text.now (c.loop-a.i + c.alike-n.result + 1) c.in-Char.x = (subst (CharInside _ _) c.in-Char.is c.char_at.ensures.inside).0 in h-first-ahead).inside)
 
 pub loop-a-preserved : goal.loop-a-preserved
-loop-a-preserved c = ((first-ahead c).inside, (second-ahead c).inside, λ l. both_agree _ _ _ _ _ (behind c l) _ _ _ _ _ _ (first c l) (second c l) c.if-v-w.false)
+loop-a-preserved c = ((let h-first-ahead : Ahead c.args.text.now (c.loop-a.i + c.alike-n.result + 1) c.in-Char.x = (subst (CharInside _ _) c.in-Char.is c.char_at.ensures.inside).0 in h-first-ahead).inside, (let h-second-ahead : Ahead c.args.text.now (c.loop-a.j + c.alike-n.result + 1) c.in-Char-char_at.y = (subst (CharInside _ _) c.in-Char-char_at.is c.char_at-in-Char.ensures.inside).0 in h-second-ahead).inside, λ l. both_agree _ _ _ _ _ (behind c l) _ _ _ _ _ _ (first c l) (second c l) c.if-v-w.false)

@@ -8,9 +8,6 @@ use Rattle.jsontext.specs.NumberAnswer.{Short, Within, Summed}
 use Rattle.jsontext.proofs.ShortRuns.{within_none, within_more, within_room, summed_none, summed_more}
 use Rattle.jsontext.proofs.digits.few_digits.Goals as goal
 
-room : (c : tie.Else1 invariant-loop decreases-loop) → Short c.before.before.before.before.loop.v 18
-room c = let (n, s, h) = c.before.before.before.before.before.before.requires.1 in within_room _ _ _ _ _ c.before.before.before.before.loop.invariant.0 c.before.before.before.loop-test.true n s h
-
 pub loop-i-init : goal.loop-i-init
 loop-i-init c = (within_none _ _ _ c.requires.order.0, λ _. summed_none _ _ _)
 
@@ -18,10 +15,10 @@ pub returns-then-not-is_digit : goal.returns-then-not-is_digit
 returns-then-not-is_digit c = record { within = c.loop-i.invariant.0; few_read = λ l. record { summed = c.loop-i.invariant.1 l; stops = λ _. sym (c.is_digit.ensures.compared l) ∙ c.if-not-is_digit.true } }
 
 pub overflow_mul-v : goal.overflow_mul-v
-overflow_mul-v c = omega (arith, room c)
+overflow_mul-v c = omega (arith, (let h-room : Short c.loop-i.v 18 = let (n, s, h) = c.requires.fitting in within_room _ _ _ _ _ c.loop-i.invariant.0 c.loop-i-test.true n s h in h-room))
 
 pub overflow_add-v : goal.overflow_add-v
-overflow_add-v c = omega (arith, room c, c.digit_value.ensures.few)
+overflow_add-v c = omega (arith, (let h-room : Short c.loop-i.v 18 = let (n, s, h) = c.requires.fitting in within_room _ _ _ _ _ c.loop-i.invariant.0 c.loop-i-test.true n s h in h-room), c.digit_value.ensures.few)
 
 pub loop-i-preserved : goal.loop-i-preserved
 loop-i-preserved c =

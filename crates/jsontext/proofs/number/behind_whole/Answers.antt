@@ -12,14 +12,6 @@ use Rattle.jsontext.proofs.NumberParts.{found, not_found, fraction_read, fractio
 use Rattle.jsontext.proofs.NumberWays.{fraction_none, fraction_there}
 use Rattle.jsontext.proofs.number.behind_whole.Goals as goal
 
-inside : (c : tie.Else1) → c.before.before.before.args.at < length c.before.before.before.args.text.now
-inside c = byte_inside c.before.before.before.args.text.now c.before.before.before.args.at c.before.byte_at.result c.before.byte_at.ensures (omega (arith, c.if1.false))
-
--- the digits in all
-module _ (c : tie.After-struct-known2) where
-  grown : BoundedFrom c.before.before.before.before.before.before.before.before.before.args.whole.count (Digits c.before.before.before.all.given.0.0 c.before.before.before.all.given.0.1.0)
-  grown = subst (BoundedFrom _) c.before.before.before.all.given.1 c.before.before.before.before.before.some_digits_lem.ensures.1
-
 pub behind_digits-requires : goal.behind_digits-requires
 behind_digits-requires c = (c.requires.short, omega arith)
 
@@ -27,16 +19,16 @@ pub returns-then-byte_at-ne46 : goal.returns-then-byte_at-ne46
 returns-then-byte_at-ne46 c l d e = c.behind_digits.ensures l d e ∙ ap as_scalar (sym (fraction_none _ _ _ c.byte_at.ensures _ d c.if-byte_at-ne46.true))
 
 pub overflow_add-at : goal.overflow_add-at
-overflow_add-at c = omega (arith, inside c)
+overflow_add-at c = omega (arith, (let h-inside : c.args.at < length c.args.text.now = byte_inside c.args.text.now c.args.at c.byte_at.result c.byte_at.ensures (omega (arith, c.if-byte_at-ne46.false)) in h-inside))
 
 pub some_digits-requires : goal.some_digits-requires
 some_digits-requires c = record { short = c.requires.short; few = omega (arith, c.requires.few) }
 
 pub overflow_sub-places : goal.overflow_sub-places
-overflow_sub-places c = (grown c).1
+overflow_sub-places c = (let h-grown : BoundedFrom c.args.whole.count (Digits c.in-Digits.all c.in-Digits.next) = subst (BoundedFrom _) c.in-Digits.is c.some_digits.ensures.bounds in h-grown).1
 
 pub behind_digits-requires-in-Digits : goal.behind_digits-requires-in-Digits
-behind_digits-requires-in-Digits c = ((grown c).0.short, omega arith)
+behind_digits-requires-in-Digits c = ((let h-grown : BoundedFrom c.args.whole.count (Digits c.in-Digits.all c.in-Digits.next) = subst (BoundedFrom _) c.in-Digits.is c.some_digits.ensures.bounds in h-grown).0.short, omega arith)
 
 pub returns-in-Digits : goal.returns-in-Digits
 returns-in-Digits c =

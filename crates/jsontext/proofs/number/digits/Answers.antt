@@ -20,7 +20,7 @@ with_digit-run-requires c = (c.loop-i.invariant.bounded.short, omega (arith, c.l
 pub loop-i-preserved : goal.loop-i-preserved
 loop-i-preserved c =
     scanned_more _ _ _ _ _ _ c.loop-i.invariant c.loop-i-test.true (λ l. sym (c.is_digit.ensures.compared l) ∙ c.if-not-is_digit.false)
-    _ c.with_digit-run.ensures.counted c.with_digit-run.ensures.short.0 c.with_digit-run.ensures.short.1
+    _ c.with_digit-run.ensures.counted c.with_digit-run.ensures.short c.with_digit-run.ensures.held
 
 pub returns : goal.returns
 returns c = record { value = scanned_end _ _ _ _ _ _ c.loop-i.invariant c.loop-i-test.false; bounds = (c.loop-i.invariant.bounded, c.loop-i.invariant.more) }

@@ -6,17 +6,14 @@ use Rattle.jsontext.specs.NumberAnswer.{ShortWhole}
 use Rattle.jsontext.proofs.ShortRuns.{whole_count}
 use Rattle.jsontext.proofs.number.number.Goals as goal
 
-placed : (c : tie.Else1) → ShortWhole c.before.before.before.args.text.now c.before.before.before.args.at c.before.short-whole.result
-placed c = c.before.short-whole.ensures.0 c.if1.false
-
 pub bounds-text-next : goal.bounds-text-next
-bounds-text-next c = let p = placed c in omega (arith, p.early, p.inside)
+bounds-text-next c = let p = (let h-placed : ShortWhole c.args.text.now c.args.at c.short_whole-run.result = c.short_whole-run.ensures.placed c.if-next-eq0.false in h-placed) in omega (arith, p.early, p.inside)
 
 pub short_fraction-requires : goal.short_fraction-requires
-short_fraction-requires c = placed c
+short_fraction-requires c = (let h-placed : ShortWhole c.args.text.now c.args.at c.short_whole-run.result = c.short_whole-run.ensures.placed c.if-next-eq0.false in h-placed)
 
 pub returns-then-b-eq46 : goal.returns-then-b-eq46
 returns-then-b-eq46 c l = c.short_fraction.ensures l (c.short_whole-run.ensures.begins l c.if-next-eq0.false) c.if-b-eq46.true
 
 pub returns : goal.returns
-returns c l = sym (whole_count _ _ _ (placed c) (c.short_whole-run.ensures.begins l c.if-next-eq0.false) c.if-b-eq46.false c.if-b.false)
+returns c l = sym (whole_count _ _ _ (let h-placed : ShortWhole c.args.text.now c.args.at c.short_whole-run.result = c.short_whole-run.ensures.placed c.if-next-eq0.false in h-placed) (c.short_whole-run.ensures.begins l c.if-next-eq0.false) c.if-b-eq46.false c.if-b.false)

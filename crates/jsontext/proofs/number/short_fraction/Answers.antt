@@ -8,14 +8,6 @@ use Rattle.jsontext.specs.NumberAnswer.{Short}
 use Rattle.jsontext.proofs.ShortRuns.{strictly_between, carried_short, fraction_short, fraction_is}
 use Rattle.jsontext.proofs.number.short_fraction.Goals as goal
 
--- the digits end between the point and the last place
-module _ (c : tie.Else1) where
-  ends : (c.before.before.before.before.args.whole.end + 1 < c.before.few_digits.result.end) × (c.before.few_digits.result.end < c.before.before.before.before.args.at + 19)
-  ends = strictly_between _ _ _ c.if1.false c.before.few_digits.ensures.0.forward c.before.few_digits.ensures.0.inside
-
-  short : Short c.before.few_digits.result.value (c.before.few_digits.result.end - c.before.before.before.before.args.at - 1)
-  short = fraction_short _ _ _ c.before.before.before.before.requires _ ends.0 c.before.few_digits.ensures.0
-
 pub few_digits-run-requires : goal.few_digits-run-requires
 few_digits-run-requires c = ((omega (arith, c.requires.early), c.requires.inside), (c.args.whole.end - c.args.at, c.requires.short, omega (arith, c.requires.some)))
 
@@ -23,12 +15,12 @@ pub returns-then-next-first : goal.returns-then-next-first
 returns-then-next-first c l _ _ = c.any_number.ensures l
 
 pub behind_digits-requires : goal.behind_digits-requires
-behind_digits-requires c = (short c, omega (arith, ends c, c.requires.some))
+behind_digits-requires c = ((let h-short : Short c.few_digits-run.result.value (c.few_digits-run.result.end - c.args.at - 1) = fraction_short _ _ _ c.requires _ ends c.0 c.few_digits-run.ensures.within in h-short), omega (arith, (let h-ends : (c.args.whole.end + 1 < c.few_digits-run.result.end) × (c.few_digits-run.result.end < c.args.at + 19) = strictly_between _ _ _ c.if-next-first.false c.few_digits-run.ensures.within.forward c.few_digits-run.ensures.within.inside in h-ends), c.requires.some))
 
 pub returns : goal.returns
 returns c =
     λ l is point.
     let n = c.few_digits-run.result.end - c.args.at - 1 in
-    let (a, b) = ends c in
-    c.behind_digits.ensures l (digits_of c.few_digits-run.result.value n) (carried_short _ n (short c) (omega arith))
+    let (a, b) = (let h-ends : (c.args.whole.end + 1 < c.few_digits-run.result.end) × (c.few_digits-run.result.end < c.args.at + 19) = strictly_between _ _ _ c.if-next-first.false c.few_digits-run.ensures.within.forward c.few_digits-run.ensures.within.inside in h-ends) in
+    c.behind_digits.ensures l (digits_of c.few_digits-run.result.value n) (carried_short _ n (let h-short : Short c.few_digits-run.result.value (c.few_digits-run.result.end - c.args.at - 1) = fraction_short _ _ _ c.requires _ ends c.0 c.few_digits-run.ensures.within in h-short) (omega arith))
     ∙ fraction_is _ _ _ c.requires _ a (c.few_digits-run.ensures.few_read l) b is point

@@ -5,9 +5,6 @@ use Rattle.jsontext.specs.NumberAnswer.{ShortWhole}
 use Rattle.jsontext.proofs.ShortRuns.{not_short, whole_placed, whole_begins}
 use Rattle.jsontext.proofs.number.short_whole.Goals as goal
 
-placed : (c : tie.Else3) → ShortWhole c.before.before.before.before.before.args.text.now c.before.before.before.before.before.args.at c.before.few_digits.result
-placed c = whole_placed _ _ _ c.before.few_digits.ensures.0 (omega arith) c.if3.false
-
 pub returns-then-text-lt-FITTING : goal.returns-then-text-lt-FITTING
 returns-then-text-lt-FITTING c = record { placed = not_short; begins = λ _. not_short }
 
@@ -24,4 +21,4 @@ pub returns-then-text-at : goal.returns-then-text-at
 returns-then-text-at c = record { placed = not_short; begins = λ _. not_short }
 
 pub returns : goal.returns
-returns c = let p = placed c in record { placed = λ _. p; begins = λ l _. whole_begins _ _ _ p (c.few_digits-run.ensures.few_read l) c.if-text-at.false }
+returns c = let p = (let h-placed : ShortWhole c.args.text.now c.args.at c.few_digits-run.result = whole_placed _ _ _ c.few_digits-run.ensures.within (omega arith) c.if-next-at.false in h-placed) in record { placed = λ _. p; begins = λ l _. whole_begins _ _ _ p (c.few_digits-run.ensures.few_read l) c.if-text-at.false }

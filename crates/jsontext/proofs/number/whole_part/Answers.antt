@@ -11,9 +11,6 @@ use Rattle.jsontext.specs.NumberAnswer.{carried_at}
 use Rattle.jsontext.proofs.NumberWays.{whole_digits, whole_more, whole_zero}
 use Rattle.jsontext.proofs.number.whole_part.Goals as goal
 
-inside : (c : tie.Else1) → c.before.before.before.args.at < length c.before.before.before.args.text.now
-inside c = byte_inside c.before.before.before.args.text.now c.before.before.before.args.at c.before.byte_at.result c.before.byte_at.ensures (omega (arith, c.if1.false))
-
 pub some_digits-requires : goal.some_digits-requires
 some_digits-requires c = record { short = omega arith; few = omega arith }
 
@@ -21,10 +18,10 @@ pub returns-then-byte_at-ne48 : goal.returns-then-byte_at-ne48
 returns-then-byte_at-ne48 c = record { value = λ l. c.some_digits.ensures.value l no_digits refl ∙ ap carried_at (whole_digits _ _ _ c.byte_at.ensures c.if-byte_at-ne48.true); bounds = c.some_digits.ensures.bounds }
 
 pub overflow_add-at : goal.overflow_add-at
-overflow_add-at c = omega (arith, inside c)
+overflow_add-at c = omega (arith, (let h-inside : c.args.at < length c.args.text.now = byte_inside c.args.text.now c.args.at c.byte_at.result c.byte_at.ensures (omega (arith, c.if-byte_at-ne48.false)) in h-inside))
 
 pub overflow_add-result : goal.overflow_add-result
-overflow_add-result c = omega (arith, inside c)
+overflow_add-result c = omega (arith, (let h-inside : c.args.at < length c.args.text.now = byte_inside c.args.text.now c.args.at c.byte_at.result c.byte_at.ensures (omega (arith, c.if-byte_at-ne48.false)) in h-inside))
 
 pub returns-then-is_digit : goal.returns-then-is_digit
 returns-then-is_digit c =
@@ -36,7 +33,7 @@ returns-then-is_digit c =
     }
 
 pub overflow_add-result-2 : goal.overflow_add-result-2
-overflow_add-result-2 c = omega (arith, inside c)
+overflow_add-result-2 c = omega (arith, (let h-inside : c.args.at < length c.args.text.now = byte_inside c.args.text.now c.args.at c.byte_at.result c.byte_at.ensures (omega (arith, c.if-byte_at-ne48.false)) in h-inside))
 
 pub returns : goal.returns
 returns c =

@@ -9,11 +9,6 @@ use Rattle.base.specs.Text.{byte_at}
 use Rattle.jsontext.proofs.HexDigits.{Hex, hex_none, hex_end, hex_ahead, hex_room, hex_stop, hex_past, hex_more}
 use Rattle.jsontext.proofs.pieces.hex.Goals as goal
 
--- a hex digit was read, where the table is right
-module _ (c : tie.After-hex-value invariant-loop decreases-loop) where
-  digit : c.before.before.before.before.before.before.before.before.args.classes.now ≡ class_table → either_hex_digit? (byte_at c.before.before.before.before.before.before.before.before.args.text.now c.before.before.before.before.before.before.loop.i) ≡ true
-  digit l = sym (c.before.before.is-hex-digit.ensures.1 l) ∙ not-false c.before.before.is-hex-digit.result c.before.if2.false
-
 pub loop-n-init : goal.loop-n-init
 loop-n-init c = hex_none _ _ _ c.requires
 
@@ -30,7 +25,7 @@ pub overflow_add-v : goal.overflow_add-v
 overflow_add-v c = omega (arith, hex_room _ _ _ _ _ _ c.loop-n.invariant c.loop-n-test.true, c.hex_value.ensures.few)
 
 pub loop-n-preserved : goal.loop-n-preserved
-loop-n-preserved c = hex_more _ _ _ _ _ _ c.loop-n.invariant c.loop-n-test.true _ c.if-i-text.false c.hex_value.ensures.few (digit c) (λ l. c.hex_value.ensures.value (digit c l))
+loop-n-preserved c = hex_more _ _ _ _ _ _ c.loop-n.invariant c.loop-n-test.true _ c.if-i-text.false c.hex_value.ensures.few (let h-digit : c.args.classes.now ≡ class_table → either_hex_digit? (byte_at c.args.text.now c.loop-n.i) ≡ true = λ l. sym (c.is_hex_digit.ensures.compared l) ∙ c.if-not-is_hex_digit.false in h-digit) (λ l. c.hex_value.ensures.value ((let h-digit : c.args.classes.now ≡ class_table → either_hex_digit? (byte_at c.args.text.now c.loop-n.i) ≡ true = λ l. sym (c.is_hex_digit.ensures.compared l) ∙ c.if-not-is_hex_digit.false in h-digit) l))
 
 pub returns : goal.returns
 returns c = record { result_value = hex_end _ _ _ _ _ _ c.loop-n.invariant c.loop-n-test.false; inside = hex_ahead _ _ _ _ _ _ c.loop-n.invariant c.loop-n-test.false }

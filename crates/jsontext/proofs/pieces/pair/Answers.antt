@@ -10,11 +10,6 @@ use Rattle.base.proofs.Bytes.{byte_inside}
 use Rattle.jsontext.proofs.Ways.{pair_none, pair_other, pair_is}
 use Rattle.jsontext.proofs.pieces.pair.Goals as goal
 
--- the second unit, where the table is right
-module _ (c : tie.After-second-unit) where
-  there : c.before.before.before.before.before.before.args.classes.now ≡ class_table → as_pair c.before.before.before.before.before.before.args.v (hex_of c.second-unit.result) ≡ pair_at c.before.before.before.before.before.before.args.text.now c.before.before.before.before.before.before.args.v c.before.before.before.before.before.before.args.at
-  there l = ap (as_pair c.before.before.before.before.before.before.args.v) (c.second-unit.ensures.0 l) ∙ pair_is _ _ _ _ _ c.before.before.before.before.byte_at.ensures c.before.before.before.if1.false c.before.before.byte-at2.ensures c.before.if2.false
-
 pub returns-then-byte_at-ne92 : goal.returns-then-byte_at-ne92
 returns-then-byte_at-ne92 c = record { result_value = λ l. pair_none _ _ _ _ c.byte_at.ensures c.if-byte_at-ne92.true; inside = tt }
 
@@ -36,7 +31,7 @@ second_unit-requires c = omega (arith, byte_inside c.args.text.now (c.args.at + 
 pub returns-in-Number : goal.returns-in-Number
 returns-in-Number c =
     let a : Ahead _ (c.args.at + 2 + 4) _ = subst (HexInside _ _) c.in-Number.is c.second_unit.ensures.inside in
-    record { result_value = λ l. ap (λ r. as_pair c.args.v (hex_of r)) (sym c.in-Number.is) ∙ there c l; inside = record { forward = omega (arith, a.forward); inside = a.inside } }
+    record { result_value = λ l. ap (λ r. as_pair c.args.v (hex_of r)) (sym c.in-Number.is) ∙ (let h-there : c.args.classes.now ≡ class_table → as_pair c.args.v (hex_of c.second_unit.result) ≡ pair_at c.args.text.now c.args.v c.args.at = λ l. ap (as_pair c.args.v) (c.second_unit.ensures.result_value l) ∙ pair_is _ _ _ _ _ c.byte_at.ensures c.if-byte_at-ne92.false c.byte_at-2.ensures c.if-byte_at-ne117.false in h-there) l; inside = record { forward = omega (arith, a.forward); inside = a.inside } }
 
 pub returns-in-Fault : goal.returns-in-Fault
-returns-in-Fault c = record { result_value = λ l. ap (λ r. as_pair c.args.v (hex_of r)) (sym c.in-Fault.is) ∙ there c l; inside = tt }
+returns-in-Fault c = record { result_value = λ l. ap (λ r. as_pair c.args.v (hex_of r)) (sym c.in-Fault.is) ∙ (let h-there : c.args.classes.now ≡ class_table → as_pair c.args.v (hex_of c.second_unit.result) ≡ pair_at c.args.text.now c.args.v c.args.at = λ l. ap (as_pair c.args.v) (c.second_unit.ensures.result_value l) ∙ pair_is _ _ _ _ _ c.byte_at.ensures c.if-byte_at-ne92.false c.byte_at-2.ensures c.if-byte_at-ne117.false in h-there) l; inside = tt }

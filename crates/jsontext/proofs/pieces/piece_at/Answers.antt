@@ -10,11 +10,6 @@ use Rattle.jsontext.proofs.Ways.{piece_closed, piece_escape, piece_control, piec
 use Rattle.jsontext.proofs.PieceEnds.{piece_past, escape_piece, sequence_inside}
 use Rattle.jsontext.proofs.pieces.piece_at.Goals as goal
 
--- above 127, where the table is right
-module _ (c : tie.After-sequence) where
-  there : c.before.before.before.before.before.before.before.before.before.args.classes.now ≡ class_table → as_raw (stretch_of c.sequence.result) ≡ piece_at c.before.before.before.before.before.before.before.before.before.args.text.now c.before.before.before.before.before.before.before.before.before.args.at
-  there l = ap as_raw c.sequence.ensures ∙ piece_sequence _ _ _ refl c.before.before.before.before.before.if2.false c.before.before.before.before.if3.false (sym (c.before.before.before.is_control.ensures.1 l) ∙ c.before.before.if4.false) c.before.if5.false
-
 pub returns-then-at-text : goal.returns-then-at-text
 returns-then-at-text c = record { result_value = λ l. sym (piece_past c.args.text.now c.args.at (sym (past c.args.text.now c.args.at c.if-at-text.true))); inside = tt }
 
@@ -31,7 +26,7 @@ pub returns-then-b-lt128 : goal.returns-then-b-lt128
 returns-then-b-lt128 c = record { result_value = λ l. piece_plain _ _ _ refl c.if-b-eq34.false c.if-b-eq92.false (sym (c.is_control.ensures.compared l) ∙ c.if-is_control.false) c.if-b-lt128.true; inside = (record { forward = omega arith; inside = omega (arith, c.if-at-text.false) }, omega arith) }
 
 pub returns-in-UpTo : goal.returns-in-UpTo
-returns-in-UpTo c = record { result_value = λ l. ap (λ r. as_raw (stretch_of r)) (sym c.in-UpTo.is) ∙ there c l; inside = sequence_inside _ _ _ (omega (arith, c.shared_slice_known-2-1.given c.args.at)) (ap stretch_of (sym c.in-UpTo.is) ∙ c.sequence.ensures) }
+returns-in-UpTo c = record { result_value = λ l. ap (λ r. as_raw (stretch_of r)) (sym c.in-UpTo.is) ∙ (let h-there : c.args.classes.now ≡ class_table → as_raw (stretch_of c.sequence.result) ≡ piece_at c.args.text.now c.args.at = λ l. ap as_raw c.sequence.ensures ∙ piece_sequence _ _ _ refl c.if-b-eq34.false c.if-b-eq92.false (sym (c.is_control.ensures.compared l) ∙ c.if-is_control.false) c.if-b-lt128.false in h-there) l; inside = sequence_inside _ _ _ (omega (arith, c.shared_slice_known-2-1.given c.args.at)) (ap stretch_of (sym c.in-UpTo.is) ∙ c.sequence.ensures) }
 
 pub returns-in-BrokenAt : goal.returns-in-BrokenAt
-returns-in-BrokenAt c = record { result_value = λ l. ap (λ r. as_raw (stretch_of r)) (sym c.in-BrokenAt.is) ∙ there c l; inside = tt }
+returns-in-BrokenAt c = record { result_value = λ l. ap (λ r. as_raw (stretch_of r)) (sym c.in-BrokenAt.is) ∙ (let h-there : c.args.classes.now ≡ class_table → as_raw (stretch_of c.sequence.result) ≡ piece_at c.args.text.now c.args.at = λ l. ap as_raw c.sequence.ensures ∙ piece_sequence _ _ _ refl c.if-b-eq34.false c.if-b-eq92.false (sym (c.is_control.ensures.compared l) ∙ c.if-is_control.false) c.if-b-lt128.false in h-there) l; inside = tt }

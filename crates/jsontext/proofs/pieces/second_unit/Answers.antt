@@ -10,22 +10,17 @@ use Rattle.jsontext.proofs.Tested.{tested}
 use Rattle.jsontext.proofs.Ways.{dee_inside, second_other, second_high, second_low}
 use Rattle.jsontext.proofs.pieces.second_unit.Goals as goal
 
--- the first digit is d
-module _ (c : tie.Else1) where
-  dee : dee? (byte_at c.before.before.before.before.args.text.now c.before.before.before.before.args.at) ≡ true
-  dee = tested dee? c.before.before.byte_at.ensures c.before.is-dee.ensures (not-false c.before.is-dee.result c.if1.false)
-
 pub returns-then-not-is_dee : goal.returns-then-not-is_dee
 returns-then-not-is_dee c = record { result_value = λ l. second_other _ _ (tested dee? c.byte_at.ensures c.is_dee.ensures c.if-not-is_dee.true); inside = tt }
 
 pub overflow_add-at : goal.overflow_add-at
-overflow_add-at c = omega (arith, dee_inside c.args.text.now c.args.at (dee c))
+overflow_add-at c = omega (arith, dee_inside c.args.text.now c.args.at (let h-dee : dee? (byte_at c.args.text.now c.args.at) ≡ true = tested dee? c.byte_at.ensures c.is_dee.ensures c.if-not-is_dee.false in h-dee))
 
 pub overflow_add-result : goal.overflow_add-result
-overflow_add-result c = omega (arith, dee_inside c.args.text.now c.args.at (dee c))
+overflow_add-result c = omega (arith, dee_inside c.args.text.now c.args.at (let h-dee : dee? (byte_at c.args.text.now c.args.at) ≡ true = tested dee? c.byte_at.ensures c.is_dee.ensures c.if-not-is_dee.false in h-dee))
 
 pub returns-then-not-is_low : goal.returns-then-not-is_low
-returns-then-not-is_low c = record { result_value = λ l. second_high _ _ (dee c) (tested low? c.byte_at-2.ensures c.is_low.ensures c.if-not-is_low.true); inside = tt }
+returns-then-not-is_low c = record { result_value = λ l. second_high _ _ (let h-dee : dee? (byte_at c.args.text.now c.args.at) ≡ true = tested dee? c.byte_at.ensures c.is_dee.ensures c.if-not-is_dee.false in h-dee) (tested low? c.byte_at-2.ensures c.is_low.ensures c.if-not-is_low.true); inside = tt }
 
 pub returns : goal.returns
-returns c = record { result_value = λ l. c.hex.ensures.result_value l ∙ second_low _ _ (dee c) (tested low? c.byte_at-2.ensures c.is_low.ensures c.if-not-is_low.false); inside = c.hex.ensures.inside }
+returns c = record { result_value = λ l. c.hex.ensures.result_value l ∙ second_low _ _ (let h-dee : dee? (byte_at c.args.text.now c.args.at) ≡ true = tested dee? c.byte_at.ensures c.is_dee.ensures c.if-not-is_dee.false in h-dee) (tested low? c.byte_at-2.ensures c.is_low.ensures c.if-not-is_low.false); inside = c.hex.ensures.inside }

@@ -11,14 +11,6 @@ use Rattle.jsontext.specs.Chars.{Character, CharSays, CharInside}
 use Rattle.jsontext.proofs.DecodedSlots.{Keeping, keeping_begin, keeping_more, keeping_end, keeping_broken}
 use Rattle.jsontext.proofs.strings.read_on.Goals as goal
 
--- a char, and its places
-module _ (c : tie.After-known-told2 invariant-loop decreases-loop) where
-  there : c.before.before.before.before.before.before.before.before.args.classes.now ≡ class_table → Character c.before.before.before.before.before.before.before.before.args.text.now c.before.before.before.before.loop.i c.before.w.given.0.0 c.before.w.given.0.1.0 c.before.w.given.0.1.1.0
-  there l = subst (CharSays _ _) c.before.w.given.1 (c.before.before.before.char-at.ensures.0 l)
-
-  ahead : CharInside c.before.before.before.before.before.before.before.before.args.text.now c.before.before.before.before.loop.i (Char c.before.w.given.0.0 c.before.w.given.0.1.0 c.before.w.given.0.1.1.0)
-  ahead = subst (CharInside _ _) c.before.w.given.1 c.before.before.before.char-at.ensures.1
-
 -- it is kept, with the bytes behind it
 module _ (c : tie.After-keep-part2 invariant-loop decreases-loop) (l : c.before.before.before.before.before.before.before.before.before.before.before.args.classes.now ≡ class_table) where
   more : Keeping c.before.before.before.before.before.before.before.before.before.before.before.args.text.now c.before.before.before.before.before.before.before.before.before.before.before.args.at c.before.before.plain-far.result c.keep-part2.result
@@ -36,16 +28,16 @@ pub loop-p-init : goal.loop-p-init
 loop-p-init c = (c.requires.behind.1.inside, c.keep_part-k.ensures.few, c.requires.open, λ l. keeping_begin _ _ _ _ c.requires.behind.1 _ _ c.requires.behind.0 c.keep_none.ensures c.keep_part-k.ensures.by_index)
 
 pub char_at-requires : goal.char_at-requires
-char_at-requires c = record { open = c.loop-p.invariant.2 }
+char_at-requires c = record { «open» = c.loop-p.invariant.2 }
 
 pub returns-in-Broken : goal.returns-in-Broken
 returns-in-Broken c l = keeping_broken _ _ _ _ (c.loop-p.invariant.3 l) _ (subst (CharSays _ _) c.in-Broken.is (c.char_at.ensures.char_says l))
 
 pub plain_far-i-requires : goal.plain_far-i-requires
-plain_far-i-requires c = (ahead c).0.inside
+plain_far-i-requires c = (let h-ahead : CharInside c.args.text.now c.loop-p.i (Char c.in-Char.w c.in-Char.m c.in-Char.n) = subst (CharInside _ _) c.in-Char.is c.char_at.ensures.inside in h-ahead).0.inside
 
 pub keep_few-requires : goal.keep_few-requires
-keep_few-requires c = (c.loop-p.invariant.1, (ahead c).1, omega (arith, (ahead c).2))
+keep_few-requires c = (c.loop-p.invariant.1, (let h-ahead : CharInside c.args.text.now c.loop-p.i (Char c.in-Char.w c.in-Char.m c.in-Char.n) = subst (CharInside _ _) c.in-Char.is c.char_at.ensures.inside in h-ahead).1, omega (arith, (let h-ahead : CharInside c.args.text.now c.loop-p.i (Char c.in-Char.w c.in-Char.m c.in-Char.n) = subst (CharInside _ _) c.in-Char.is c.char_at.ensures.inside in h-ahead).2))
 
 pub keep_part-k-requires-in-Char : goal.keep_part-k-requires-in-Char
 keep_part-k-requires-in-Char c = (c.keep_few.ensures.few, c.plain_far-i.ensures.forward, c.plain_far-i.ensures.inside)
@@ -57,7 +49,7 @@ pub returns-then-byte_at-eq34 : goal.returns-then-byte_at-eq34
 returns-then-byte_at-eq34 c l = keeping_end _ _ _ _ (more c l) _ c.byte_at.ensures c.if-byte_at-eq34.true _ c.kept_slot.ensures
 
 pub loop-p-smaller : goal.loop-p-smaller
-loop-p-smaller c = omega (arith, (ahead c).0.forward, c.plain_far-i.ensures.forward, c.plain_far-i.ensures.inside)
+loop-p-smaller c = omega (arith, (let h-ahead : CharInside c.args.text.now c.loop-p.i (Char c.in-Char.w c.in-Char.m c.in-Char.n) = subst (CharInside _ _) c.in-Char.is c.char_at.ensures.inside in h-ahead).0.forward, c.plain_far-i.ensures.forward, c.plain_far-i.ensures.inside)
 
 pub loop-p-preserved : goal.loop-p-preserved
 loop-p-preserved c = (c.plain_far-i.ensures.inside, c.keep_part-k-in-Char.ensures.few, λ q. c.if-byte_at-eq34.false (c.byte_at.ensures ∙ q), λ l. more c l)

@@ -18,14 +18,7 @@ pub shape_of-out-then-not-is_plain : goal.shape_of-out-then-not-is_plain
 shape_of-out-then-not-is_plain c = c.loop-i.invariant.size ∙ length-set c.args.out.now 0 34
 
 pub returns-then-not-is_plain : goal.returns-then-not-is_plain
-returns-then-not-is_plain c =
-    let r = (
-      λ e. never (sym e),
-      (
-        λ e. never (sym e),
-        λ v. never (sym (v.each c.loop-i.i zero-le c.loop-i-test.true) ∙ sym c.is_plain.ensures ∙ c.if-not-is_plain.true),
-      ),
-    ) in record { plain = r.0; put = r.1; done = r.2 }
+returns-then-not-is_plain c = record { plain = λ e. never (sym e); put = λ e. never (sym e); done = λ v. never (sym (v.each c.loop-i.i zero-le c.loop-i-test.true) ∙ sym c.is_plain.ensures ∙ c.if-not-is_plain.true) }
 
 pub bounds-out-i : goal.bounds-out-i
 bounds-out-i c = omega (arith, c.loop-i.invariant.size, c.loop-i.invariant.room, c.loop-i-test.true)
@@ -43,4 +36,4 @@ pub shape_of-out : goal.shape_of-out
 shape_of-out c = length-set c.loop-i.out (c.loop-i.i + 1) 34 ∙ c.loop-i.invariant.size ∙ length-set c.args.out.now 0 34
 
 pub returns : goal.returns
-returns c = let r = (λ _. quoting_plain _ _ _ c.loop-i.i c.loop-i.invariant c.loop-i-test.false, (λ _. quoting_all _ _ _ c.loop-i.i c.loop-i.invariant c.loop-i-test.false, λ _. refl)) in record { plain = r.0; put = r.1; done = r.2 }
+returns c = record { plain = λ _. quoting_plain _ _ _ c.loop-i.i c.loop-i.invariant c.loop-i-test.false; put = λ _. quoting_all _ _ _ c.loop-i.i c.loop-i.invariant c.loop-i-test.false; done = λ _. refl }

@@ -7,19 +7,14 @@ use lib.ListN.{length}
 use Rattle.jsontext.proofs.LeadRows.{lead_none, lead_bad, lead_more, lead_inside, second_inside}
 use Rattle.jsontext.proofs.utf8.sequence.Goals as goal
 
--- a lead byte stands inside
-module _ (c : tie.Else1) where
-  inside : c.before.before.before.before.args.at < length c.before.before.before.before.args.text.now
-  inside = lead_inside c.before.before.before.before.args.text.now c.before.before.before.before.args.at _ _ c.before.before.byte_at.ensures c.before.follows.ensures.0 c.if1.false
-
 pub returns-then-n-eq0 : goal.returns-then-n-eq0
 returns-then-n-eq0 c = lead_none c.args.text.now c.args.at _ _ c.byte_at-b.ensures c.byte_at-b.type_inv c.follows-n.ensures.0 c.if-n-eq0.true
 
 pub overflow_add-at : goal.overflow_add-at
-overflow_add-at c = omega (arith, inside c)
+overflow_add-at c = omega (arith, (let h-inside : c.args.at < length c.args.text.now = lead_inside c.args.text.now c.args.at _ _ c.byte_at-b.ensures c.follows-n.ensures.0 c.if-n-eq0.false in h-inside))
 
 pub overflow_add-result : goal.overflow_add-result
-overflow_add-result c = omega (arith, inside c)
+overflow_add-result c = omega (arith, (let h-inside : c.args.at < length c.args.text.now = lead_inside c.args.text.now c.args.at _ _ c.byte_at-b.ensures c.follows-n.ensures.0 c.if-n-eq0.false in h-inside))
 
 pub returns-then-not-within : goal.returns-then-not-within
 returns-then-not-within c =

@@ -11,8 +11,8 @@ use Rattle.jsontext.proofs.written.same_few.Goals as goal
 
 pub same_word-requires : goal.same_word-requires
 same_word-requires c =
-    let r = let first = length c.args.text.now - c.args.i in
+    let first = length c.args.text.now - c.args.i in
     let second = length c.args.bytes.now - c.args.j in
     let (e, f) = neither (eqb c.args.n 0 || ltb first 8) (ltb second 8) c.if-n-text.false in
     let (g, h) = neither (eqb c.args.n 0) (ltb first 8) e in
-    ((omega (arith, eqb-false c.args.n 0 g), omega arith), (omega (arith, ltb-false first 8 h), omega (arith, ltb-false second 8 f))) in record { some = r.0; first = r.1; second = r.2 }
+    record { some = (omega (arith, eqb-false c.args.n 0 g), omega arith); first = omega (arith, ltb-false first 8 h); second = omega (arith, ltb-false second 8 f) }

@@ -1,0 +1,128 @@
+use Prim.Native.Nat.{ℕ, ◌+◌, ◌-◌, ◌*◌, ◌<◌}
+use mathlib.Core.Path.{◌≡◌, refl, sym, ap, ◌∙◌}
+use mathlib.Core.Bool.{true}
+use native.Mathlib.Omega.{arith}
+use borrow.Author.Rules.{rules}
+use borrow.Author.Tests.{not-true, not-false}
+use lib.ListN.{length, get_or}
+use Rattle.document.specs.Rows.{rows_below}
+use Rattle.document.specs.declared.scalar.Scalar.TheVariants.{Bare}
+use Rattle.names.specs.Names.{letter?, find_in}
+use Rattle.names.specs.Table.{name_in}
+use Rattle.term.specs.Grammar.{after_args, read_term}
+use Rattle.term.specs.State.{setting_of, named_of}
+use Rattle.base.proofs.Bytes.{byte_inside}
+use Rattle.term.proofs.Ending.{says_by}
+use Rattle.term.proofs.Reading.{no_letter, too_deep, term_unnamed, term_leaf, term_args}
+use Rattle.term.proofs.Listing.{Listing, list_start, list_refused, list_ready, list_ahead, list_held, list_last, list_other, list_more, says_bare}
+use Rattle.term.proofs.Meaning.{term_ahead, term_ends}
+use Rattle.term.proofs.reader.+arguments_term.Goals as goal
+
+pub arguments-loop-w-init : goal.arguments-loop-w-init
+arguments-loop-w-init t c = (
+  list_start _ _ _ _ _ _ _ _ _ _ _ c.no_children-fields.ensures refl c.requires.ready,
+  refl,
+  ap (λ f. f.symbol) c.no_children-fields.ensures,
+  ap (λ f. f.scalar) c.no_children-fields.ensures,
+)
+
+pub arguments-term-requires : goal.arguments-term-requires
+arguments-term-requires t c = (omega (arith, c.decreases), (c.loop-w.invariant.0.ready, c.requires.1))
+
+pub arguments-returns-in-Refused : goal.arguments-returns-in-Refused
+arguments-returns-in-Refused t c =
+    says_by _ _ _ _
+    (ap (after_args _ c.args.first c.args.symbol)
+    (list_refused _ _ _ _ _ (term_ends _ _ _) (term_ahead _ _ _ _ c.requires.counted _ _) _ _ _ _ _ c.loop-w.fields c.loop-w.invariant.0 _ _ _ c.term.ensures _ _ c.in-Refused.is))
+    refl
+
+pub arguments-overflow_add-count : goal.arguments-overflow_add-count
+arguments-overflow_add-count t c =
+    omega (
+      arith,
+      c.loop-w.invariant.0.few,
+      c.well_formed.0,
+      list_ahead _ _ _ _ _ (term_ends _ _ _) (term_ahead _ _ _ _ c.requires.counted _ _) _ _ _ _ _ c.loop-w.fields c.loop-w.invariant.0 _ _ _ c.term.ensures _ _ _ c.in-Read.is,
+    )
+
+pub arguments-overflow_add-next : goal.arguments-overflow_add-next
+arguments-overflow_add-next t c = omega (arith, c.well_formed.0, byte_inside c.args.text.now c.in-Read.next c.byte_at-b.result c.byte_at-b.ensures (omega (arith, c.if-b-eq41.true)))
+
+pub arguments-end_term-requires : goal.arguments-end_term-requires
+arguments-end_term-requires t c = (
+  list_ready _ _ _ _ _ (term_ends _ _ _) (term_ahead _ _ _ _ c.requires.counted _ _) _ _ _ _ _ c.loop-w.fields c.loop-w.invariant.0 _ _ _ c.term.ensures _ _ _ c.in-Read.is,
+  c.requires.sound,
+)
+
+pub arguments-returns-then-b-eq41 : goal.arguments-returns-then-b-eq41
+arguments-returns-then-b-eq41 t c =
+    says_by _ _ _ _
+    (ap (after_args _ c.args.first c.args.symbol)
+    (list_last _ _ _ _ _ (term_ends _ _ _) (term_ahead _ _ _ _ c.requires.counted _ _) _ _ _ _ _ c.loop-w.fields c.loop-w.invariant.0 _ _ _ c.term.ensures _ _ _ c.in-Read.is
+    (sym c.byte_at-b.ensures ∙ c.if-b-eq41.true)))
+    (says_bare _ _ _ _ _ _ _ _ _ _ c.with_child-fields.result (ap (λ f. f.symbol) c.with_child-fields.ensures ∙ c.loop-w.invariant.2) (ap (λ f. f.scalar) c.with_child-fields.ensures ∙ c.loop-w.invariant.3)
+    (c.end_term.ensures _
+    (list_held _ _ _ _ _ (term_ends _ _ _) (term_ahead _ _ _ _ c.requires.counted _ _) _ _ _ _ _ c.loop-w.fields c.loop-w.invariant.0 _ _ _ c.term.ensures _ _ _ c.in-Read.is _ c.with_child-fields.ensures)))
+
+pub arguments-returns-then-b-ne44 : goal.arguments-returns-then-b-ne44
+arguments-returns-then-b-ne44 t c =
+    says_by _ _ _ _
+    (ap (after_args _ c.args.first c.args.symbol)
+    (list_other _ _ _ _ _ (term_ends _ _ _) (term_ahead _ _ _ _ c.requires.counted _ _) _ _ _ _ _ c.loop-w.fields c.loop-w.invariant.0 _ _ _ c.term.ensures _ _ _ c.in-Read.is
+    (λ e. c.if-b-ne44.true (c.byte_at-b.ensures ∙ e)) (λ e. c.if-b-eq41.false (c.byte_at-b.ensures ∙ e))))
+    refl
+
+pub arguments-overflow_add-at : goal.arguments-overflow_add-at
+arguments-overflow_add-at t c = omega (arith, c.well_formed.0, byte_inside c.args.text.now c.in-Read.next c.byte_at-b.result c.byte_at-b.ensures (omega (arith, c.if-b-ne44.false)))
+
+pub arguments-loop-w-smaller : goal.arguments-loop-w-smaller
+arguments-loop-w-smaller t c =
+    omega (
+      arith,
+      list_ahead _ _ _ _ _ (term_ends _ _ _) (term_ahead _ _ _ _ c.requires.counted _ _) _ _ _ _ _ c.loop-w.fields c.loop-w.invariant.0 _ _ _ c.term.ensures _ _ _ c.in-Read.is,
+    )
+
+pub arguments-loop-w-preserved : goal.arguments-loop-w-preserved
+arguments-loop-w-preserved t c = (
+  list_more _ _ _ _ _ (term_ends _ _ _) (term_ahead _ _ _ _ c.requires.counted _ _) _ _ _ _ _ c.loop-w.fields c.loop-w.invariant.0 _ _ _ c.term.ensures _ _ _ c.in-Read.is _ c.with_child-fields.ensures
+      (sym c.byte_at-b.ensures ∙ c.if-b-ne44.false),
+  search rules,
+  ap (λ f. f.symbol) c.with_child-fields.ensures ∙ c.loop-w.invariant.2,
+  ap (λ f. f.scalar) c.with_child-fields.ensures ∙ c.loop-w.invariant.3,
+)
+
+pub term-returns-then-not-is_letter : goal.term-returns-then-not-is_letter
+term-returns-then-not-is_letter t c =
+    says_by _ _ _ _
+    (no_letter _ _ _ _ _ (ap letter? (sym c.byte_at.ensures) ∙ sym (c.is_letter.ensures.compared c.requires.lent) ∙ c.if-not-is_letter.true))
+    refl
+
+pub term-returns-then-level-eq0 : goal.term-returns-then-level-eq0
+term-returns-then-level-eq0 t c = says_by _ _ _ _ (too_deep _ _ _ _ (term-letter t c) _ c.if-level-eq0.true) refl
+
+pub term-symbol_at-requires : goal.term-symbol_at-requires
+term-symbol_at-requires t c = (term-letter t c, search rules)
+
+pub term-returns-then-byte_at-ne40 : goal.term-returns-then-byte_at-ne40
+term-returns-then-byte_at-ne40 t c =
+    says_by _ _ _ _
+    (term_leaf _ _ _ _ (term-letter t c) _ _ (sym c.symbol_at.ensures ∙ ap named_of c.in-Symbol.is) _ c.if-level-eq0.false (λ e. c.if-byte_at-ne40.true (c.byte_at-in-Symbol.ensures ∙ e)))
+    (c.leaf.ensures (find_in c.args.symbols (name_in c.args.names.now)))
+
+pub term-overflow_add-end : goal.term-overflow_add-end
+term-overflow_add-end t c = omega (arith, c.well_formed.0, byte_inside c.args.text.now c.in-Symbol.end c.byte_at-in-Symbol.result c.byte_at-in-Symbol.ensures (omega (arith, c.if-byte_at-ne40.false)))
+
+pub term-arguments-requires : goal.term-arguments-requires
+term-arguments-requires t c = (omega (arith, c.decreases, c.if-level-eq0.false), c.requires)
+
+pub term-returns-in-Unnamed : goal.term-returns-in-Unnamed
+term-returns-in-Unnamed t c =
+    says_by _ _ _ _
+    (term_unnamed _ _ _ _ (term-letter t c) _ _ _ c.if-level-eq0.false (sym c.symbol_at.ensures ∙ ap named_of c.in-Unnamed.is))
+    refl
+
+pub term-returns-else-byte_at-ne40 : goal.term-returns-else-byte_at-ne40
+term-returns-else-byte_at-ne40 t c =
+    says_by _ _ _ _
+    (term_args _ _ _ _ (term-letter t c) _ _ (sym c.symbol_at.ensures ∙ ap named_of c.in-Symbol.is) _ c.if-level-eq0.false (sym c.byte_at-in-Symbol.ensures ∙ c.if-byte_at-ne40.false))
+    c.arguments.ensures

@@ -1,0 +1,15 @@
+-- A scalar and the term's end, or a fault. Assumes nothing.
+use mathlib.Core.Path.{refl}
+use borrow.Author.Rules.{rules}
+use Rattle.term.proofs.Ending.{says_by}
+use Rattle.term.proofs.Listing.{says_childless}
+use Rattle.term.proofs.Reading.{leaf_scalar, leaf_fault}
+use Rattle.term.proofs.reader.leaf.Goals as goal
+
+pub returns-in-Is : goal.returns-in-Is
+returns-in-Is c find =
+    says_by _ _ _ _ (leaf_scalar _ _ _ _ _ _ c.scalar_at.ensures _ _ c.in-Is.is)
+    (says_childless _ _ _ _ _ _ _ _ _ _ _ c.no_children-fields.ensures c.end_term.ensures)
+
+pub returns-in-Fault : goal.returns-in-Fault
+returns-in-Fault c find = says_by _ _ _ _ (leaf_fault _ _ _ _ _ _ c.scalar_at.ensures _ c.in-Fault.is) refl

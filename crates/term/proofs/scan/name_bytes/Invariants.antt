@@ -1,0 +1,17 @@
+-- At the loop's head the first n bytes are a name's. Assumes nothing.
+use Prim.Native.Nat.{◌+◌, ◌-◌}
+use mathlib.Core.Path.{◌≡◌}
+use native.Mathlib.Omega.{arith}
+use borrow.Author.Rules.{rules}
+use borrow.Author.Tests.{not-true, not-false}
+use Rattle.names.specs.Names.{name_byte?}
+use Rattle.term.specs.Scan.{byte_at, name_bytes}
+use Rattle.term.proofs.Bytes.{name_inside}
+use Rattle.base.proofs.Leading.{Led, led_none, led_more, led_stop, led_all}
+use Rattle.term.proofs.scan.name_bytes.Given as goal
+
+abbrev pub invariant-loop-n : goal.invariant-loop-n
+invariant-loop-n l = (l.i ≡ l.at + l.n) × Led (λ k. name_byte? (byte_at l.text (l.at + k))) 17 l.n
+
+abbrev pub decreases-loop-n : goal.decreases-loop-n
+decreases-loop-n l = 17 - l.n
