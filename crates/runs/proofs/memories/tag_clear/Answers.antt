@@ -39,7 +39,7 @@ pub shape_of-cells-then-not-after : goal.shape_of-cells-then-not-after
 shape_of-cells-then-not-after c = search tracking
 
 pub returns-then-not-after : goal.returns-then-not-after
-returns-then-not-after c = clashed c.args.run.now _ _ _ _ _ c.requires.0 _ _ _ (let h-step : Stepped (decode_steps c.args.run.now) c.args.n c.args.k c.args.masks.now c.args.forgets.now c.args.cells.now c.loop-i.cells c.loop-i.i c.left-after.result = stepped _ _ _ _ _ _ c.requires.0 c.loop-i.cells c.loop-i.i c.loop-i.invariant c.loop-i-test.true _ _ _ _ _ c.left-after.result c.size-at.ensures.0 refl refl c.row.ensures c.from_children-j.ensures c.left-after.ensures in h-step) c.if-not-after.true
+returns-then-not-after c = clashed c.args.run.now _ _ _ _ _ c.requires.0 _ _ _ (let h-step : Stepped (decode_steps c.args.run.now) c.args.n c.args.k c.args.masks.now c.args.forgets.now c.args.cells.now c.loop-i.cells c.loop-i.i c.left-after.result = stepped _ _ _ _ _ _ c.requires.0 c.loop-i.cells c.loop-i.i c.loop-i.invariant c.loop-i-test.true _ _ _ _ _ c.left-after.result c.size-at.ensures.0 refl refl c.row.ensures c.from_children-j.ensures c.left-after.ensures in h-step) (not-true _ c.if-not-after.true)
 
 pub offset_bounds-cells-at : goal.offset_bounds-cells-at
 offset_bounds-cells-at c = search tracking
@@ -51,7 +51,7 @@ pub loop-i-smaller : goal.loop-i-smaller
 loop-i-smaller c = search tracking
 
 pub loop-i-preserved : goal.loop-i-preserved
-loop-i-preserved c = tracking_more c.args.run.now _ _ _ _ _ c.requires.0 _ _ _ (let h-step : Stepped (decode_steps c.args.run.now) c.args.n c.args.k c.args.masks.now c.args.forgets.now c.args.cells.now c.loop-i.cells c.loop-i.i c.left-after.result = stepped _ _ _ _ _ _ c.requires.0 c.loop-i.cells c.loop-i.i c.loop-i.invariant c.loop-i-test.true _ _ _ _ _ c.left-after.result c.size-at.ensures.0 refl refl c.row.ensures c.from_children-j.ensures c.left-after.ensures in h-step) _ _ c.if-not-after.false c.size-at.ensures.0 refl
+loop-i-preserved c = tracking_more c.args.run.now _ _ _ _ _ c.requires.0 _ _ _ (let h-step : Stepped (decode_steps c.args.run.now) c.args.n c.args.k c.args.masks.now c.args.forgets.now c.args.cells.now c.loop-i.cells c.loop-i.i c.left-after.result = stepped _ _ _ _ _ _ c.requires.0 c.loop-i.cells c.loop-i.i c.loop-i.invariant c.loop-i-test.true _ _ _ _ _ c.left-after.result c.size-at.ensures.0 refl refl c.row.ensures c.from_children-j.ensures c.left-after.ensures in h-step) _ _ (not-false _ c.if-not-after.false) c.size-at.ensures.0 refl
 
 pub shape_of-cells : goal.shape_of-cells
 shape_of-cells c = search tracking
