@@ -1,0 +1,13 @@
+-- `membership::chains::open_window` meets its contract. Assumes nothing.
+use Prim.Native.Nat.{◌-◌}
+use native.Mathlib.Omega.{arith}
+use borrow.Author.Rules.{rules}
+use Rattle.membership.specs.Chains.{class_in}
+use Rattle.membership.proofs.States.{Threading, opening_few, thread_none, thread_more, thread_all, head_of}
+use Rattle.membership.proofs.chains.open_window.Given as goal
+
+abbrev pub invariant-loop-j : goal.invariant-loop-j
+invariant-loop-j l = Threading (class_in l.work) l.p l.low l.high l.initial.heads l.initial.links l.heads l.links l.j
+
+abbrev pub decreases-loop-j : goal.decreases-loop-j
+decreases-loop-j l = l.j

@@ -1,0 +1,10 @@
+-- `membership::entries::choosable` meets its contract. Assumes nothing.
+use borrow.Author.Rules.{rules}
+use Rattle.membership.proofs.Reading.{cells}
+use Rattle.membership.proofs.entries.choosable.Goals as goal
+
+pub returns-then-work-at : goal.returns-then-work-at
+returns-then-work-at c = search cells
+
+pub returns : goal.returns
+returns c = search cells

@@ -1,0 +1,20 @@
+use borrow.Author.Rules.{rules}
+use Rattle.model.specs.Annotation.{annotation}
+use Rattle.membership.specs.Cells.{memory_of}
+use Rattle.membership.proofs.Chain.{Walking, walks}
+use Rattle.membership.proofs.index.is_known.Goals as goal
+
+pub loop-i-init : goal.loop-i-init
+loop-i-init c = search walks
+
+pub is_same-requires : goal.is_same-requires
+is_same-requires c = search walks
+
+pub returns-then-is_same : goal.returns-then-is_same
+returns-then-is_same c = search walks
+
+pub loop-i-preserved : goal.loop-i-preserved
+loop-i-preserved c = search walks
+
+pub returns : goal.returns
+returns c = search walks

@@ -1,0 +1,10 @@
+-- `membership::judge` meets its contract: the set and the table are tried first, then the judging. Assumes nothing.
+use borrow.Author.Rules.{rules}
+use Rattle.membership.proofs.Meaning.{judges}
+use Rattle.membership.proofs.judge.Goals as goal
+
+pub decide-requires : goal.decide-requires
+decide-requires c = search judges
+
+pub returns-in-Refused : goal.returns-in-Refused
+returns-in-Refused c = search judges

@@ -1,0 +1,15 @@
+-- `membership::table::by_row` meets its contract. Assumes nothing.
+use mathlib.Core.Path.{ap, ◌∙◌}
+use Prim.Native.Nat.{◌+◌, ◌-◌}
+use native.Mathlib.Omega.{arith}
+use borrow.Author.Rules.{rules}
+use Rattle.automaton.specs.Stored.{decode}
+use Rattle.membership.proofs.FirstRules.{first_at}
+use Rattle.membership.proofs.Rowing.{Rowing, separate_of, few_rules, width_small, symbol_small, rowing_start, next_ready, next_windows, few_here, rowing_more, rowing_full, rowing_all}
+use Rattle.membership.proofs.table.by_row.Given as goal
+
+abbrev pub invariant-loop-r : goal.invariant-loop-r
+invariant-loop-r l = Rowing l.set l.rows l.starts l.rules l.initial.work l.initial.slots l.i.0 l.tags l.room l.n l.f l.width l.plan l.heads l.links l.end l.initial.r l.work l.slots l.children l.tried l.m l.r
+
+abbrev pub decreases-loop-r : goal.decreases-loop-r
+decreases-loop-r l = l.end - l.r

@@ -1,0 +1,12 @@
+-- `membership::table::plan_for` meets its contract. Assumes nothing.
+use mathlib.Core.Path.{ap, ◌∙◌}
+use Prim.Native.Nat.{◌-◌}
+use Rattle.document.specs.Check.{place_in}
+use Rattle.membership.proofs.Own.{Planning, planning_more, planning}
+use Rattle.membership.proofs.table.plan_for.Given as goal
+
+abbrev pub invariant-loop-p : goal.invariant-loop-p
+invariant-loop-p l = Planning l.rows l.starts l.i.0 l.tags l.arity l.base l.room l.out l.p
+
+abbrev pub decreases-loop-p : goal.decreases-loop-p
+decreases-loop-p l = l.arity - l.p

@@ -1,0 +1,13 @@
+-- `membership::table::read_rules` meets its contract. Assumes nothing.
+use Prim.Native.Nat.{◌-◌}
+use native.Mathlib.Omega.{arith}
+use borrow.Author.Rules.{rules}
+use Rattle.automaton.specs.Stored.{decode}
+use Rattle.membership.proofs.Rules.{Reading, reading_none, reading_more, reading_all}
+use Rattle.membership.proofs.table.read_rules.Given as goal
+
+abbrev pub invariant-loop-r : goal.invariant-loop-r
+invariant-loop-r l = Reading (decode l.set) l.n l.rules l.r
+
+abbrev pub decreases-loop-r : goal.decreases-loop-r
+decreases-loop-r l = l.n - l.r

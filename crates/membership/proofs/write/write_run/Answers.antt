@@ -1,0 +1,22 @@
+-- `membership::write::write_run` meets its contract: nothing is written where no annotation is accepting, else the run of the first. Assumes nothing.
+use mathlib.Core.Path.{refl}
+use borrow.Author.Rules.{rules}
+use Rattle.automaton.specs.Stored.{decode}
+use Rattle.automaton.proofs.Sound.{sound_decode}
+use Rattle.document.specs.Rows.{decode_rows}
+use Rattle.membership.proofs.ByRow.{few_children}
+use Rattle.membership.proofs.Rowing.{tags_small}
+use Rattle.membership.proofs.Handing.{nothing_written, run_written}
+use Rattle.membership.proofs.write.write_run.Goals as goal
+
+pub returns-then-root-n : goal.returns-then-root-n
+returns-then-root-n c =
+    let narrow = few_children (decode c.args.set.now) (decode_rows c.args.rows.now) (sound_decode c.args.set.now c.requires.set_value.0) c.requires.set_value.1 in
+    let tags = tags_small c.args.set.now (decode c.args.set.now).tags c.requires.set_value.0 refl in
+    nothing_written (decode c.args.set.now) (decode_rows c.args.rows.now) narrow tags c.args.work.now c.args.n c.last_row-last.result.0 c.first_accepting-root.result c.requires.n_le_max_steps.0 c.requires.n_value.0 c.requires.n_value.1 c.last_row-last.ensures c.first_accepting-root.ensures c.args.run.now c.if-root-n.true
+
+pub returns : goal.returns
+returns c =
+    let narrow = few_children (decode c.args.set.now) (decode_rows c.args.rows.now) (sound_decode c.args.set.now c.requires.set_value.0) c.requires.set_value.1 in
+    let tags = tags_small c.args.set.now (decode c.args.set.now).tags c.requires.set_value.0 refl in
+    run_written (decode c.args.set.now) (decode_rows c.args.rows.now) narrow tags c.args.work.now c.args.n c.last_row-last.result.0 c.first_accepting-root.result c.requires.n_le_max_steps.0 c.requires.n_value.0 c.requires.n_value.1 c.last_row-last.ensures c.first_accepting-root.ensures c.args.run.now c.if-root-n.false c.trace.new.work c.write_steps.new.run.0 c.write_steps.result c.trace.ensures c.write_steps.ensures
