@@ -1,4 +1,3 @@
-#![tactic(auto)]
 // The cases and edges of document 01, section "Examples, with the edges", and the byte classes, the two zeros, the wide form and the lists of equal pairs of document 02, run: a line for each, and `stdout` has what the papers say.
 #![tactic(auto)]
 

@@ -1,4 +1,3 @@
-#![tactic(auto)]
 // The judging program: reads a stored set and a text directly behind it, and prints whether the set lets the document in. Where the input cannot be read to its end it prints nothing.
 #![tactic(auto)]
 

@@ -1,4 +1,3 @@
-#![tactic(auto)]
 // The sample program: reads a stored set, and prints the height and the text of the lowest document that it lets in, or that it is dead. Where the input cannot be read to its end it prints nothing.
 #![tactic(auto)]
 

@@ -1,5 +1,6 @@
-#![tactic(auto)]
 // A program's input, read to its end. A read that fails is told, and is never taken for the end.
+#![tactic(auto)]
+
 ghost use Rattle.std.specs.Prelude.{◌≡◌, ◌+◌, ◌-◌, ◌≤◌, ◌<◌, length, take, drop, IfOk};
 ghost use Rattle.stream.specs.Reading.{after_read, Ahead, Within, HeardOf, ReceivedOf};
 
@@ -59,4 +60,62 @@ pub fn receive<R: Read>(input: &mut R, space: &mut [u8]) -> Received
         }
     }
     Received::Whole(done)
+}
+
+#[cfg(test)]
+mod tests {
+    use super::*;
+
+    // Gives a byte a read, so many times, and then fails.
+    #[derive(Drop)]
+    struct Failing {
+        left: u8,
+    }
+
+    impl Read for Failing {
+        fn read(&mut self, buf: &mut [u8]) -> io::Result<usize> {
+            if buf.len() == 0 {
+                return Ok(0);
+            }
+            if self.left == 0 {
+                return Err(io::Error::from(io::ErrorKind::WouldBlock));
+            }
+            buf[0] = self.left;
+            self.left -= 1;
+            Ok(1)
+        }
+    }
+
+    #[test]
+    fn an_input_that_ends(rt: HostRuntime) {
+        let mut space = [0u8; 4];
+        let mut input: &[u8] = b"abc";
+        assert!(rt; matches!(receive(&mut input, &mut space), Received::Whole(3)));
+        assert_eq!(rt; &space, b"abc\0");
+    }
+
+    #[test]
+    fn an_input_longer_than_the_space(rt: HostRuntime) {
+        let mut space = [0u8; 4];
+        let mut input: &[u8] = b"abcdef";
+        assert!(rt; matches!(receive(&mut input, &mut space), Received::Whole(4)));
+        assert_eq!(rt; &space, b"abcd");
+    }
+
+    #[test]
+    fn a_read_that_fails(rt: HostRuntime) {
+        let mut space = [0u8; 4];
+        assert!(rt;
+            matches!(
+                receive(&mut Failing { left: 3 }, &mut space),
+                Received::Failed
+            )
+        );
+        assert!(rt;
+            matches!(
+                receive(&mut Failing { left: 4 }, &mut space),
+                Received::Whole(4)
+            )
+        );
+    }
 }
