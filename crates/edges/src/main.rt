@@ -11,7 +11,6 @@ use console::OUTPUT;
 use document::Scalar;
 use document::fields::RowFields;
 use document::rows::{Row, put_row};
-use libc::STDOUT_FILENO;
 use membership::Judged;
 use spelling::TermWritten;
 use term::TermRead;
@@ -46,26 +45,30 @@ const TWO_ZEROS: [u8; 43] = *b"s0(s1~0000000000000000,s1~8000000000000000)";
 // The cells of 1,025 rows.
 const CELLS: usize = 10250;
 
-fn say(bytes: &[u8]) {
-    io::write_all(STDOUT_FILENO, bytes);
+// A name or a line. What cannot be written is missing from the output, as are the lines of a reader who went away.
+fn say(rt: &impl Print, text: &str) {
+    let _ = rt.print(text);
 }
 
-fn refused(n: u16) {
-    say(b"refused ");
-    io::print_decimal(STDOUT_FILENO, n as u64);
-    say(b"\n");
+// What a program prints, or a text that was written into a space.
+fn show(rt: &impl Print, bytes: &[u8]) {
+    let _ = rt.write_all(bytes);
 }
 
-fn checked(c: Checked) {
+fn refused(rt: &impl Print, n: u16) {
+    let _ = println!(rt; "refused {n}");
+}
+
+fn checked(rt: &impl Print, c: Checked) {
     match c {
-        Checked::Passed => say(b"sound\n"),
-        Checked::Refused(n) => refused(n),
+        Checked::Passed => say(rt, "sound\n"),
+        Checked::Refused(n) => refused(rt, n),
     }
 }
 
 // A case's name, and what the judging program prints for a set and a text.
-fn judge(case: &[u8], set: &[u8], text: &[u8]) {
-    say(case);
+fn judge(rt: &impl Print, case: &str, set: &[u8], text: &[u8]) {
+    say(rt, case);
     if set.len() > 128 {
         return;
     }
@@ -78,111 +81,112 @@ fn judge(case: &[u8], set: &[u8], text: &[u8]) {
     let n = set.len() + text.len();
     let mut output = [0u8; OUTPUT];
     let k = console::judge(&input[..n], &mut output);
-    say(&output[..k]);
+    show(rt, &output[..k]);
 }
 
 // A case's name, and what the sample program prints for a set.
-fn sample(case: &[u8], set: &[u8]) {
-    say(case);
+fn sample(rt: &impl Print, case: &str, set: &[u8]) {
+    say(rt, case);
     let mut output = [0u8; OUTPUT];
     let k = console::sample(set, &mut output);
-    say(&output[..k]);
+    show(rt, &output[..k]);
 }
 
 // How many bytes of a space of 128 a set was written to.
-fn moved(answer: Written) -> usize
+fn moved(rt: &impl Print, answer: Written) -> usize
     ensures { result ≤ 128 }
 {
     match answer {
         Written::Length(n) => if n > 128 { 128 } else { n },
         Written::Refused(n) => {
-            refused(n);
+            refused(rt, n);
             0
         },
     }
 }
 
 // A case of a set in some form.
-fn case(form: &[u8], name: &[u8], set: &[u8], text: &[u8]) {
-    say(form);
-    judge(name, set, text);
+fn case(rt: &impl Print, form: &str, name: &str, set: &[u8], text: &[u8]) {
+    say(rt, form);
+    judge(rt, name, set, text);
 }
 
 // The sets of document 01 and their texts, of sets in some form.
-fn documents(form: &[u8], e: &[u8], g: &[u8], b: &[u8]) {
-    case(form, b"E, pair(a=7,a=7): ", e, b"s0(s1=7,s1=7)");
-    case(form, b"E, pair(a=7,a=8): ", e, b"s0(s1=7,s1=8)");
-    case(form, b"E, pair(a,b): ", e, b"s0(s1,s2)");
-    case(form, b"E, a: ", e, b"s1");
-    case(form, b"E, the two zeros: ", e, &TWO_ZEROS);
+fn documents(rt: &impl Print, form: &str, e: &[u8], g: &[u8], b: &[u8]) {
+    case(rt, form, "E, pair(a=7,a=7): ", e, b"s0(s1=7,s1=7)");
+    case(rt, form, "E, pair(a=7,a=8): ", e, b"s0(s1=7,s1=8)");
+    case(rt, form, "E, pair(a,b): ", e, b"s0(s1,s2)");
+    case(rt, form, "E, a: ", e, b"s1");
+    case(rt, form, "E, the two zeros: ", e, &TWO_ZEROS);
     case(
+        rt,
         form,
-        b"E, a zero and the rate next to the other: ",
+        "E, a zero and the rate next to the other: ",
         e,
         b"s0(s1~0000000000000000,s1~8000000000000001)",
     );
-    case(form, b"G, g(g(a)): ", g, b"s0(s0(s1))");
-    case(form, b"G, g(g(g(g(a)))): ", g, b"s0(s0(s0(s0(s1))))");
-    case(form, b"B, pair(a,a): ", b, b"s0(s1,s1)");
+    case(rt, form, "G, g(g(a)): ", g, b"s0(s0(s1))");
+    case(rt, form, "G, g(g(g(g(a)))): ", g, b"s0(s0(s0(s0(s1))))");
+    case(rt, form, "B, pair(a,a): ", b, b"s0(s1,s1)");
 }
 
-fn samples(form: &[u8], e: &[u8], d: &[u8]) {
-    say(form);
-    sample(b"E at the sample: ", e);
-    say(form);
-    sample(b"D at the sample: ", d);
+fn samples(rt: &impl Print, form: &str, e: &[u8], d: &[u8]) {
+    say(rt, form);
+    sample(rt, "E at the sample: ", e);
+    say(rt, form);
+    sample(rt, "D at the sample: ", d);
 }
 
 // The same of the sets in the wide form.
-fn widened() {
+fn widened(rt: &impl Print) {
     let mut e = [0u8; 128];
     let mut g = [0u8; 128];
     let mut b = [0u8; 128];
     let mut d = [0u8; 128];
-    let i = moved(forms::widen_states(&E, &mut e));
-    let j = moved(forms::widen_states(&G, &mut g));
-    let k = moved(forms::widen_states(&B, &mut b));
-    let l = moved(forms::widen_states(&D, &mut d));
-    documents(b"wide ", &e[..i], &g[..j], &b[..k]);
-    samples(b"wide ", &e[..i], &d[..l]);
+    let i = moved(rt, forms::widen_states(&E, &mut e));
+    let j = moved(rt, forms::widen_states(&G, &mut g));
+    let k = moved(rt, forms::widen_states(&B, &mut b));
+    let l = moved(rt, forms::widen_states(&D, &mut d));
+    documents(rt, "wide ", &e[..i], &g[..j], &b[..k]);
+    samples(rt, "wide ", &e[..i], &d[..l]);
 }
 
 // The cases of E and B demanded together, as a set in some form.
-fn demanded(form: &[u8], set: &[u8]) {
-    case(form, b"E and B, pair(a=1,a=2): ", set, b"s0(s1=1,s1=2)");
-    case(form, b"E and B, pair(a,a): ", set, b"s0(s1,s1)");
-    say(form);
-    sample(b"E and B at the sample: ", set);
+fn demanded(rt: &impl Print, form: &str, set: &[u8]) {
+    case(rt, form, "E and B, pair(a=1,a=2): ", set, b"s0(s1=1,s1=2)");
+    case(rt, form, "E and B, pair(a,a): ", set, b"s0(s1,s1)");
+    say(rt, form);
+    sample(rt, "E and B at the sample: ", set);
 }
 
 // E and B demanded together are written in the wide form; and the same in the narrow one.
-fn together() {
+fn together(rt: &impl Print) {
     let mut both = [0u8; 128];
-    let n = moved(boolean::product(&E, &B, &mut both));
-    demanded(b"wide ", &both[..n]);
+    let n = moved(rt, boolean::product(&E, &B, &mut both));
+    demanded(rt, "wide ", &both[..n]);
     let mut narrow = [0u8; 128];
-    let k = moved(forms::narrow_states(&both[..n], &mut narrow));
-    demanded(b"", &narrow[..k]);
+    let k = moved(rt, forms::narrow_states(&both[..n], &mut narrow));
+    demanded(rt, "", &narrow[..k]);
 }
 
 // pair(a=7,a=7) with room for one annotation.
-fn little_room() {
+fn little_room(rt: &impl Print) {
     let mut cells = [0u16; 20];
     put_row(&mut cells, Row(0), leaf(7));
     put_row(&mut cells, Row(1), pair(Row(0), Row(0)));
     let mut work = [0u16; 32];
     let mut run = [0u16; 6];
-    say(b"E, pair(a=7,a=7), room 1: ");
+    say(rt, "E, pair(a=7,a=7), room 1: ");
     match membership::judge(&E, &cells, &mut work, &mut run) {
-        Judged::Yes(_) => say(b"yes\n"),
-        Judged::No => say(b"no\n"),
-        Judged::Refused(n) => refused(n),
+        Judged::Yes(_) => say(rt, "yes\n"),
+        Judged::No => say(rt, "no\n"),
+        Judged::Refused(n) => refused(rt, n),
     }
 }
 
 // A set of so many symbols, one state and no rules, all numbers below 256.
-fn symbols(case: &[u8], n: u8) {
-    say(case);
+fn symbols(rt: &impl Print, case: &str, n: u8) {
+    say(rt, case);
     if n > 100 {
         return;
     }
@@ -210,7 +214,7 @@ fn symbols(case: &[u8], n: u8) {
         ],
     );
     let end = 18 + n as usize;
-    checked(automaton::check(&set[..end]));
+    checked(rt, automaton::check(&set[..end]));
 }
 
 fn leaf(count: u16) -> RowFields {
@@ -242,68 +246,77 @@ fn fields(i: u16) -> RowFields {
 }
 
 // A table of so many rows.
-fn table(case: &[u8], rows: u16) {
-    say(case);
+fn table(rt: &impl Print, case: &str, rows: u16) {
+    say(rt, case);
     let mut cells = [0u16; CELLS];
-    let mut i = 0;
-    while i < rows {
+    for i in 0..rows {
         put_row(&mut cells, Row(i), fields(i));
-        i += 1;
     }
     let n = rows as usize * 10;
     if n > CELLS {
         return;
     }
-    checked(document::check(&E, &cells[..n]));
+    checked(rt, document::check(&E, &cells[..n]));
 }
 
 // Document 02, Wish 6: the rate with only its sign bit set, given in a row; and the text of the two zeros, written back.
-fn zeros() {
+fn zeros(rt: &impl Print) {
     let row = [1, UNUSED, UNUSED, UNUSED, UNUSED, 3, 0, 0, 0, 32768];
-    say(b"the rate with only its sign bit set, in a row: ");
-    checked(document::check(&E, &row));
-    say(b"the two zeros, written back: ");
+    say(rt, "the rate with only its sign bit set, in a row: ");
+    checked(rt, document::check(&E, &row));
+    say(rt, "the two zeros, written back: ");
     let mut cells = [0u16; 20];
     match term::read(&E, b"", b"", &TWO_ZEROS, &mut cells) {
         TermRead::Rows(_) => (),
-        TermRead::Refused(n, _) => refused(n),
+        TermRead::Refused(n, _) => refused(rt, n),
     }
     let mut text = [0u8; 64];
     let n = match spelling::write(&E, b"", b"", &cells, &mut text) {
         TermWritten::Bytes(n) => n,
         TermWritten::Refused(n) => {
-            refused(n);
+            refused(rt, n);
             0
         },
     };
     if n > 64 {
         return;
     }
-    say(&text[..n]);
-    say(b"\n");
+    show(rt, &text[..n]);
+    say(rt, "\n");
 }
 
 // Document 02, Wish 9: lists of equal pairs, with the tag forgotten behind each pair and without.
-fn equal_pairs() {
-    judge(b"P, two pairs: ", &P, &TWO_PAIRS);
-    judge(b"P, a pair of unequal parts: ", &P, b"s1(s0(s3=1,s3=2),s2)");
-    sample(b"P at the sample: ", &P);
+fn equal_pairs(rt: &impl Print) {
+    judge(rt, "P, two pairs: ", &P, &TWO_PAIRS);
+    judge(
+        rt,
+        "P, a pair of unequal parts: ",
+        &P,
+        b"s1(s0(s3=1,s3=2),s2)",
+    );
+    sample(rt, "P at the sample: ", &P);
     let mut set = P;
     set[FORGET] = 0;
-    judge(b"P with nothing forgotten, two pairs: ", &set, &TWO_PAIRS);
     judge(
-        b"P with nothing forgotten, one pair: ",
+        rt,
+        "P with nothing forgotten, two pairs: ",
+        &set,
+        &TWO_PAIRS,
+    );
+    judge(
+        rt,
+        "P with nothing forgotten, one pair: ",
         &set,
         b"s1(s0(s3=1,s3=1),s2)",
     );
     set[FORGET] = 2;
-    say(b"P with a second tag forgotten: ");
-    checked(automaton::check(&set));
-    say(b"P narrowed: ");
+    say(rt, "P with a second tag forgotten: ");
+    checked(rt, automaton::check(&set));
+    say(rt, "P narrowed: ");
     let mut out = [0u8; 128];
-    moved(forms::narrow_states(&P, &mut out));
-    let n = moved(boolean::product(&P, &P, &mut out));
-    judge(b"P and P, two pairs: ", &out[..n], &TWO_PAIRS);
+    moved(rt, forms::narrow_states(&P, &mut out));
+    let n = moved(rt, boolean::product(&P, &P, &mut out));
+    judge(rt, "P and P, two pairs: ", &out[..n], &TWO_PAIRS);
 }
 
 // What the test of class k says of a byte.
@@ -319,42 +332,39 @@ fn is_member(table: &[u8; 256], k: u8, b: u8) -> bool {
 }
 
 // A class's name, and its bytes.
-fn members(case: &[u8], table: &[u8; 256], k: u8) {
-    say(case);
-    let mut b = 0u16;
-    while b < 256 {
-        if is_member(table, k, b as u8) {
-            say(b" ");
-            io::print_decimal(STDOUT_FILENO, b as u64);
+fn members(rt: &impl Print, case: &str, table: &[u8; 256], k: u8) {
+    say(rt, case);
+    for b in 0..=255 {
+        if is_member(table, k, b) {
+            let _ = print!(rt; " {b}");
         }
-        b += 1;
     }
-    say(b"\n");
+    say(rt, "\n");
 }
 
-fn byte_classes() {
+fn byte_classes(rt: &impl Print) {
     let table = class_table();
-    members(b"letters:", &table, 0);
-    members(b"digits:", &table, 1);
-    members(b"hex digits:", &table, 2);
-    members(b"spaces:", &table, 3);
-    members(b"structural marks:", &table, 4);
-    members(b"controls:", &table, 5);
+    members(rt, "letters:", &table, 0);
+    members(rt, "digits:", &table, 1);
+    members(rt, "hex digits:", &table, 2);
+    members(rt, "spaces:", &table, 3);
+    members(rt, "structural marks:", &table, 4);
+    members(rt, "controls:", &table, 5);
 }
 
-fn main() {
-    documents(b"", &E, &G, &B);
-    little_room();
-    samples(b"", &E, &D);
-    widened();
-    together();
-    say(b"58 bytes of E: ");
-    checked(automaton::check(&E[..58]));
-    symbols(b"64 symbols: ", 64);
-    symbols(b"65 symbols: ", 65);
-    table(b"1,024 rows: ", 1024);
-    table(b"1,025 rows: ", 1025);
-    byte_classes();
-    equal_pairs();
-    zeros();
+fn main(rt: HostRuntime) {
+    documents(&rt, "", &E, &G, &B);
+    little_room(&rt);
+    samples(&rt, "", &E, &D);
+    widened(&rt);
+    together(&rt);
+    say(&rt, "58 bytes of E: ");
+    checked(&rt, automaton::check(&E[..58]));
+    symbols(&rt, "64 symbols: ", 64);
+    symbols(&rt, "65 symbols: ", 65);
+    table(&rt, "1,024 rows: ", 1024);
+    table(&rt, "1,025 rows: ", 1025);
+    byte_classes(&rt);
+    equal_pairs(&rt);
+    zeros(&rt);
 }

@@ -2,21 +2,17 @@
 #![tactic(auto)]
 
 use console::{INPUT, OUTPUT};
-use libc::{STDERR_FILENO, STDIN_FILENO, STDOUT_FILENO};
 use stream::Received;
 
-fn main() {
+fn main(rt: HostRuntime) {
     let mut input = [0u8; INPUT];
     let mut output = [0u8; OUTPUT];
-    let Received::Whole(n) = stream::receive(STDIN_FILENO, &mut input) else {
-        io::write_all(
-            STDERR_FILENO,
-            b"judge: the input could not be read to its end\n",
-        );
+    let Received::Whole(n) = stream::receive(&mut rt.stdin(), &mut input) else {
+        let _ = rt.eprintln("judge: the input could not be read to its end");
         return;
     };
     let k = console::judge(&input[..n], &mut output);
-    if !io::write_all(STDOUT_FILENO, &output[..k]) {
-        io::write_all(STDERR_FILENO, b"judge: the answer could not be written\n");
+    if rt.write_all(&output[..k]).is_err() {
+        let _ = rt.eprintln("judge: the answer could not be written");
     }
 }

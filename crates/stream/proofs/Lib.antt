@@ -1,3 +1,2 @@
-pub mod Signs
-pub mod Wholes
 pub mod Meaning
+mod Bytes

@@ -1,9 +1,11 @@
 // A program's input, read to its end. A read that fails is told, and is never taken for the end.
 #![tactic(auto)]
 
-ghost use Rattle.std.specs.Prelude.{◌≡◌, ◌-◌, ◌≤◌, ◌<◌, length};
-ghost use Rattle.libc.specs.Io.{Moved};
-ghost use Rattle.stream.specs.Reading.{after_read, Ahead, Within};
+ghost use Rattle.std.specs.Prelude.{◌≡◌, ◌+◌, ◌-◌, ◌≤◌, ◌<◌, length, take, drop, IfOk};
+ghost use Rattle.stream.specs.Reading.{after_read, Ahead, Within, HeardOf, ReceivedOf};
+
+use std::io;
+use std::io::Read;
 
 // What one answer of `read` means: so many bytes are there now, the input has ended, or the read failed.
 #[derive(Drop)]
@@ -21,40 +23,99 @@ pub enum Received {
 }
 
 // An answer of `read`, with so many bytes there before and space for no more than `most`.
-fn after(done: usize, most: usize, got: isize) -> Heard
-    requires { (done ≤ most) × Moved (most - done) got }
+fn after(done: usize, most: usize, got: io::Result<usize>) -> Heard
+    requires { (done ≤ most) × IfOk got (λ n. n ≤ most - done) }
     ensures { result ≡ after_read done got }
 {
-    if got < 0 {
-        return Heard::Broken;
+    match got {
+        Err(_) => Heard::Broken,
+        Ok(0) => Heard::Ended,
+        Ok(more) => Heard::Now(done + more),
     }
-    if got > 0 {
-        return Heard::Now(done + got as usize);
-    }
-    Heard::Ended
 }
 
 // One read, into the space behind what is there.
-fn hear(fd: i32, space: &mut [u8], done: usize) -> Heard
+fn hear<R: Read>(input: &mut R, space: &mut [u8], done: usize) -> Heard
     requires { done < length space.old }
-    ensures { Ahead done (length space.old) result }
+    ensures ahead { Ahead done (length space.old) result }
+    ensures before { take done space.new ≡ take done space.old }
+    ensures bytes { HeardOf (R.remaining input.old) (R.remaining input.new) done result space.new }
 {
     let most = space.len();
-    let got = libc::read(fd, &mut space[done..]);
+    let got = input.read(&mut space[done..]);
     after(done, most, got)
 }
 
-// Reads until the input ends, the space is full or a read fails. Which bytes come is the C library's to say; how many of the space are the input's is said here.
-pub fn receive(fd: i32, space: &mut [u8]) -> Received
-    ensures { Within result space.new }
+// Reads until the input ends, the space is full or a read fails. Which bytes come is the reader's to say, and where it says so they stand at the front of the space; how many of the space are the input's is said here.
+pub fn receive<R: Read>(input: &mut R, space: &mut [u8]) -> Received
+    ensures within { Within result space.new }
+    ensures bytes { ReceivedOf (R.remaining input.old) (R.remaining input.new) result space.new }
 {
     let mut done = 0;
     while done < space.len() {
-        match hear(fd, space, done) {
+        match hear(input, space, done) {
             Heard::Now(n) => done = n,
             Heard::Ended => return Received::Whole(done),
             Heard::Broken => return Received::Failed,
         }
     }
     Received::Whole(done)
+}
+
+#[cfg(test)]
+mod tests {
+    use super::*;
+
+    // Gives a byte a read, so many times, and then fails.
+    #[derive(Drop)]
+    struct Failing {
+        left: u8,
+    }
+
+    impl Read for Failing {
+        fn read(&mut self, buf: &mut [u8]) -> io::Result<usize> {
+            if buf.len() == 0 {
+                return Ok(0);
+            }
+            if self.left == 0 {
+                return Err(io::Error::from(io::ErrorKind::WouldBlock));
+            }
+            buf[0] = self.left;
+            self.left -= 1;
+            Ok(1)
+        }
+    }
+
+    #[test]
+    fn an_input_that_ends(rt: HostRuntime) {
+        let mut space = [0u8; 4];
+        let mut input: &[u8] = b"abc";
+        assert!(rt; matches!(receive(&mut input, &mut space), Received::Whole(3)));
+        assert_eq!(rt; &space, b"abc\0");
+    }
+
+    #[test]
+    fn an_input_longer_than_the_space(rt: HostRuntime) {
+        let mut space = [0u8; 4];
+        let mut input: &[u8] = b"abcdef";
+        assert!(rt; matches!(receive(&mut input, &mut space), Received::Whole(4)));
+        assert_eq!(rt; &space, b"abcd");
+    }
+
+    #[test]
+    fn a_read_that_fails(rt: HostRuntime) {
+        let mut space = [0u8; 4];
+        assert!(rt;
+            matches!(
+                receive(&mut Failing { left: 3 }, &mut space),
+                Received::Failed
+            )
+        );
+        assert!(rt;
+            matches!(
+                receive(&mut Failing { left: 4 }, &mut space),
+                Received::Whole(4)
+            )
+        );
+    }
 }

@@ -10,25 +10,24 @@ use manual::files;
 use manual::process::run;
 use manual::scratch::Scratch;
 
-/// Answers as `rt` does, among other words of the prover, and notes each call. `$FAILS` names a command that fails.
+/// Answers as `rt` does, among other words of the prover, and notes each call with the crate in whose folder it came.
+/// A crate is proved where its source is not as it was. `$FAILS` names a call that fails.
 const STAND_IN: &str = r#"#!/bin/sh
-echo "$1" >>calls
-[ "$1" != "${FAILS:-}" ] || { echo "rt: FAILED: stand-in"; exit 1; }
+crate=$(basename "$PWD")
+echo "$1 $crate" >>"$(dirname "$0")/../calls"
+[ "$1 $crate" != "${FAILS:-}" ] || { echo "rt: FAILED: stand-in"; exit 1; }
 case $1 in
 version) echo stand-in ;;
-check)
-    mkdir -p target/stamp target/bin
-    for name in $(sed -n 's/^cidhomba: *//p' crates.txt) sample judge; do
-        if [ -f "target/stamp/$name" ]; then
-            echo "rt: $name proved (unchanged since it was last proved)"
-        else
-            echo "fn $name::main: proved"
-            echo "rt: $name proved (3 s)"
-            echo "$name" >"target/stamp/$name"
-        fi
-    done
-    for name in sample judge; do cp /bin/sh "target/bin/$name"; done ;;
-staticlib) mkdir -p target/staticlib && echo library >target/staticlib/libcidhomba.a ;;
+lib | run)
+    if [ "$crate" != cidhomba ] && cmp -s src/lib.rt out/stamp; then
+        echo "rt: nothing has changed since the last proved build"
+    else
+        echo "fn $crate::main: proved"
+        echo "logic=proved functions=1"
+        mkdir -p out && cp src/lib.rt out/stamp
+    fi
+    [ "$crate" != cidhomba ] || echo library >out/libcidhomba.a
+    [ "$1" != run ] || cp /bin/sh "out/$crate" ;;
 esac
 "#;
 
@@ -41,11 +40,16 @@ impl Place {
     fn new(name: &str) -> Place {
         let scratch = Scratch::with_links(name);
         let of = |file: &str| scratch.path().join(file);
-        for file in ["quickstart", "target"] {
+        for file in ["quickstart", "target", "crates"] {
             let _ = fs::remove_file(of(file));
         }
+        for name in crates() {
+            let source = of("crates").join(name).join("src");
+            fs::create_dir_all(&source).expect("a crate's directory is made");
+            fs::write(source.join("lib.rt"), b"one").expect("a crate's source is written");
+        }
         fs::copy(files::root().join("quickstart"), of("quickstart")).expect("the script is copied");
-        fs::create_dir(of("tools")).expect("a directory is made");
+        fs::create_dir(of("stand-ins")).expect("a directory is made");
         Place { scratch }
     }
 
@@ -55,7 +59,7 @@ impl Place {
 
     /// A tool of a test's own.
     fn tool(&self, name: &str, text: &str) {
-        let path = self.path("tools").join(name);
+        let path = self.path("stand-ins").join(name);
         fs::write(&path, text).expect("the tool is written");
         fs::set_permissions(&path, fs::Permissions::from_mode(0o755)).expect("the tool can be run");
     }
@@ -64,7 +68,7 @@ impl Place {
     fn script(&self) -> Command {
         let machine = env::var("PATH").expect("there is a PATH");
         let mut command = Command::new(self.path("quickstart"));
-        command.env("PATH", format!("{}:{machine}", self.path("tools").display()));
+        command.env("PATH", format!("{}:{machine}", self.path("stand-ins").display()));
         command
     }
 
@@ -101,39 +105,51 @@ fn proved(place: &Place) -> Vec<String> {
     told(&output).lines().map(name).collect()
 }
 
-/// The crates of the static library, then the programs, then the library's own crate.
+/// The crates below the static library and the programs as they are listed, then the programs, then the library's own crate.
 fn crates() -> Vec<String> {
     let listed = files::text("crates.txt");
-    let below = listed.lines().find_map(|line| line.strip_prefix("cidhomba: ")).expect("it is listed");
-    below.split(' ').chain(["sample", "judge", "cidhomba"]).map(str::to_string).collect()
+    let uses = |name: &str| {
+        let line = listed.lines().find_map(|line| line.strip_prefix(name)).expect("it is listed");
+        line.split_whitespace().map(str::to_string).collect::<Vec<_>>()
+    };
+    let wanted = ["cidhomba staticlib:", "sample:", "judge:"].map(uses).concat();
+    let names = listed.lines().filter_map(|line| line.split([' ', ':']).next()).map(str::to_string);
+    let below = names.filter(|name| wanted.contains(name));
+    below.chain(["sample", "judge", "cidhomba"].map(str::to_string)).collect()
 }
 
 #[test]
 fn each_crate_is_told_once_and_proved_once() {
     let place = with_stand_ins("once");
     assert_eq!(proved(&place), crates());
-    assert!(place.calls().contains(&"staticlib".to_string()));
+    assert!(place.calls().contains(&"lib cidhomba".to_string()));
     assert_eq!(proved(&place), [""; 0]);
-    assert!(!place.calls().contains(&"staticlib".to_string()));
+    assert!(!place.calls().contains(&"lib cidhomba".to_string()));
 }
 
 #[test]
 fn what_is_gone_or_changed_is_built_again() {
     let place = with_stand_ins("again");
+    let built = ["target/bin/sample", "target/bin/judge", "target/staticlib/libcidhomba.a"];
+    let are_there =
+        || built.iter().all(|name| fs::metadata(place.path(name)).is_ok_and(|file| file.len() > 0));
     proved(&place);
+    assert!(are_there());
     fs::remove_file(place.path("target/bin/sample")).expect("the program goes");
     fs::write(place.path("target/bin/judge"), b"").expect("the program is emptied");
-    assert_eq!(proved(&place), ["sample", "judge"]);
+    assert_eq!(proved(&place), [""; 0]);
+    assert!(are_there());
     fs::remove_file(place.path("target/staticlib/libcidhomba.a")).expect("the library goes");
     assert_eq!(proved(&place), ["cidhomba"]);
-    fs::write(place.path("target/stamp/term"), b"another").expect("a crate below changes");
-    assert_eq!(proved(&place), ["cidhomba"]);
+    assert!(are_there());
+    fs::write(place.path("crates/term/src/lib.rt"), b"another").expect("a crate below changes");
+    assert_eq!(proved(&place), ["term", "cidhomba"]);
 }
 
 #[test]
 fn where_the_prover_fails_the_script_says_so_and_stops() {
-    for fails in ["check", "staticlib"] {
-        let place = with_stand_ins(fails);
+    for fails in ["lib term", "run judge", "lib cidhomba"] {
+        let place = with_stand_ins(&fails.replace(' ', "-"));
         let output = run(place.script().env("FAILS", fails), b"");
         assert!(!output.status.success() && output.stdout.is_empty());
         assert!(told(&output).contains("target/quickstart.log"), "{}", told(&output));
