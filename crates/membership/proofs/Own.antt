@@ -63,8 +63,8 @@ module _ (mask : ℕ) (f : ℕ → Bool → ℕ) (tags : ℕ) (out : List ℕ) w
   masking_all rest k h l = (tab_same tags (λ j. get_or out j 0) (λ j. f j (bit? mask j)) (λ j m. h.filled.done j (omega arith)), λ j m _. h.empty j (let i = h.filled.inside in omega arith))
 
 -- the row at each tag of the mask; and a memory without them
-abbrev pub field_own : ℕ → ℕ → Bool → ℕ
-field_own row k b = cond b (suc row) 0
+abbrev pub own_at : ℕ → ℕ → Bool → ℕ
+own_at row k b = cond b (suc row) 0
 
 abbrev pub kept_at : List ℕ → ℕ → Bool → ℕ
 kept_at memory k b = cond b 0 (get_or memory k 0)
@@ -86,9 +86,9 @@ module _ (mask tags : ℕ) (memory : List ℕ) where
       ∙ sym without_is
 
 -- the memory of a mask without tags
-pub own_nothing : (row tags : ℕ) (out : List ℕ) (mask : ℕ) → mask ≡ 0 → ((k : ℕ) → get_or out k 0 ≡ 0) → (memory_of tags out ≡ tab tags (λ k. field_own row k (bit? mask k))) × Short tags out
+pub own_nothing : (row tags : ℕ) (out : List ℕ) (mask : ℕ) → mask ≡ 0 → ((k : ℕ) → get_or out k 0 ≡ 0) → (memory_of tags out ≡ tab tags (λ k. own_at row k (bit? mask k))) × Short tags out
 unfolding memory_of
-own_nothing row tags out mask e h = (tab_same tags (λ k. get_or out k 0) (λ k. field_own row k (bit? mask k)) (λ k l. h k ∙ sym (ap (λ z. cond (bit? z k) (suc row) 0) e ∙ ap (λ z. cond (eqb (z % 2) 1) (suc row) 0) (zero-div (2 ^ k)))), λ k _ _. h k)
+own_nothing row tags out mask e h = (tab_same tags (λ k. get_or out k 0) (λ k. own_at row k (bit? mask k)) (λ k l. h k ∙ sym (ap (λ z. cond (bit? z k) (suc row) 0) e ∙ ap (λ z. cond (eqb (z % 2) 1) (suc row) 0) (zero-div (2 ^ k)))), λ k _ _. h k)
 
 pub bit_set : (mask x y : ℕ) → mask % 2 ≡ 1 → x ≡ cond (eqb (mask % 2) 1) x y
 bit_set mask x y e = sym (ap (λ b. cond b x y) (eq-eqb (mask % 2) 1 e))

@@ -65,7 +65,7 @@ module _ (A : Automaton) (known : List Annotation) (i r : ℕ) where
         row = ap (λ (z : Entry). z.annotation.row) q;
         state = ap (λ (z : Entry). z.annotation.state) q;
         rule = ap (λ (z : Entry). z.rule) q;
-        leaves = concat_map_in (left_of A i r) {xs = m ∷ []} {x = m} (here refl) (Memᴰ.cast (ap (λ (z : Entry). z.annotation.memory) q) iy);
+        leaves = concat_map_in (left_of A i r) {x = m} {xs = m ∷ []} (here refl) (Memᴰ.cast (ap (λ (z : Entry). z.annotation.memory) q) iy);
         as_many = refl;
         earlier = λ k l. ap (λ (z : Entry). get_or z.children k 0) q;
         rest = λ k l. ap (λ (z : Entry). get_or z.children k 0) q;

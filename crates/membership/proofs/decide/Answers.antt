@@ -12,24 +12,18 @@ annotate-n-requires c = (set_passed c.args.set.now c.args.rows.now c.requires, t
 
 -- 31
 pub returns-then-n-room : goal.returns-then-n-room
-returns-then-n-room c = too_many c.args.set.now c.args.rows.now c.args.work.now c.args.run.now c.requires c.room_of-room.result c.count.result c.room_of-room.ensures c.count.ensures c.if-count-room.false c.annotate-n.new.1.1.0 c.annotate-n.auto.1.1.0 c.annotate-n.result c.annotate-n.ensures c.clear.new.work c.if-n-room.true c.clear.ensures
+returns-then-n-room c = too_many c.args.set.now c.args.rows.now c.args.work.now c.args.run.now c.requires c.room_of-room.result c.count.result c.room_of-room.ensures c.count.ensures c.if-count-room.false c.annotate-n.new.work c.annotate-n.auto.work c.annotate-n.result c.annotate-n.ensures c.clear.new.work c.if-n-room.true c.clear.ensures
 
 pub write_run-s-requires : goal.write_run-s-requires
-write_run-s-requires c = (
-  (set_passed c.args.set.now c.args.rows.now c.requires, table_passed c.args.set.now c.args.rows.now c.requires),
-  (
-    spaces c.args.set.now c.args.rows.now c.args.work.now c.args.run.now c.requires c.room_of-room.result c.count.result c.room_of-room.ensures c.count.ensures c.if-count-room.false c.annotate-n.new.1.1.0 c.annotate-n.auto.1.1.0 c.annotate-n.result c.annotate-n.ensures c.if-n-room.false,
-    held_in c.args.set.now c.args.rows.now c.args.work.now c.args.run.now c.requires c.room_of-room.result c.count.result c.room_of-room.ensures c.count.ensures c.if-count-room.false c.annotate-n.new.1.1.0 c.annotate-n.auto.1.1.0 c.annotate-n.result c.annotate-n.ensures c.if-n-room.false,
-  ),
-)
+write_run-s-requires c = record { set_value = (set_passed c.args.set.now c.args.rows.now c.requires, table_passed c.args.set.now c.args.rows.now c.requires); n_le_max_steps = spaces c.args.set.now c.args.rows.now c.args.work.now c.args.run.now c.requires c.room_of-room.result c.count.result c.room_of-room.ensures c.count.ensures c.if-count-room.false c.annotate-n.new.work c.annotate-n.auto.work c.annotate-n.result c.annotate-n.ensures c.if-n-room.false; n_value = held_in c.args.set.now c.args.rows.now c.args.work.now c.args.run.now c.requires c.room_of-room.result c.count.result c.room_of-room.ensures c.count.ensures c.if-count-room.false c.annotate-n.new.work c.annotate-n.auto.work c.annotate-n.result c.annotate-n.ensures c.if-n-room.false }
 
 -- no
 pub returns-then-s-eq0 : goal.returns-then-s-eq0
-returns-then-s-eq0 c = says_no c.args.set.now c.args.rows.now c.args.work.now c.args.run.now c.requires c.room_of-room.result c.count.result c.room_of-room.ensures c.count.ensures c.if-count-room.false c.annotate-n.new.1.1.0 c.annotate-n.auto.1.1.0 c.annotate-n.result c.annotate-n.ensures c.if-n-room.false c.write_run-s.new.run.1.0 c.clear-2.new.work c.write_run-s.new.run.1.1.1.0 c.write_run-s.result c.write_run-s.auto.run.1.0 c.clear-2.ensures c.write_run-s.ensures c.if-s-eq0.true
+returns-then-s-eq0 c = says_no c.args.set.now c.args.rows.now c.args.work.now c.args.run.now c.requires c.room_of-room.result c.count.result c.room_of-room.ensures c.count.ensures c.if-count-room.false c.annotate-n.new.work c.annotate-n.auto.work c.annotate-n.result c.annotate-n.ensures c.if-n-room.false c.write_run-s.new.work c.clear-2.new.work c.write_run-s.new.run c.write_run-s.result c.write_run-s.auto.work c.clear-2.ensures c.write_run-s.ensures c.if-s-eq0.true
 
 pub narrow-requires : goal.narrow-requires
-narrow-requires c = narrow_steps c.args.set.now c.args.rows.now c.args.work.now c.args.run.now c.requires c.room_of-room.result c.count.result c.room_of-room.ensures c.count.ensures c.if-count-room.false c.annotate-n.new.1.1.0 c.annotate-n.auto.1.1.0 c.annotate-n.result c.annotate-n.ensures c.if-n-room.false c.write_run-s.new.run.1.0 c.clear-2.new.work c.write_run-s.new.run.1.1.1.0 c.write_run-s.result c.write_run-s.auto.run.1.0 c.clear-2.ensures c.write_run-s.ensures
+narrow-requires c = narrow_steps c.args.set.now c.args.rows.now c.args.work.now c.args.run.now c.requires c.room_of-room.result c.count.result c.room_of-room.ensures c.count.ensures c.if-count-room.false c.annotate-n.new.work c.annotate-n.auto.work c.annotate-n.result c.annotate-n.ensures c.if-n-room.false c.write_run-s.new.work c.clear-2.new.work c.write_run-s.new.run c.write_run-s.result c.write_run-s.auto.work c.clear-2.ensures c.write_run-s.ensures
 
 -- yes
 pub returns : goal.returns
-returns c = says_yes c.args.set.now c.args.rows.now c.args.work.now c.args.run.now c.requires c.room_of-room.result c.count.result c.room_of-room.ensures c.count.ensures c.if-count-room.false c.annotate-n.new.1.1.0 c.annotate-n.auto.1.1.0 c.annotate-n.result c.annotate-n.ensures c.if-n-room.false c.write_run-s.new.run.1.0 c.clear-2.new.work c.write_run-s.new.run.1.1.1.0 c.write_run-s.result c.write_run-s.auto.run.1.0 c.clear-2.ensures c.write_run-s.ensures c.narrow.result c.narrow.ensures c.if-s-eq0.false
+returns c = says_yes c.args.set.now c.args.rows.now c.args.work.now c.args.run.now c.requires c.room_of-room.result c.count.result c.room_of-room.ensures c.count.ensures c.if-count-room.false c.annotate-n.new.work c.annotate-n.auto.work c.annotate-n.result c.annotate-n.ensures c.if-n-room.false c.write_run-s.new.work c.clear-2.new.work c.write_run-s.new.run c.write_run-s.result c.write_run-s.auto.work c.clear-2.ensures c.write_run-s.ensures c.narrow.result c.narrow.ensures c.if-s-eq0.false

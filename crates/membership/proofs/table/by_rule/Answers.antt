@@ -10,9 +10,9 @@ search-requires c = (c.requires.0, omega arith, rule_tried c.args.plan.now c.arg
 pub returns : goal.returns
 returns c =
     record {
-      grown = rule_made c.args.plan.now c.args.rules.now c.args.row.0 c.args.r c.ask-asked.result c.ask-asked.ensures c.own_memory-own.result c.kept-early.result c.target_tags.result c.target_tags.ensures c.own_memory-own.ensures.0 c.args.work.now c.search.new.work c.search.new.children.1.1.1.1.1.1.1.1.0 c.args.children.now c.args.n c.search.result c.kept-early.ensures.0 c.search.ensures.0;
+      grown = rule_made c.args.plan.now c.args.rules.now c.args.row.0 c.args.r c.ask-asked.result c.ask-asked.ensures c.own_memory-own.result c.kept-early.result c.target_tags.result c.target_tags.ensures c.own_memory-own.ensures.0 c.args.work.now c.search.new.work c.search.new.slots c.args.children.now c.args.n c.search.result c.kept-early.ensures.0 c.search.ensures.0;
       alike = (
-        alike_whole c.args.plan.now c.args.children.now c.search.new.children.1.1.1.1.1.1.0 c.search.ensures.1,
-        λ l. rule_after c.args.plan.now c.args.rules.now c.args.row.0 c.args.r c.ask-asked.result c.ask-asked.ensures c.own_memory-own.result c.search.new.work c.search.new.children.1.1.1.1.1.1.1.0 c.search.result (c.search.ensures.2 l),
+        alike_whole c.args.plan.now c.args.children.now c.search.new.children c.search.ensures.1,
+        λ l. rule_after c.args.plan.now c.args.rules.now c.args.row.0 c.args.r c.ask-asked.result c.ask-asked.ensures c.own_memory-own.result c.search.new.work c.search.new.tried c.search.result (c.search.ensures.2 l),
       );
     }
