@@ -27,12 +27,12 @@ arguments-loop-w-init t c = (
 )
 
 pub arguments-term-requires : goal.arguments-term-requires
-arguments-term-requires t c = (omega (arith, c.decreases), (c.loop-w.invariant.0.ready, c.requires.1))
+arguments-term-requires t c = (omega (arith, c.decreases), (c.loop-w.invariant.0.ready, (c.requires.sound, (c.requires.counted, c.requires.lent))))
 
 pub arguments-returns-in-Refused : goal.arguments-returns-in-Refused
 arguments-returns-in-Refused t c =
     says_by _ _ _ _
-    (ap (after_args _ c.args.first c.args.symbol)
+    (ap (after_args (setting_of c.args.set.now c.args.names.now c.args.symbols c.args.limit) c.args.first c.args.symbol)
     (list_refused _ _ _ _ _ (term_ends _ _ _) (term_ahead _ _ _ _ c.requires.counted _ _) _ _ _ _ _ c.loop-w.fields c.loop-w.invariant.0 _ _ _ c.term.ensures _ _ c.in-Refused.is))
     refl
 
@@ -49,15 +49,12 @@ pub arguments-overflow_add-next : goal.arguments-overflow_add-next
 arguments-overflow_add-next t c = omega (arith, c.well_formed.0, byte_inside c.args.text.now c.in-Read.next c.byte_at-b.result c.byte_at-b.ensures (omega (arith, c.if-b-eq41.true)))
 
 pub arguments-end_term-requires : goal.arguments-end_term-requires
-arguments-end_term-requires t c = (
-  list_ready _ _ _ _ _ (term_ends _ _ _) (term_ahead _ _ _ _ c.requires.counted _ _) _ _ _ _ _ c.loop-w.fields c.loop-w.invariant.0 _ _ _ c.term.ensures _ _ _ c.in-Read.is,
-  c.requires.sound,
-)
+arguments-end_term-requires t c = record { ready = list_ready _ _ _ _ _ (term_ends _ _ _) (term_ahead _ _ _ _ c.requires.counted _ _) _ _ _ _ _ c.loop-w.fields c.loop-w.invariant.0 _ _ _ c.term.ensures _ _ _ c.in-Read.is; sound = c.requires.sound }
 
 pub arguments-returns-then-b-eq41 : goal.arguments-returns-then-b-eq41
 arguments-returns-then-b-eq41 t c =
     says_by _ _ _ _
-    (ap (after_args _ c.args.first c.args.symbol)
+    (ap (after_args (setting_of c.args.set.now c.args.names.now c.args.symbols c.args.limit) c.args.first c.args.symbol)
     (list_last _ _ _ _ _ (term_ends _ _ _) (term_ahead _ _ _ _ c.requires.counted _ _) _ _ _ _ _ c.loop-w.fields c.loop-w.invariant.0 _ _ _ c.term.ensures _ _ _ c.in-Read.is
     (sym c.byte_at-b.ensures ∙ c.if-b-eq41.true)))
     (says_bare _ _ _ _ _ _ _ _ _ _ c.with_child-fields.result (ap (λ f. f.symbol) c.with_child-fields.ensures ∙ c.loop-w.invariant.2) (ap (λ f. f.scalar) c.with_child-fields.ensures ∙ c.loop-w.invariant.3)
@@ -67,7 +64,7 @@ arguments-returns-then-b-eq41 t c =
 pub arguments-returns-then-b-ne44 : goal.arguments-returns-then-b-ne44
 arguments-returns-then-b-ne44 t c =
     says_by _ _ _ _
-    (ap (after_args _ c.args.first c.args.symbol)
+    (ap (after_args (setting_of c.args.set.now c.args.names.now c.args.symbols c.args.limit) c.args.first c.args.symbol)
     (list_other _ _ _ _ _ (term_ends _ _ _) (term_ahead _ _ _ _ c.requires.counted _ _) _ _ _ _ _ c.loop-w.fields c.loop-w.invariant.0 _ _ _ c.term.ensures _ _ _ c.in-Read.is
     (λ e. c.if-b-ne44.true (c.byte_at-b.ensures ∙ e)) (λ e. c.if-b-eq41.false (c.byte_at-b.ensures ∙ e))))
     refl
@@ -98,31 +95,31 @@ term-returns-then-not-is_letter t c =
     refl
 
 pub term-returns-then-level-eq0 : goal.term-returns-then-level-eq0
-term-returns-then-level-eq0 t c = says_by _ _ _ _ (too_deep _ _ _ _ (term-letter t c) _ c.if-level-eq0.true) refl
+term-returns-then-level-eq0 t c = says_by _ _ _ _ (too_deep _ _ _ _ (let h : letter? (get_or c.args.text.now c.args.at 0) ≡ true = ap letter? (sym c.byte_at.ensures) ∙ sym (c.is_letter.ensures.compared c.requires.lent) ∙ c.if-not-is_letter.false in h) _ c.if-level-eq0.true) refl
 
 pub term-symbol_at-requires : goal.term-symbol_at-requires
-term-symbol_at-requires t c = (term-letter t c, search rules)
+term-symbol_at-requires t c = record { at_value = (let h : letter? (get_or c.args.text.now c.args.at 0) ≡ true = ap letter? (sym c.byte_at.ensures) ∙ sym (c.is_letter.ensures.compared c.requires.lent) ∙ c.if-not-is_letter.false in h); lent = search rules }
 
 pub term-returns-then-byte_at-ne40 : goal.term-returns-then-byte_at-ne40
 term-returns-then-byte_at-ne40 t c =
     says_by _ _ _ _
-    (term_leaf _ _ _ _ (term-letter t c) _ _ (sym c.symbol_at.ensures ∙ ap named_of c.in-Symbol.is) _ c.if-level-eq0.false (λ e. c.if-byte_at-ne40.true (c.byte_at-in-Symbol.ensures ∙ e)))
+    (term_leaf _ _ _ _ (let h : letter? (get_or c.args.text.now c.args.at 0) ≡ true = ap letter? (sym c.byte_at.ensures) ∙ sym (c.is_letter.ensures.compared c.requires.lent) ∙ c.if-not-is_letter.false in h) _ _ (sym c.symbol_at.ensures ∙ ap named_of c.in-Symbol.is) _ c.if-level-eq0.false (λ e. c.if-byte_at-ne40.true (c.byte_at-in-Symbol.ensures ∙ e)))
     (c.leaf.ensures (find_in c.args.symbols (name_in c.args.names.now)))
 
 pub term-overflow_add-end : goal.term-overflow_add-end
 term-overflow_add-end t c = omega (arith, c.well_formed.0, byte_inside c.args.text.now c.in-Symbol.end c.byte_at-in-Symbol.result c.byte_at-in-Symbol.ensures (omega (arith, c.if-byte_at-ne40.false)))
 
 pub term-arguments-requires : goal.term-arguments-requires
-term-arguments-requires t c = (omega (arith, c.decreases, c.if-level-eq0.false), c.requires)
+term-arguments-requires t c = (omega (arith, c.decreases, c.if-level-eq0.false), (c.requires.ready, (c.requires.sound, (c.requires.counted, c.requires.lent))))
 
 pub term-returns-in-Unnamed : goal.term-returns-in-Unnamed
 term-returns-in-Unnamed t c =
     says_by _ _ _ _
-    (term_unnamed _ _ _ _ (term-letter t c) _ _ _ c.if-level-eq0.false (sym c.symbol_at.ensures ∙ ap named_of c.in-Unnamed.is))
+    (term_unnamed _ _ _ _ (let h : letter? (get_or c.args.text.now c.args.at 0) ≡ true = ap letter? (sym c.byte_at.ensures) ∙ sym (c.is_letter.ensures.compared c.requires.lent) ∙ c.if-not-is_letter.false in h) _ _ _ c.if-level-eq0.false (sym c.symbol_at.ensures ∙ ap named_of c.in-Unnamed.is))
     refl
 
 pub term-returns-else-byte_at-ne40 : goal.term-returns-else-byte_at-ne40
 term-returns-else-byte_at-ne40 t c =
     says_by _ _ _ _
-    (term_args _ _ _ _ (term-letter t c) _ _ (sym c.symbol_at.ensures ∙ ap named_of c.in-Symbol.is) _ c.if-level-eq0.false (sym c.byte_at-in-Symbol.ensures ∙ c.if-byte_at-ne40.false))
+    (term_args _ _ _ _ (let h : letter? (get_or c.args.text.now c.args.at 0) ≡ true = ap letter? (sym c.byte_at.ensures) ∙ sym (c.is_letter.ensures.compared c.requires.lent) ∙ c.if-not-is_letter.false in h) _ _ (sym c.symbol_at.ensures ∙ ap named_of c.in-Symbol.is) _ c.if-level-eq0.false (sym c.byte_at-in-Symbol.ensures ∙ c.if-byte_at-ne40.false))
     c.arguments.ensures

@@ -21,4 +21,4 @@ returns-in-Added c js held =
 pub returns-in-Full : goal.returns-in-Full
 returns-in-Full c js held =
     end_full _ _ _ _ c.requires.ready _ _ c.args.next c.args.fields _ js held ((sound_decode _ c.requires.sound).few_children _) _
-    (c.size.ensures.0 ∙ c.arity.ensures) c.if-count-size.false c.find_or_add.ensures.kept _ _ _ c.find_or_add.ensures.did c.in-Full.is c.find_or_add.new.rows c.find_or_add.new.slots.0
+    (c.size.ensures.0 ∙ c.arity.ensures) c.if-count-size.false c.find_or_add.ensures.kept _ _ _ c.find_or_add.ensures.did c.in-Full.is c.find_or_add.new.rows c.find_or_add.new.slots

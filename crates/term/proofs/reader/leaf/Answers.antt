@@ -4,12 +4,14 @@ use borrow.Author.Rules.{rules}
 use Rattle.term.proofs.Ending.{says_by}
 use Rattle.term.proofs.Listing.{says_childless}
 use Rattle.term.proofs.Reading.{leaf_scalar, leaf_fault}
+use Rattle.model.specs.Automaton.{arity_of}
+use Rattle.automaton.specs.Stored.{decode}
 use Rattle.term.proofs.reader.leaf.Goals as goal
 
 pub returns-in-Is : goal.returns-in-Is
 returns-in-Is c find =
-    says_by _ _ _ _ (leaf_scalar _ _ _ _ _ _ c.scalar_at.ensures _ _ c.in-Is.is)
+    says_by _ _ _ _ (leaf_scalar (record { symbol = find; arity = arity_of (decode c.args.set.now); limit = c.args.limit }) _ _ _ _ _ c.scalar_at.ensures _ _ c.in-Is.is)
     (says_childless _ _ _ _ _ _ _ _ _ _ _ c.no_children-fields.ensures c.end_term.ensures)
 
 pub returns-in-Fault : goal.returns-in-Fault
-returns-in-Fault c find = says_by _ _ _ _ (leaf_fault _ _ _ _ _ _ c.scalar_at.ensures _ c.in-Fault.is) refl
+returns-in-Fault c find = says_by _ _ _ _ (leaf_fault (record { symbol = find; arity = arity_of (decode c.args.set.now); limit = c.args.limit }) _ _ _ _ _ c.scalar_at.ensures _ c.in-Fault.is) refl

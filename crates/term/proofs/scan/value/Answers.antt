@@ -9,14 +9,14 @@ use Rattle.term.proofs.scan.value.Goals as goal
 pub flag-requires : goal.flag-requires
 flag-requires c = omega (arith, byte_inside c.args.text.now c.args.at c.byte_at-b.result c.byte_at-b.ensures (omega arith))
 
--- LEFT arg 3
--- (λ c. c.flag.ensures ∙ sym (value_true _ _ _ c.before.before.before.byte_at.ensures c.before.before.if1.true))
+pub returns-then-b-eq116 : goal.returns-then-b-eq116
+returns-then-b-eq116 c = c.flag.ensures ∙ sym (value_true _ _ _ c.byte_at-b.ensures c.if-b-eq116.true)
 
 pub flag-requires-then-b-eq102 : goal.flag-requires-then-b-eq102
 flag-requires-then-b-eq102 c = omega (arith, byte_inside c.args.text.now c.args.at c.byte_at-b.result c.byte_at-b.ensures (omega arith))
 
--- LEFT arg 6
--- (λ c. c.flag2.ensures ∙ sym (value_false _ _ _ c.before.before.before.before.byte_at.ensures c.before.before.before.if1.false c.before.before.if2.true))
+pub returns-then-b-eq102 : goal.returns-then-b-eq102
+returns-then-b-eq102 c = c.flag-then-b-eq102.ensures ∙ sym (value_false _ _ _ c.byte_at-b.ensures c.if-b-eq116.false c.if-b-eq102.true)
 
 pub returns-in-Number : goal.returns-in-Number
 returns-in-Number c =
