@@ -89,6 +89,7 @@ list_long text lengths b (c ∷ cs) h =
 
 list_part : (text : ℕ → List ℕ) (b c : ℕ) (cs : List ℕ) → In c cs → length (text c) ≤ length (list_text text b cs)
 unfolding list_text
+list_part text b c [] x' = elim x' [ ]
 list_part text b c (d ∷ cs) (here e) = let a = length-append (text d) (list_text text 44 cs) in let q = ap (λ x. length (text x)) e in omega arith
 list_part text b c (d ∷ cs) (there m) = let a = length-append (text d) (list_text text 44 cs) in let r = list_part text 44 c cs m in omega arith
 
@@ -117,6 +118,7 @@ module _ (cells : List ℕ) (s : SoundCells cells) (name : ℕ → List ℕ) whe
   child_short i l c m = go (row_in cells i).children refl m
     where
       go : (cs : List ℕ) → (row_in cells i).children ≡ cs → In c cs → length (row_text name cells c) ≤ length (row_text name cells i)
+      go [] e k = elim k [ ]
       go (d ∷ ds) e k =
           let p = list_part (row_text name cells) 40 c (row_in cells i).children m in
           let a = length-append (name (row_in cells i).symbol) (list_text (row_text name cells) 40 (row_in cells i).children) in

@@ -1,0 +1,40 @@
+use mathlib.Core.Path.{◌≡◌, refl}
+use Prim.Native.Nat.{◌-◌, ◌≤◌}
+use native.Mathlib.Omega.{arith}
+use borrow.Author.Rules.{rules}
+use Rattle.names.specs.Table.{name_in}
+use Rattle.document.specs.Check.{row_count}
+use Rattle.spelling.proofs.Summing.{Lengths, lengths_none, lengths_over, lengths_more, lengths_all}
+use Rattle.spelling.proofs.Texts.{few_rows, some_rows, sound_scalar}
+use Rattle.spelling.proofs.lengths.text_length.Goals as goal
+
+pub loop-i-init : goal.loop-i-init
+loop-i-init c = (c.count-n.ensures, omega arith, lengths_none _ _ _ c.requires)
+
+pub overflow_cast-i : goal.overflow_cast-i
+overflow_cast-i c = omega (arith, c.loop-i-test.true, c.loop-i.invariant.0, few_rows _ c.requires)
+
+pub row_length-requires : goal.row_length-requires
+row_length-requires c = sound_scalar _ c.requires _ (omega (arith, c.loop-i-test.true, c.loop-i.invariant.0))
+
+pub returns-in_default : goal.returns-in_default
+returns-in_default c = lengths_over _ _ _ c.requires _ _ c.loop-i.invariant.2 (omega (arith, c.loop-i-test.true, c.loop-i.invariant.0)) _ c.row_length.ensures c.in_default.is
+
+pub bounds-lengths-i : goal.bounds-lengths-i
+bounds-lengths-i c = omega (arith, c.loop-i-test.true, c.loop-i.invariant.0, few_rows _ c.requires)
+
+pub loop-i-preserved : goal.loop-i-preserved
+loop-i-preserved c = (
+  c.loop-i.invariant.0,
+  omega (arith, c.loop-i-test.true),
+  lengths_more _ _ _ c.requires _ _ c.loop-i.invariant.2 (omega (arith, c.loop-i-test.true, c.loop-i.invariant.0)) _ c.row_length.ensures _ c.in-Fits.is,
+)
+
+pub overflow_sub-result : goal.overflow_sub-result
+overflow_sub-result c = omega (arith, c.loop-i.invariant.0, some_rows _ c.requires)
+
+pub bounds-lengths-n : goal.bounds-lengths-n
+bounds-lengths-n c = omega (arith, c.loop-i.invariant.0, few_rows _ c.requires, some_rows _ c.requires)
+
+pub returns : goal.returns
+returns c = lengths_all _ _ _ c.requires _ _ _ _ c.loop-i.invariant.2 c.loop-i.invariant.0 (omega (arith, c.loop-i-test.false)) refl

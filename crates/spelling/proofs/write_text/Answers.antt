@@ -1,0 +1,24 @@
+-- `spelling::write_text` meets its contract: where the length fits, the last row's text is put at the front. Assumes nothing.
+use native.Mathlib.Omega.{arith}
+use borrow.Author.Rules.{rules}
+use Rattle.names.specs.Table.{name_in}
+use Rattle.spelling.proofs.Texts.{some_rows, few_rows}
+use Rattle.spelling.proofs.Writing.{too_long, last_inside, last_fits, last_written}
+use Rattle.spelling.proofs.write_text.Goals as goal
+
+pub overflow_sub-last : goal.overflow_sub-last
+overflow_sub-last c = omega (arith, c.count-last.ensures, some_rows _ c.requires)
+
+pub overflow_cast-last : goal.overflow_cast-last
+overflow_cast-last c = omega (arith, c.count-last.ensures, few_rows _ c.requires)
+
+pub term-requires : goal.term-requires
+term-requires c = record { sound = c.requires; inside = last_inside _ c.requires _ c.count-last.ensures; fits = last_fits _ c.requires _ c.count-last.ensures (name_in c.args.names.now) c.args.text.now _ _ c.text_length.ensures c.in-Fits.is }
+
+pub returns-in-Over : goal.returns-in-Over
+returns-in-Over c = too_long _ _ _ c.text_length.ensures c.in-Over.is _
+
+pub returns-in-Fits : goal.returns-in-Fits
+returns-in-Fits c =
+    last_written _ c.requires _ c.count-last.ensures (name_in c.args.names.now) c.args.text.now _ _
+    c.text_length.ensures c.in-Fits.is _ _ c.term.ensures
