@@ -1,0 +1,7 @@
+-- `console::line::put_refused` meets its contract: the line is the output. Assumes nothing.
+use borrow.Author.Rules.{rules}
+use Rattle.console.proofs.Printing.{refused_put}
+use Rattle.console.proofs.line.put_refused.Goals as goal
+
+pub returns : goal.returns
+returns c = refused_put _ _ _ _ c.requires (c.put_number_line.ensures.wrote, c.put_number_line.ensures.few)
