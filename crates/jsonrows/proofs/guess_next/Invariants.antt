@@ -1,7 +1,5 @@
 -- The loop ends at the last symbol; what it writes are guesses. Assumes nothing.
 use Prim.Native.Nat.{◌-◌, ◌≤◌}
-use native.Mathlib.Omega.{arith}
-use borrow.Author.Rules.{rules}
 use Rattle.jsonrows.proofs.guess_next.Given as goal
 
 abbrev pub invariant-loop-after : goal.invariant-loop-after

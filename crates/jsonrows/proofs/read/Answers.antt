@@ -1,6 +1,5 @@
 -- The key list, then the text: the first place that refuses decides. Assumes nothing.
 use mathlib.Core.Path.{sym, ◌∙◌}
-use borrow.Author.Rules.{rules}
 use Rattle.jsonrows.proofs.WholeTexts.{list_refused, text_answers}
 use Rattle.jsonrows.proofs.read.Goals as goal
 

@@ -1,6 +1,5 @@
 -- What closes the items is refused, or its leaf is the rest of the last one. Assumes nothing.
 use Prim.Native.Nat.{◌-◌}
-use borrow.Author.Rules.{rules}
 use Rattle.jsonrows.proofs.Holding.{said, said_no, says_since}
 use Rattle.jsonrows.proofs.Framing.{close_refused, close_rest, framed_closed}
 use Rattle.jsonrows.proofs.frames.close_items.Goals as goal

@@ -2,7 +2,6 @@
 use Prim.Native.Nat.{◌+◌, ◌*◌}
 use native.Mathlib.Omega.{arith}
 use lib.ListN.{set, length-set}
-use borrow.Author.Rules.{rules}
 use Rattle.jsonrows.proofs.Framing.{frame_set}
 use Rattle.jsonrows.proofs.frames.put_frame.Goals as goal
 

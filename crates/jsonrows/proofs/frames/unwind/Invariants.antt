@@ -1,13 +1,9 @@
 -- At the loop's head the rows below level l are made. Assumes nothing.
-use mathlib.Core.Path.{refl}
-use native.Mathlib.Omega.{arith}
-use borrow.Author.Rules.{rules}
 use Prim.Native.Nat.{◌-◌}
 use Rattle.jsonrows.specs.Grammar.{good}
 use Rattle.jsonrows.specs.State.{built_in}
 use Rattle.jsonrows.specs.Frames.{joins}
-use Rattle.jsonrows.proofs.Holding.{said, said_no}
-use Rattle.jsonrows.proofs.Framing.{Unwinding, unwind_refused, unwind_more, unwind_done}
+use Rattle.jsonrows.proofs.Framing.{Unwinding}
 use Rattle.jsonrows.proofs.frames.unwind.Given as goal
 
 abbrev pub invariant-loop-l : goal.invariant-loop-l

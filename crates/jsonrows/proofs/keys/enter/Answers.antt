@@ -1,8 +1,6 @@
 -- The line's places and slot are written where the probe found no equal line. Assumes nothing.
 use mathlib.Core.Path.{sym, ◌∙◌}
 use native.Mathlib.Omega.{arith}
-use borrow.Author.Rules.{rules}
-use borrow.Author.Tests.{not-true, not-false}
 use Rattle.jsonrows.specs.KeyTable.{line_entered, list_unfit}
 use Rattle.jsonrows.proofs.KeyFilling.{not_key, line_taken, slot_inside, places_entered}
 use Rattle.jsonrows.proofs.keys.enter.Goals as goal

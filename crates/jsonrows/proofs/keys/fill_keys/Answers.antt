@@ -1,9 +1,6 @@
 -- At the loop's head the first n lines are entered and the next one starts at a. Assumes nothing.
-use Prim.Native.Nat.{◌-◌}
 use native.Mathlib.Omega.{arith}
-use borrow.Author.Rules.{rules}
-use Rattle.jsonrows.specs.Keys.{max_keys}
-use Rattle.jsonrows.proofs.KeyFilling.{Filling, filling_none, filling_more, entered_when, unfit_when, too_many, list_fills, list_fails}
+use Rattle.jsonrows.proofs.KeyFilling.{filling_none, filling_more, entered_when, unfit_when, too_many, list_fills, list_fails}
 use Rattle.jsonrows.proofs.keys.fill_keys.Goals as goal
 
 pub loop-a-init : goal.loop-a-init

@@ -1,9 +1,7 @@
 -- At the loop's head the first n lines are entered and the next one starts at a. Assumes nothing.
 use Prim.Native.Nat.{◌-◌}
-use native.Mathlib.Omega.{arith}
-use borrow.Author.Rules.{rules}
 use Rattle.jsonrows.specs.Keys.{max_keys}
-use Rattle.jsonrows.proofs.KeyFilling.{Filling, filling_none, filling_more, entered_when, unfit_when, too_many, list_fills, list_fails}
+use Rattle.jsonrows.proofs.KeyFilling.{Filling}
 use Rattle.jsonrows.proofs.keys.fill_keys.Given as goal
 
 abbrev pub invariant-loop-a : goal.invariant-loop-a

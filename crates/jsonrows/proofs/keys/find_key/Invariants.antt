@@ -1,15 +1,11 @@
 -- The slots tried held lines that differ. Assumes nothing.
-use mathlib.Core.Path.{refl, ap, ◌∙◌}
 use mathlib.Core.Bool.{Bool}
 use mathlib.Core.List.{List}
 use Prim.Native.Nat.{ℕ, ◌-◌}
-use native.Mathlib.Omega.{arith}
-use borrow.Author.Rules.{rules}
-use Rattle.document.proofs.Searching.{Searched, searched_none, searched_free, searched_known, searched_more, searched_all}
+use Rattle.document.proofs.Searching.{Searched}
 use Rattle.jsontext.specs.Strings.{string_at}
 use Rattle.jsontext.specs.Decoded.{is_text}
 use Rattle.jsonrows.specs.KeyTable.{key_at}
-use Rattle.jsonrows.proofs.Keying.{not_listed, listed_below, held_line, find_line}
 use Rattle.jsonrows.proofs.keys.find_key.Given as goal
 
 -- the string at a place is line k

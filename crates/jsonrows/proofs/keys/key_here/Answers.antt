@@ -1,6 +1,5 @@
 -- A token whose length is not 0 is that of its line. Assumes nothing.
 use mathlib.Core.Path.{refl}
-use borrow.Author.Rules.{rules}
 use native.Mathlib.Omega.{arith}
 use Rattle.jsontext.proofs.StringEnds.{string_ahead}
 use Rattle.jsonrows.proofs.Keying.{token_string}

@@ -1,14 +1,10 @@
 -- The slots tried held lines that differ. Assumes nothing.
-use mathlib.Core.Path.{refl, ap, ◌∙◌}
 use mathlib.Core.Bool.{Bool}
 use mathlib.Core.List.{List}
 use Prim.Native.Nat.{ℕ, ◌-◌}
-use native.Mathlib.Omega.{arith}
-use borrow.Author.Rules.{rules}
 use Rattle.model.specs.Lists.{eq_list}
-use Rattle.document.proofs.Searching.{Searched, searched_none, searched_free, searched_known, searched_more, searched_all}
-use Rattle.jsonrows.specs.KeyTable.{key_at, free_in}
-use Rattle.jsonrows.proofs.Keying.{held_line}
+use Rattle.document.proofs.Searching.{Searched}
+use Rattle.jsonrows.specs.KeyTable.{key_at}
 use Rattle.jsonrows.proofs.keys.line_slot.Given as goal
 
 -- line k is these bytes

@@ -1,6 +1,5 @@
 -- The five places are those of the line. Assumes nothing.
 use native.Mathlib.Omega.{arith}
-use borrow.Author.Rules.{rules}
 use Rattle.jsonrows.proofs.KeyFilling.{line_put}
 use Rattle.jsonrows.proofs.keys.put_line.Goals as goal
 

@@ -1,6 +1,5 @@
 -- By what the number is. Assumes nothing.
 use mathlib.Core.Path.{refl, sym, ap, ◌∙◌}
-use borrow.Author.Rules.{rules}
 use Rattle.document.specs.Scalars.{row_rate}
 use Rattle.document.specs.declared.scalar.Scalar.TheVariants.{Count}
 use Rattle.jsontext.specs.NumberAnswer.{number_of}

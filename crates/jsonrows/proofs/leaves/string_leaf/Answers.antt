@@ -1,7 +1,6 @@
 -- The text of a short string may be told at a glance. Else a string that is not whole is refused; the text of another is looked for, then its leaf. Assumes nothing.
 use mathlib.Core.Path.{sym, ap, ◌∙◌}
 use native.Mathlib.Omega.{arith}
-use borrow.Author.Rules.{rules}
 use Rattle.base.proofs.Bytes.{byte_inside}
 use Rattle.jsontext.specs.StringAnswers.{slot_of}
 use Rattle.jsonrows.specs.State.{built_in}

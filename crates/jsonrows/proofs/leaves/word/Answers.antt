@@ -1,7 +1,6 @@
 -- The word breaks off, or it is whole and its leaf is finished behind it. Assumes nothing.
 use native.Mathlib.Omega.{arith}
-use borrow.Author.Rules.{rules}
-use mathlib.Core.Path.{refl, ap, ◌∙◌}
+use mathlib.Core.Path.{refl}
 use Rattle.base.proofs.Words.{word_short, word_whole, word_broken}
 use Rattle.jsonrows.specs.State.{built_in}
 use Rattle.jsonrows.proofs.Holding.{no_text, no_child}

@@ -1,8 +1,6 @@
 -- None of the entries passed is the one that is looked for. Assumes nothing.
 use Prim.Native.Nat.{◌-◌}
-use native.Mathlib.Omega.{arith}
-use borrow.Author.Rules.{rules}
-use Rattle.jsonrows.proofs.Entries.{Passed, passed_none, passed_here, passed_more, passed_all}
+use Rattle.jsonrows.proofs.Entries.{Passed}
 use Rattle.jsonrows.proofs.members.has_entry.Given as goal
 
 abbrev pub invariant-loop-i : goal.invariant-loop-i

@@ -1,6 +1,4 @@
 -- The key stood before, or its flag is set and its entry made. Assumes nothing.
-use native.Mathlib.Omega.{arith}
-use borrow.Author.Rules.{rules}
 use Rattle.jsonrows.proofs.KeyWays.{listed_again, listed_first}
 use Rattle.jsonrows.proofs.members.listed_key.Goals as goal
 

@@ -1,20 +1,10 @@
 -- The level falls from a value to the items in it, and from one item to the next; what each says of its part is said of the whole. Assumes nothing.
-use Prim.Native.Nat.{ℕ, ◌+◌, ◌-◌, ◌*◌, ◌<◌}
-use mathlib.Core.Path.{refl, sym, ap, ◌∙◌}
+use Prim.Native.Nat.{◌+◌, ◌*◌}
 use mathlib.Core.List.{[]}
-use native.Mathlib.Omega.{arith}
-use borrow.Author.Rules.{rules}
-use lib.Dec.{eqb}
-use mathlib.Core.Bool.{Bool, true, false}
-use Rattle.base.proofs.Bytes.{byte_inside}
 use Rattle.names.specs.Lines.{lines}
-use Rattle.jsonrows.specs.State.{built_in, says_refused}
+use Rattle.jsonrows.specs.State.{built_in}
 use Rattle.jsonrows.specs.Items.{items_at}
-use Rattle.jsonrows.proofs.Holding.{says_as, says_by, said, said_no}
-use Rattle.jsonrows.proofs.Walking.{value_deep}
-use Rattle.jsonrows.proofs.CycleWays.{kept_back, no_object}
-use Rattle.jsonrows.proofs.Framing.{same_from, same_self}
-use Rattle.jsonrows.proofs.ItemLoop.{Walk, headed, headed_no, walk_start, walk_many, walk_kept, walk_kept_value, walk_above, walk_above_frame, walk_no_key, walk_refused, walk_alone, walk_since, walk_framed, walk_last, walk_deep, walk_more, open_empty, open_items, open_none, opening_byte}
+use Rattle.jsonrows.proofs.ItemLoop.{Walk}
 use Rattle.jsonrows.proofs.reader.+items_value.Given as goal
 
 abbrev pub decreases-items : goal.decreases-items

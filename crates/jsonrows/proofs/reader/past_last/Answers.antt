@@ -1,7 +1,6 @@
 -- By whether a value could begin there. Assumes nothing.
 use mathlib.Core.Path.{sym, ap, ◌∙◌}
 use mathlib.Core.Bool.{cond}
-use borrow.Author.Rules.{rules}
 use Rattle.jsonrows.specs.Grammar.{opens?}
 use Rattle.jsonrows.specs.declared.rows.Part.TheVariants.{Refused}
 use Rattle.jsonrows.proofs.reader.past_last.Goals as goal

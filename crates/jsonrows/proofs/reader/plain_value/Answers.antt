@@ -1,5 +1,4 @@
 -- By whether the first byte begins a number. Assumes nothing.
-use borrow.Author.Rules.{rules}
 use Rattle.jsonrows.specs.State.{built_in}
 use Rattle.jsonrows.proofs.Holding.{says_by}
 use Rattle.jsonrows.proofs.PlainWays.{number_alone, number_test}

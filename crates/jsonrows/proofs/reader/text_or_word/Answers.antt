@@ -1,7 +1,6 @@
 -- By the first byte. Assumes nothing.
 use mathlib.Core.Path.{refl, sym, ◌∙◌}
 use native.Mathlib.Omega.{arith}
-use borrow.Author.Rules.{rules}
 use Rattle.base.proofs.Bytes.{byte_inside}
 use Rattle.jsonrows.specs.State.{built_in, says_refused}
 use Rattle.jsonrows.proofs.Holding.{says_by}

@@ -1,6 +1,5 @@
 -- Each answer is made of its own fields. Assumes nothing.
 use mathlib.Core.Path.{sym}
-use borrow.Author.Rules.{rules}
 use Rattle.jsonrows.proofs.reader.unpacked.Goals as goal
 
 pub returns-in-Refused : goal.returns-in-Refused

@@ -1,7 +1,6 @@
 -- Another byte is refused; the mark stands inside the text, and its leaf is finished behind it. Assumes nothing.
 use mathlib.Core.Path.{refl, sym, ◌∙◌}
 use native.Mathlib.Omega.{arith}
-use borrow.Author.Rules.{rules}
 use Rattle.base.proofs.Bytes.{byte_inside}
 use Rattle.jsonrows.proofs.Holding.{no_text, no_child}
 use Rattle.jsonrows.proofs.Closing.{close_wrong, close_right}

@@ -1,7 +1,5 @@
 -- Near at hand, or looked up. Assumes nothing.
 use mathlib.Core.Path.{refl}
-use native.Mathlib.Omega.{arith}
-use borrow.Author.Rules.{rules}
 use Rattle.jsonrows.proofs.Holding.{finish_answers}
 use Rattle.jsonrows.proofs.rows.finish.Goals as goal
 

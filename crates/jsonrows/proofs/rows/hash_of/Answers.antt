@@ -1,6 +1,5 @@
 -- By the first four cells. Assumes nothing.
 use mathlib.Core.Path.{sym, ap, ◌∙◌}
-use borrow.Author.Rules.{rules}
 use Rattle.document.specs.Hash.{row_hash}
 use Rattle.jsonrows.proofs.Nodes.{three_cells, two_cells}
 use Rattle.jsonrows.proofs.rows.hash_of.Goals as goal

@@ -1,7 +1,6 @@
 -- The row of the words is finished, or added where it stands over the last row. Assumes nothing.
 use mathlib.Core.Path.{refl}
 use native.Mathlib.Omega.{arith}
-use borrow.Author.Rules.{rules}
 use Rattle.jsonrows.proofs.Holding.{no_text, small, finish_answers, few_rows}
 use Rattle.jsonrows.proofs.LowerRows.{node_below, node_new}
 use Rattle.jsonrows.proofs.rows.join.Goals as goal

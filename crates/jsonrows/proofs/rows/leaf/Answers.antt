@@ -1,5 +1,4 @@
 -- By the scalar's kind and payload. Assumes nothing.
-use borrow.Author.Rules.{rules}
 use Rattle.jsonrows.proofs.rows.leaf.Goals as goal
 
 pub returns : goal.returns

@@ -1,6 +1,5 @@
 -- Ten cells in three words. Assumes nothing.
 use native.Mathlib.Omega.{arith}
-use borrow.Author.Rules.{rules}
 use Rattle.jsonrows.proofs.Nodes.{leaf_row_lem}
 use Rattle.jsonrows.proofs.rows.leaf_of.Goals as goal
 

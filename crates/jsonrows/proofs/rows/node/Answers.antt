@@ -1,5 +1,4 @@
 -- Three places or two. Assumes nothing.
-use borrow.Author.Rules.{rules}
 use Rattle.jsonrows.proofs.Nodes.{three_places, two_places}
 use Rattle.jsonrows.proofs.rows.node.Goals as goal
 

@@ -1,6 +1,5 @@
 -- By what the builder answered. Assumes nothing.
 use mathlib.Core.Path.{sym, ap}
-use borrow.Author.Rules.{rules}
 use Rattle.jsonrows.specs.State.{part_after}
 use Rattle.jsonrows.proofs.rows.part_after.Goals as goal
 

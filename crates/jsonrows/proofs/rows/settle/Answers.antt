@@ -1,6 +1,4 @@
 -- By what the builder answered. Assumes nothing.
-use native.Mathlib.Omega.{arith}
-use borrow.Author.Rules.{rules}
 use Rattle.jsonrows.proofs.Holding.{finish_answers, few_rows}
 use Rattle.jsonrows.proofs.rows.settle.Goals as goal
 

@@ -1,7 +1,6 @@
 -- The first slot is empty, or holds a text that is written in the same bytes. Assumes nothing.
-use mathlib.Core.Path.{refl, sym, ◌∙◌}
+use mathlib.Core.Path.{refl, sym}
 use native.Mathlib.Omega.{arith}
-use borrow.Author.Rules.{rules}
 use Rattle.base.proofs.Bytes.{byte_inside}
 use Rattle.jsonrows.proofs.Glancing.{glance_free, glance_known}
 use Rattle.jsonrows.proofs.texts.glance.Goals as goal

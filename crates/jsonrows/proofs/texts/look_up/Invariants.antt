@@ -1,11 +1,9 @@
 -- The slots tried held texts that differ. Assumes nothing.
-use mathlib.Core.Path.{refl, sym, ap, ◌∙◌}
 use mathlib.Core.Bool.{Bool}
 use mathlib.Core.List.{List}
 use Prim.Native.Nat.{ℕ, ◌-◌}
-use borrow.Author.Rules.{rules}
 use lib.ListN.{get_or}
-use Rattle.document.proofs.Searching.{Searched, searched_none, searched_free, searched_known, searched_more, searched_all}
+use Rattle.document.proofs.Searching.{Searched}
 use Rattle.jsontext.specs.Strings.{string_at}
 use Rattle.jsontext.specs.Decoded.{same_text}
 use Rattle.jsonrows.proofs.texts.look_up.Given as goal

@@ -2,7 +2,6 @@
 use mathlib.Core.Path.{refl, sym, ap, ◌∙◌}
 use Prim.Native.Nat.{ℕ, ◌+◌}
 use native.Mathlib.Omega.{arith}
-use borrow.Author.Rules.{rules}
 use Rattle.document.specs.Hash.{row_hash}
 use Rattle.document.proofs.Probing.{slot_inside}
 use Rattle.jsonrows.specs.State.{says_refused}

@@ -1,7 +1,6 @@
 -- A place of the list, or the definition's default. Assumes nothing.
-use mathlib.Core.Path.{sym, ap, ◌∙◌}
+use mathlib.Core.Path.{sym, ap}
 use native.Mathlib.Omega.{arith}
-use borrow.Author.Rules.{rules}
 use lib.ListN.{get_or, get_or-eq_default}
 use Rattle.jsonrows.proofs.texts.start_of.Goals as goal
 

@@ -1,6 +1,5 @@
 -- A text that has a number has a row; another gets both. Assumes nothing.
 use mathlib.Core.Path.{refl, sym, ap, subst, ◌∙◌}
-use borrow.Author.Rules.{rules}
 use Rattle.jsonrows.specs.Texts.{probed_of, ProbedAt}
 use Rattle.jsonrows.proofs.Texting.{probe_text, probed_some}
 use Rattle.jsonrows.proofs.TextLeaves.{known_inside, known_read}
