@@ -11,7 +11,6 @@ use Rattle.model.specs.Lists.{any, eq_list}
 use Rattle.document.specs.Fields.{as_row}
 use Rattle.document.specs.declared.rows.Row as number
 use Rattle.jsonrows.specs.Signature.{other, text_leaf}
-use Rattle.jsonrows.specs.Grammar.{members, elements}
 use Rattle.jsonrows.specs.State.{key_rows, built_in, Holds}
 use Rattle.jsonrows.specs.Seen.{entry_key, entries, Seen, Flagged, KeyOutcome, key_good, key_refused, KeySays, key_says, key_says_no}
 use Rattle.jsonrows.specs.Items.{}

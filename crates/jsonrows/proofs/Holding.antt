@@ -1,14 +1,14 @@
 -- What is held after a row was finished. Assumes nothing.
 use mathlib.Core.Path.{◌≡◌, refl, sym, ap, subst, ◌∙◌}
-use mathlib.Core.Bool.{Bool, true, false, ◌&&◌, cond}
+use mathlib.Core.Bool.{Bool, true, false, cond}
 use mathlib.Core.List.Memᴰ.{not-nil}
 use mathlib.Core.List.{List, [], ◌∷◌, ◌++◌, Memᴰ as In}
 use mathlib.Core.Option.{Option, none, some, map}
-use Prim.Native.Nat.{ℕ, zero, suc, ◌+◌, ◌-◌, ◌<◌, ◌≤◌}
+use Prim.Native.Nat.{ℕ, suc, ◌+◌, ◌-◌, ◌<◌, ◌≤◌}
 use native.Mathlib.Omega.{arith}
 use borrow.Author.Tests.{ne_eqb, lt-ltb, le-ltb}
 use lib.Dec.{eqb, ltb}
-use lib.ListN.{length, get_or, length-append}
+use lib.ListN.{length, get_or}
 use Rattle.model.specs.Limits.{unused}
 use Rattle.model.specs.Table.{Row, Lower}
 use Rattle.model.specs.Build.{eq_row, find_row}
@@ -17,17 +17,15 @@ use Rattle.model.proofs.Build.{eq_row_refl}
 use Rattle.model.proofs.Tab.{length_tab}
 use Rattle.document.specs.Rows.{row_in, rows_below, Kept}
 use Rattle.document.specs.Fields.{as_row}
-use Rattle.document.specs.Index.{Indexed}
 use Rattle.document.specs.Builder.{find_or_add, Did, Ready}
 use Rattle.document.specs.declared.rows.Row as number
 use Rattle.document.specs.declared.scalar.Scalar.TheVariants.{Name}
 use Rattle.document.specs.declared.builder.Placed.{Placed}
-use Rattle.document.specs.declared.builder.Placed.TheVariants.{Known, Added, Full}
 use Rattle.model.proofs.Build.{more_lower}
 use Rattle.document.proofs.Ready.{Put, was, is, no_room, puts}
 use Rattle.jsonrows.specs.Signature.{text_leaf}
 use Rattle.jsonrows.specs.Grammar.{Built, built, Outcome, good, refused, leaf_row, place_row, finish}
-use Rattle.jsonrows.specs.State.{texts_in, text_at, built_in, Holds, Old, After, Says, says_read, says_refused, part_after}
+use Rattle.jsonrows.specs.State.{texts_in, built_in, Holds, Old, After, Says, says_read, says_refused, part_after}
 use Rattle.jsonrows.specs.declared.rows.Part.{Part}
 use Rattle.jsonrows.specs.declared.rows.Part.TheVariants.{Read, Refused}
 

@@ -6,7 +6,6 @@ use Prim.Native.Nat.{ℕ, ◌+◌, ◌-◌, ◌<◌, ◌≤◌}
 use lib.ListN.{get_or, take, drop}
 use Rattle.base.specs.Text.{byte_at}
 use Rattle.jsontext.specs.Spaces.{space_end}
-use Rattle.document.specs.declared.rows.Row as number
 use Rattle.jsonrows.specs.Grammar.{Setting, Built, Outcome, good, refused, close_at, joined, rest_at, after_value, value}
 use Rattle.jsonrows.specs.State.{key_rows}
 use Rattle.jsonrows.specs.Seen.{entry_key, entries, Seen}

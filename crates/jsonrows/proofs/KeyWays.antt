@@ -9,7 +9,6 @@ use lib.ListN.{get_or, set}
 use Rattle.document.specs.Fields.{as_row}
 use Rattle.jsonrows.specs.Signature.{key_symbol}
 use Rattle.jsonrows.specs.Seen.{first_listed, listed_part, listed_entry, listed_flags}
-use Rattle.jsonrows.specs.declared.members.KeyPart.{KeyPart}
 use Rattle.jsonrows.specs.declared.members.KeyPart.TheVariants.{Key, NoKey}
 
 -- a listed key that stood before, and one that did not, by its flag at place i

@@ -2,7 +2,7 @@
 use mathlib.Core.Path.{◌≡◌, refl, sym, ap, subst, ◌∙◌}
 use mathlib.Core.Bool.{Bool, true, false, cond}
 use mathlib.Core.List.{List, [], ◌∷◌, ◌++◌}
-use mathlib.Core.Option.{Option, none, some}
+use mathlib.Core.Option.{some}
 use Prim.Native.Nat.{ℕ, ◌+◌, ◌<◌, ◌≤◌}
 use native.Mathlib.Omega.{arith}
 use borrow.Author.Tests.{ne_eqb}
@@ -16,10 +16,10 @@ use Rattle.jsontext.specs.Strings.{string_at}
 use Rattle.jsonrows.specs.Signature.{other, key_symbol}
 use Rattle.jsonrows.specs.Keys.{find_text}
 use Rattle.jsonrows.specs.Grammar.{Setting, Built}
-use Rattle.jsonrows.specs.State.{built_in, key_rows, Holds}
-use Rattle.jsonrows.specs.Seen.{first_listed, of_line, entries, Seen, Flagged, KeyOutcome, key_good, key_refused, key_of, key_at, KeySays, key_says, key_says_no, listed_part, listed_entry, listed_flags}
+use Rattle.jsonrows.specs.State.{built_in, Holds}
+use Rattle.jsonrows.specs.Seen.{first_listed, of_line, Seen, Flagged, KeyOutcome, key_good, key_refused, key_of, key_at, KeySays, key_says, key_says_no, listed_part, listed_entry, listed_flags}
 use Rattle.jsonrows.specs.declared.members.KeyPart.{KeyPart}
-use Rattle.jsonrows.specs.declared.members.KeyPart.TheVariants.{Key, NoKey}
+use Rattle.jsonrows.specs.declared.members.KeyPart.TheVariants.{NoKey}
 use Rattle.jsonrows.proofs.SeenKeys.{on_line, line_entry, seen_more}
 use Rattle.jsonrows.proofs.Flags.{flagged_listed}
 

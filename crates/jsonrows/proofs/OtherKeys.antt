@@ -3,20 +3,19 @@ use mathlib.Core.Path.{◌≡◌, refl, sym, ap, subst, ◌∙◌}
 use mathlib.Core.Bool.{Bool, true, false, cond}
 use mathlib.Core.List.{List, [], ◌∷◌, ◌++◌}
 use mathlib.Core.Option.{Option, none, some}
-use Prim.Native.Nat.{ℕ, zero, suc, ◌+◌, ◌-◌, ◌<◌, ◌≤◌}
+use Prim.Native.Nat.{ℕ, ◌+◌, ◌-◌, ◌<◌, ◌≤◌}
 use native.Mathlib.Omega.{arith}
 use borrow.Author.Tests.{eqb-true, eq-eqb, ne_eqb}
 use lib.Dec.{eqb, ltb}
-use lib.ListN.{length, get_or, set, drop, length-append}
+use lib.ListN.{length, get_or, set, length-append}
 use lib.Seq.{get_or-append_seam}
-use Rattle.base.specs.Text.{Got, got, fault}
-use Rattle.model.specs.Limits.{max_rows, unused}
-use Rattle.model.specs.Lists.{any, eq_list, tab}
+use Rattle.base.specs.Text.{got}
+use Rattle.model.specs.Limits.{max_rows}
+use Rattle.model.specs.Lists.{any, eq_list}
 use Rattle.model.specs.Table.{Row}
 use Rattle.model.specs.Build.{find_row}
 use Rattle.model.proofs.Tab.{tab_at, length_tab}
 use Rattle.document.specs.Rows.{rows_below}
-use Rattle.document.specs.Fields.{as_row}
 use Rattle.document.specs.declared.rows.Row as number
 use Rattle.document.specs.declared.scalar.Scalar.TheVariants.{Name}
 use Rattle.document.specs.Index.{probe}
@@ -26,14 +25,11 @@ use Rattle.jsonrows.specs.Signature.{text_leaf, other}
 use Rattle.jsonrows.specs.Keys.{find_text}
 use Rattle.jsonrows.specs.Value.{numbered, number_text}
 use Rattle.jsonrows.specs.Grammar.{Setting, Built, built, Outcome, good, refused, leaf_row, place_row, finish, finish_text, after_text}
-use Rattle.jsonrows.specs.State.{text_at, texts_in, built_in, key_rows, Holds, Says}
+use Rattle.jsonrows.specs.State.{text_at, texts_in, built_in, Holds}
 use Rattle.jsonrows.specs.Texts.{probed_of, ProbedAt}
-use Rattle.jsonrows.specs.Seen.{first_listed, entry_key, EntryOf, of_text, entries, Seen, Flagged, KeyOutcome, key_good, key_refused, other_key, key_of, AfterKey, KeySays, key_says, key_says_no, number_of}
-use Rattle.jsonrows.specs.declared.rows.Part.{Part}
-use Rattle.jsonrows.specs.declared.rows.Part.TheVariants.{Read, Refused}
+use Rattle.jsonrows.specs.Seen.{first_listed, of_text, entries, Seen, Flagged, KeyOutcome, key_refused, other_key, key_of, KeySays, key_says, key_says_no, number_of}
 use Rattle.jsonrows.specs.declared.texts.TextProbed.{TextProbed}
 use Rattle.jsonrows.specs.declared.texts.TextProbed.TheVariants.{Known, Free, Crowded}
-use Rattle.jsonrows.specs.declared.members.KeyPart.{KeyPart}
 use Rattle.jsonrows.specs.declared.members.KeyPart.TheVariants.{Key, NoKey}
 use Rattle.jsonrows.proofs.Finding.{eq_eq_list, eq_list_eq}
 use Rattle.jsonrows.proofs.Holding.{Said, small}

@@ -3,7 +3,7 @@ use mathlib.Core.Path.{◌≡◌, refl, sym, ap, subst, ◌∙◌}
 use mathlib.Core.Bool.{true, false, cond}
 use mathlib.Core.List.{List, [], ◌∷◌, ◌++◌}
 use mathlib.Core.Option.{Option, none, some}
-use Prim.Native.Nat.{ℕ, ◌+◌, ◌-◌, ◌<◌, ◌≤◌}
+use Prim.Native.Nat.{ℕ, ◌+◌, ◌-◌, ◌<◌}
 use native.Mathlib.Omega.{arith}
 use borrow.Author.Tests.{lt-ltb, le-ltb}
 use lib.Dec.{ltb}
@@ -15,7 +15,7 @@ use Rattle.model.specs.Build.{find_row}
 use Rattle.model.proofs.Tab.{length_tab}
 use Rattle.document.specs.Rows.{row_in, rows_below, Kept}
 use Rattle.document.specs.Fields.{as_row}
-use Rattle.document.specs.Builder.{find_or_add, Did, Ready}
+use Rattle.document.specs.Builder.{find_or_add, Did}
 use Rattle.document.specs.declared.rows.Row as number
 use Rattle.document.specs.declared.scalar.Scalar.TheVariants.{Name}
 use Rattle.document.specs.declared.builder.Placed.{Placed}
@@ -26,12 +26,11 @@ use Rattle.jsontext.specs.Decoded.{text_slot}
 use Rattle.jsonrows.specs.Signature.{text_leaf}
 use Rattle.jsonrows.specs.Keys.{find_text}
 use Rattle.jsonrows.specs.Value.{numbered}
-use Rattle.jsonrows.specs.Grammar.{Built, built, Outcome, good, refused, leaf_row, place_row, finish, finish_text, after_text}
-use Rattle.jsonrows.specs.State.{text_at, texts_in, built_in, Holds, Says, says_read, says_refused}
+use Rattle.jsonrows.specs.Grammar.{Built, built, good, refused, leaf_row, place_row, finish, finish_text, after_text}
+use Rattle.jsonrows.specs.State.{text_at, texts_in, built_in, Holds, Says, says_read}
 use Rattle.jsonrows.specs.Texts.{ProbedAt}
 use Rattle.jsonrows.specs.declared.texts.TextProbed.TheVariants.{Known as KnownText}
-use Rattle.jsonrows.specs.declared.rows.Part.{Part}
-use Rattle.jsonrows.specs.declared.rows.Part.TheVariants.{Read, Refused}
+use Rattle.jsonrows.specs.declared.rows.Part.TheVariants.{Read}
 use Rattle.jsonrows.proofs.Holding.{says_by, found_inside, after_same}
 use Rattle.jsonrows.proofs.Texting.{Fresh, there, holds_more, texts_more, probe_text, probed_known}
 

@@ -4,11 +4,11 @@ use mathlib.Core.Bool.{Bool, true, false}
 use mathlib.Core.Logic.{◌⊎◌, ⊎_elim}
 use mathlib.Core.List.{List, [], ◌∷◌, ◌++◌}
 use mathlib.Core.Option.{Option, none, some}
-use Prim.Native.Nat.{ℕ, zero, suc, ◌+◌, ◌<◌, ◌≤◌}
+use Prim.Native.Nat.{ℕ, suc, ◌+◌, ◌<◌}
 use native.Mathlib.Nat.{eq-or-lt_of_le}
 use native.Mathlib.Numerals.{add-one}
 use native.Mathlib.Omega.{arith}
-use lib.ListN.{length, get_or, set, length-set}
+use lib.ListN.{get_or, set, length-set}
 use lib.Seq.{get_or-set_same, get_or-set_other}
 use Rattle.base.specs.Text.{got}
 use Rattle.model.specs.Limits.{max_rows}
@@ -18,14 +18,14 @@ use Rattle.model.specs.Build.{find_row}
 use Rattle.model.proofs.Tab.{length_tab, tab_same, tab_snoc}
 use Rattle.document.specs.Rows.{row_in, rows_below}
 use Rattle.document.specs.Fields.{as_row}
-use Rattle.document.specs.Index.{slot_count, probe, Indexed}
+use Rattle.document.specs.Index.{probe, Indexed}
 use Rattle.document.specs.Builder.{Ready}
 use Rattle.document.specs.declared.index.Probed.{Probed}
 use Rattle.document.specs.declared.index.Probed.TheVariants.{Found, Free, Crowded}
 use Rattle.document.specs.declared.scalar.Scalar.TheVariants.{Name}
 use Rattle.document.proofs.Probing.{scan, Opens, Answers, known, free, answers, indexed_same, indexed_more}
 use Rattle.jsontext.specs.Strings.{string_at}
-use Rattle.jsontext.specs.Decoded.{text_slot, same_text, is_text}
+use Rattle.jsontext.specs.Decoded.{text_slot, same_text}
 use Rattle.jsonrows.specs.Signature.{text_leaf}
 use Rattle.jsonrows.specs.Keys.{find_text}
 use Rattle.jsonrows.specs.Grammar.{leaf_row}

@@ -11,7 +11,6 @@ use Rattle.base.specs.Text.{byte_at, Got, got, fault}
 use Rattle.model.specs.Lists.{any, eq_list}
 use Rattle.jsontext.specs.Spaces.{space_end}
 use Rattle.jsontext.specs.Strings.{string_at}
-use Rattle.document.specs.declared.rows.Row as number
 use Rattle.jsonrows.specs.Signature.{end, stop, item, key_symbol}
 use Rattle.jsonrows.specs.Keys.{find_text}
 use Rattle.jsonrows.specs.Grammar.{Setting, Built, Outcome, good, refused, Reader, MemberReader, finish_text, opens?, no_value, close_at, rest_at, after_value, element_by, member_by, after_key, key_by, members_by, body_at, value_by, members, elements, value}

@@ -1,7 +1,7 @@
 -- The keys of an object so far, as the reader keeps them: an entry for each. Assumes nothing.
 use Rattle.std.specs.Prelude.{◌≡◌, Bool, true, false, cond, ℕ, ◌+◌, ◌-◌, ◌<◌, ◌≤◌, eqb, ltb, length, get_or, take, drop, set}
 use mathlib.Core.List.{List, [], ◌∷◌, ◌++◌, Memᴰ as In}
-use Rattle.std.proofs.Math.Option.{Option, none, some}
+use Rattle.std.proofs.Math.Option.{none, some}
 use Rattle.base.specs.Text.{got, fault}
 use Rattle.model.specs.Limits.{unused}
 use Rattle.model.specs.Lists.{any, eq_list}

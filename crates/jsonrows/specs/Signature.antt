@@ -1,5 +1,5 @@
 -- The fixed signature of JSON's trees (document 02, Wish 1): end, stop, other, item, null, flag, number, text, then the keys in the order of the list. Assumes nothing.
-use Rattle.std.specs.Prelude.{◌≡◌, List, [], ◌∷◌, ℕ, ◌+◌, ◌<◌, length, get_or}
+use Rattle.std.specs.Prelude.{◌≡◌, [], ◌∷◌, ℕ, ◌+◌, ◌<◌, length, get_or}
 use Rattle.model.specs.Automaton.{Automaton, arity_of}
 
 -- closes an object

@@ -113,7 +113,7 @@ fn other_key(
     requires lent { classes.now ≡ class_table }
     requires bounds { (level < top) × (top ≤ length pending.old) }
     requires whole { WholeString text.now at slot next }
-    ensures by_index { (keys seen : List (List ℕ)) (key : List ℕ) → string_at text.now at ≡ got key next → find_text key keys ≡ none → Flagged keys listed.now seen → Seen keys text.now starts.old pending.old texts (level + 1) top seen → KeySays keys text.now rows.new slots.new starts.new found.new pending.new listed.now starts.old texts limit level top seen result (key_of (record { keys = keys; limit = limit }) level seen at key next (built_in text.now rows.old starts.old used texts)) }
+    ensures says { (keys seen : List (List ℕ)) (key : List ℕ) → string_at text.now at ≡ got key next → find_text key keys ≡ none → Flagged keys listed.now seen → Seen keys text.now starts.old pending.old texts (level + 1) top seen → KeySays keys text.now rows.new slots.new starts.new found.new pending.new listed.now starts.old texts limit level top seen result (key_of (record { keys = keys; limit = limit }) level seen at key next (built_in text.now rows.old starts.old used texts)) }
     ensures kept { drop (level + 1) pending.new ≡ drop (level + 1) pending.old }
 {
     if level == 0 {
@@ -159,7 +159,7 @@ fn looked_up(
     requires lent { classes.now ≡ class_table }
     requires bounds { (level < top) × (top ≤ length pending.old) }
     requires table { KeyTable list.now places.now key_slots.now }
-    ensures by_index { (seen : List (List ℕ)) → Flagged (lines list.now) listed.old seen → Seen (lines list.now) text.now starts.old pending.old texts (level + 1) top seen → KeySays (lines list.now) text.now rows.new slots.new starts.new found.new pending.new listed.new starts.old texts limit level top seen result (key_at (record { keys = lines list.now; limit = limit }) text.now level seen at (built_in text.now rows.old starts.old used texts)) }
+    ensures says { (seen : List (List ℕ)) → Flagged (lines list.now) listed.old seen → Seen (lines list.now) text.now starts.old pending.old texts (level + 1) top seen → KeySays (lines list.now) text.now rows.new slots.new starts.new found.new pending.new listed.new starts.old texts limit level top seen result (key_at (record { keys = lines list.now; limit = limit }) text.now level seen at (built_in text.now rows.old starts.old used texts)) }
     ensures kept { drop (level + 1) pending.new ≡ drop (level + 1) pending.old }
 {
     match read(text, classes, at) {
@@ -211,7 +211,7 @@ pub(crate) fn key_at(
     requires lent { classes.now ≡ class_table }
     requires bounds { (level < top) × (top ≤ length pending.old) }
     requires table { KeyTable list.now places.now key_slots.now }
-    ensures by_index { (seen : List (List ℕ)) → Flagged (lines list.now) listed.old seen → Seen (lines list.now) text.now starts.old pending.old texts (level + 1) top seen → KeySays (lines list.now) text.now rows.new slots.new starts.new found.new pending.new listed.new starts.old texts limit level top seen result (key_at (record { keys = lines list.now; limit = limit }) text.now level seen at (built_in text.now rows.old starts.old used texts)) }
+    ensures says { (seen : List (List ℕ)) → Flagged (lines list.now) listed.old seen → Seen (lines list.now) text.now starts.old pending.old texts (level + 1) top seen → KeySays (lines list.now) text.now rows.new slots.new starts.new found.new pending.new listed.new starts.old texts limit level top seen result (key_at (record { keys = lines list.now; limit = limit }) text.now level seen at (built_in text.now rows.old starts.old used texts)) }
     ensures kept { drop (level + 1) pending.new ≡ drop (level + 1) pending.old }
 {
     let k = line_of(guess);

@@ -301,7 +301,7 @@ fn head(
     requires lent { classes.now ≡ class_table }
     requires table { KeyTable list.now places.now key_slots.now }
     requires below { object ≡ true → (level < top) × (top ≤ length pending.old) }
-    ensures by_index { (seen : List (List ℕ)) → (object ≡ true → Flagged (lines list.now) listed.old seen) → (object ≡ true → Seen (lines list.now) text.now starts.old pending.old texts (level + 1) top seen) → HeadSays object (record { keys = lines list.now; limit = limit }) text.now rows.new slots.new starts.new found.new pending.new listed.new starts.old texts level top seen at (built_in text.now rows.old starts.old used texts) result }
+    ensures says { (seen : List (List ℕ)) → (object ≡ true → Flagged (lines list.now) listed.old seen) → (object ≡ true → Seen (lines list.now) text.now starts.old pending.old texts (level + 1) top seen) → HeadSays object (record { keys = lines list.now; limit = limit }) text.now rows.new slots.new starts.new found.new pending.new listed.new starts.old texts level top seen at (built_in text.now rows.old starts.old used texts) result }
     ensures kept { drop (level + 1) pending.new ≡ drop (level + 1) pending.old }
 {
     if !object {

@@ -1,10 +1,9 @@
 -- The slot of a string's decoded bytes: what the loop knows at its head. Assumes nothing.
-use mathlib.Core.Path.{◌≡◌, refl, sym, ap, ◌∙◌, subst}
-use mathlib.Core.List.{List, [], ◌++◌, append_assoc}
+use mathlib.Core.Path.{◌≡◌, sym, ap, ◌∙◌}
+use mathlib.Core.List.{List, [], ◌++◌}
 use Prim.Native.Nat.{ℕ, ◌+◌}
-use native.Mathlib.Omega.{arith}
-use Rattle.base.specs.Text.{byte_at, Got, got, fault}
-use Rattle.jsontext.specs.Strings.{closed, bad, piece_at, string_at}
+use Rattle.base.specs.Text.{byte_at, got, fault}
+use Rattle.jsontext.specs.Strings.{bad, piece_at, string_at}
 use Rattle.jsontext.specs.Decoded.{text_slot, as_slot}
 use Rattle.jsontext.specs.declared.slots.Kept.{Kept}
 use Rattle.jsontext.specs.Kept.{Keeps}

@@ -1,11 +1,10 @@
 -- The rows of UTF-8's table by lead byte: one computed test over every byte says that each is built of the byte's three numbers. Assumes nothing.
 use mathlib.Core.Path.{◌≡◌, refl, sym, ap, ◌∙◌}
-use mathlib.Core.Bool.{Bool, true, false, not, cond}
+use mathlib.Core.Bool.{Bool, true, false, cond}
 use mathlib.Core.List.{List, [], ◌∷◌}
 use mathlib.Core.Option.{Option, none, some}
 use Prim.Native.Nat.{ℕ, zero, suc, ◌+◌, ◌-◌, ◌<◌, ◌≤◌}
 use native.Mathlib.Omega.{arith}
-use borrow.Author.Tests.{not-true, not-false}
 use lib.Dec.{eqb, ltb}
 use lib.ListN.{length, get_or, replicate}
 use Rattle.model.specs.Lists.{tab}
@@ -114,28 +113,28 @@ module _ (t : List ℕ) (i b n lo hi : ℕ) (here : b ≡ byte_at t i) (byte : b
 
   -- the byte x behind it, and whether it is within the bounds
   module _ (x : ℕ) (w : Bool) (some : n ≡ 0 → ⊥) (behind : x ≡ byte_at t (i + 1)) (test : w ≡ between lo hi x) where
-    pub lead_bad : not w ≡ true → broken_at (i + 1) ≡ sequence_at t i
+    pub lead_bad : w ≡ false → broken_at (i + 1) ≡ sequence_at t i
     unfolding pass_at
     lead_bad g = go n some by_numbers
       where
         go : (m : ℕ) → (m ≡ 0 → ⊥) → pass_row (built m lo hi) t i ≡ sequence_at t i → broken_at (i + 1) ≡ sequence_at t i
         go zero f e = absurd (f refl)
-        go (suc m) f e = rw (pass_at, tested (between lo hi) behind test (not-true w g)) at e
+        go (suc m) f e = rw (pass_at, tested (between lo hi) behind test g) at e
 
-    pub lead_more : not w ≡ false → pass_at (replicate (n - 1) tail) t (i + 2) ≡ sequence_at t i
+    pub lead_more : w ≡ true → pass_at (replicate (n - 1) tail) t (i + 2) ≡ sequence_at t i
     unfolding pass_at
     lead_more g = go n some by_numbers
       where
         go : (m : ℕ) → (m ≡ 0 → ⊥) → pass_row (built m lo hi) t i ≡ sequence_at t i → pass_at (replicate (m - 1) tail) t (i + 2) ≡ sequence_at t i
         go zero f e = absurd (f refl)
         go (suc m) f e =
-            let y : pass_at (replicate m tail) t (i + 1 + 1) ≡ sequence_at t i = rw (pass_at, tested (between lo hi) behind test (not-false w g)) at e in
+            let y : pass_at (replicate m tail) t (i + 1 + 1) ≡ sequence_at t i = rw (pass_at, tested (between lo hi) behind test g) at e in
             let z : suc m - 1 ≡ m = omega arith in
             let u : i + 1 + 1 ≡ i + 2 = omega arith in
             rw z (rw u at y)
 
-    pub second_inside : not w ≡ false → i + 1 < length t
-    second_inside g = class_inside (between lo hi) zero_fails t (i + 1) (tested (between lo hi) behind test (not-false w g))
+    pub second_inside : w ≡ true → i + 1 < length t
+    second_inside g = class_inside (between lo hi) zero_fails t (i + 1) (tested (between lo hi) behind test g)
       where
         zero_fails : between lo hi 0 ≡ false
         zero_fails = rw low (lowest_rejects b hi)

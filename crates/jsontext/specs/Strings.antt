@@ -1,5 +1,5 @@
 -- A JSON string at a place (RFC 8259, section 7): its bytes after escapes are decoded, or the first byte that has no legal continuation (document 02, Wish 1: 71). Assumes nothing.
-use Rattle.std.specs.Prelude.{List, [], ◌∷◌, ◌++◌, Bool, true, false, not, ◌&&◌, ◌||◌, cond, ℕ, zero, suc, ◌+◌, ◌-◌, ◌*◌, ◌%◌, eqb, leb, ltb, length, take, drop}
+use Rattle.std.specs.Prelude.{List, [], ◌++◌, Bool, true, false, not, ◌&&◌, ◌||◌, cond, ℕ, zero, suc, ◌+◌, ◌-◌, ◌*◌, ◌%◌, eqb, leb, ltb, length, take, drop}
 use Rattle.classes.specs.Classes.{digit?, either_hex_digit?, control?}
 use Rattle.base.specs.Text.{byte_at, Got, got, fault}
 use Rattle.jsontext.specs.Utf8.{between, Stretch, up_to, broken_at, sequence_at, utf8}

@@ -38,7 +38,7 @@ fn hex_value(b: u8) -> u32
 // Four hex digits.
 fn hex(text: &[u8], classes: &[u8; 256], at: usize) -> HexRead
     requires { at ≤ length text.now }
-    ensures result_value { classes.now ≡ class_table → hex_of result ≡ hex_from 4 text.now 0 at }
+    ensures answer { classes.now ≡ class_table → hex_of result ≡ hex_from 4 text.now 0 at }
     ensures inside { HexInside text.now at result }
 {
     let mut v: u32 = 0;
@@ -75,7 +75,7 @@ fn is_low(b: u8) -> bool
 // The digits of a first `\u`, which are no low surrogate's.
 fn first_unit(text: &[u8], classes: &[u8; 256], at: usize) -> HexRead
     requires { at ≤ length text.now }
-    ensures result_value { classes.now ≡ class_table → hex_of result ≡ first_unit text.now at }
+    ensures answer { classes.now ≡ class_table → hex_of result ≡ first_unit text.now at }
     ensures inside { HexInside text.now at result }
 {
     if !is_dee(byte_at(text, at)) {
@@ -90,7 +90,7 @@ fn first_unit(text: &[u8], classes: &[u8; 256], at: usize) -> HexRead
 // The digits of a second `\u`, which are a low surrogate's.
 fn second_unit(text: &[u8], classes: &[u8; 256], at: usize) -> HexRead
     requires { at ≤ length text.now }
-    ensures result_value { classes.now ≡ class_table → hex_of result ≡ second_unit text.now at }
+    ensures answer { classes.now ≡ class_table → hex_of result ≡ second_unit text.now at }
     ensures inside { HexInside text.now at result }
 {
     if !is_dee(byte_at(text, at)) {
@@ -105,7 +105,7 @@ fn second_unit(text: &[u8], classes: &[u8; 256], at: usize) -> HexRead
 // What follows a high surrogate.
 fn pair(text: &[u8], classes: &[u8; 256], v: u32, at: usize) -> StringPiece
     requires { at ≤ length text.now }
-    ensures result_value { classes.now ≡ class_table → piece_of result ≡ pair_at text.now v at }
+    ensures answer { classes.now ≡ class_table → piece_of result ≡ pair_at text.now v at }
     ensures inside { EscapeInside text.now at result }
 {
     if byte_at(text, at) != b'\\' {
@@ -123,7 +123,7 @@ fn pair(text: &[u8], classes: &[u8; 256], v: u32, at: usize) -> StringPiece
 // What follows `\u`.
 fn unicode(text: &[u8], classes: &[u8; 256], at: usize) -> StringPiece
     requires { at ≤ length text.now }
-    ensures result_value { classes.now ≡ class_table → piece_of result ≡ unicode_at text.now at }
+    ensures answer { classes.now ≡ class_table → piece_of result ≡ unicode_at text.now at }
     ensures inside { EscapeInside text.now at result }
 {
     match first_unit(text, classes, at) {
@@ -157,7 +157,7 @@ fn simple(b: u8) -> u32
 // What follows a backslash.
 fn escape(text: &[u8], classes: &[u8; 256], at: usize) -> StringPiece
     requires { at ≤ length text.now }
-    ensures result_value { classes.now ≡ class_table → piece_of result ≡ escape_at text.now at }
+    ensures answer { classes.now ≡ class_table → piece_of result ≡ escape_at text.now at }
     ensures inside { EscapeInside text.now at result }
 {
     let b = byte_at(text, at);
@@ -173,7 +173,7 @@ fn escape(text: &[u8], classes: &[u8; 256], at: usize) -> StringPiece
 
 // What stands at a place.
 pub(crate) fn piece_at(text: &[u8], classes: &[u8; 256], at: usize) -> StringPiece
-    ensures result_value { classes.now ≡ class_table → piece_of result ≡ piece_at text.now at }
+    ensures answer { classes.now ≡ class_table → piece_of result ≡ piece_at text.now at }
     ensures inside { PieceInside text.now at result }
 {
     if at >= text.len() {

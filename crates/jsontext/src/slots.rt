@@ -41,7 +41,7 @@ fn low(x: u64) -> u32
 // n bytes more, of which the first eight are given, and the last eight of all.
 fn keep(k: Kept, n: usize, front: u64, last: u64) -> Kept
     requires { k.few ≤ 8 }
-    ensures by_index { (bs xs : List ℕ) → Keeps bs k → Bytes xs → n ≡ length xs → front ≡ join_bytes (take 8 xs) → last ≡ last_eight (bs ++ xs) → Keeps (bs ++ xs) result }
+    ensures kept { (bs xs : List ℕ) → Keeps bs k → Bytes xs → n ≡ length xs → front ≡ join_bytes (take 8 xs) → last ≡ last_eight (bs ++ xs) → Keeps (bs ++ xs) result }
     ensures few { result.few ≤ 8 }
 {
     let few = k.few;
@@ -66,7 +66,7 @@ fn keep(k: Kept, n: usize, front: u64, last: u64) -> Kept
 // A few bytes more, joined.
 pub(crate) fn keep_few(k: Kept, w: u64, n: usize) -> Kept
     requires { (k.few ≤ 8) × (0 < n) × (n < 8) }
-    ensures by_index { (bs xs : List ℕ) → Keeps bs k → Bytes xs → n ≡ length xs → w ≡ join_bytes xs → Keeps (bs ++ xs) result }
+    ensures kept { (bs xs : List ℕ) → Keeps bs k → Bytes xs → n ≡ length xs → w ≡ join_bytes xs → Keeps (bs ++ xs) result }
     ensures few { result.few ≤ 8 }
 {
     let last = k.last;
@@ -76,7 +76,7 @@ pub(crate) fn keep_few(k: Kept, w: u64, n: usize) -> Kept
 // The bytes from a place up to another more.
 pub(crate) fn keep_part(k: Kept, text: &[u8], at: usize, end: usize) -> Kept
     requires { (k.few ≤ 8) × (at ≤ end) × (end ≤ length text.now) }
-    ensures by_index { (bs : List ℕ) → Keeps bs k → Keeps (bs ++ part text.now at end) result }
+    ensures kept { (bs : List ℕ) → Keeps bs k → Keeps (bs ++ part text.now at end) result }
     ensures few { result.few ≤ 8 }
 {
     let n = end - at;

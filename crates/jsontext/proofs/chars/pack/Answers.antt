@@ -1,5 +1,4 @@
 -- By the size of the code point. Assumes nothing.
-use borrow.Author.Rules.{rules}
 use Rattle.jsontext.proofs.Packing.{packs_one, packs_two, packs_three, packs_four}
 use Rattle.jsontext.proofs.chars.pack.Goals as goal
 

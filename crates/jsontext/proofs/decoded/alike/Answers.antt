@@ -1,8 +1,5 @@
-use Prim.Native.Nat.{◌+◌, ◌-◌, ◌≤◌}
-use borrow.Author.Rules.{rules}
+-- At the loop's head n bytes agree. Assumes nothing.
 use native.Mathlib.Omega.{arith}
-use lib.ListN.{length}
-use Rattle.jsontext.specs.Compared.{Alike}
 use Rattle.jsontext.proofs.Agreeing.{alike_none, alike_join}
 use Rattle.jsontext.proofs.decoded.alike.Goals as goal
 
@@ -19,7 +16,7 @@ pub overflow_add-j : goal.overflow_add-j
 overflow_add-j c = omega (arith, c.loop-n.invariant.1.second.inside)
 
 pub alike_word-m-requires : goal.alike_word-m-requires
-alike_word-m-requires c = (omega (arith, c.loop-n.invariant.0, c.smaller-room.ensures, c.requires), omega (arith, c.loop-n.invariant.0, c.smaller-room.ensures, c.requires))
+alike_word-m-requires c = record { first = omega (arith, c.loop-n.invariant.0, c.smaller-room.ensures); second = omega (arith, c.loop-n.invariant.0, c.smaller-room.ensures) }
 
 pub overflow_add-n : goal.overflow_add-n
 overflow_add-n c = omega (arith, c.alike_word-m.ensures.first.inside)

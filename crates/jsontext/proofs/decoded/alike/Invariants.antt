@@ -1,10 +1,6 @@
 -- At the loop's head n bytes agree. Assumes nothing.
-use Prim.Native.Nat.{◌+◌, ◌-◌, ◌≤◌}
-use borrow.Author.Rules.{rules}
-use native.Mathlib.Omega.{arith}
-use lib.ListN.{length}
+use Prim.Native.Nat.{◌-◌, ◌≤◌}
 use Rattle.jsontext.specs.Compared.{Alike}
-use Rattle.jsontext.proofs.Agreeing.{alike_none, alike_join}
 use Rattle.jsontext.proofs.decoded.alike.Given as goal
 
 abbrev pub invariant-loop-n : goal.invariant-loop-n

@@ -1,10 +1,8 @@
+-- At the loop's head n bytes agree. Assumes nothing.
 use mathlib.Core.Path.{sym, ◌∙◌}
-use Prim.Native.Nat.{◌+◌, ◌-◌, ◌<◌}
-use borrow.Author.Rules.{rules}
-use borrow.Author.Tests.{not-false}
+use Prim.Native.Nat.{◌+◌, ◌<◌}
 use native.Mathlib.Omega.{arith}
 use lib.ListN.{length}
-use Rattle.jsontext.specs.Compared.{Alike}
 use Rattle.jsontext.proofs.Agreeing.{plain_inside, alike_none, alike_more}
 use Rattle.jsontext.proofs.decoded.alike_rest.Goals as goal
 

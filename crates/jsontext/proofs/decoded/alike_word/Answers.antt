@@ -1,5 +1,4 @@
 -- Up to the lowest bit that tells the words apart or marks a byte. Assumes nothing.
-use borrow.Author.Rules.{rules}
 use native.Mathlib.Omega.{arith}
 use lib.Bits.{bit_or, bit_xor}
 use lib.Count.{trailing_le}

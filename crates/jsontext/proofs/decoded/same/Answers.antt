@@ -1,5 +1,4 @@
 -- Where both have their quotes. Assumes nothing.
-use borrow.Author.Rules.{rules}
 use Rattle.jsontext.proofs.Scanning.{scan_start}
 use Rattle.jsontext.proofs.Comparing.{first_none, second_none}
 use Rattle.jsontext.proofs.decoded.same.Goals as goal

@@ -1,13 +1,9 @@
 -- At the loop's head the same bytes were read of both strings. Assumes nothing.
-use mathlib.Core.Path.{◌≡◌, ◌∙◌, subst}
-use Prim.Native.Nat.{◌+◌, ◌-◌, ◌≤◌}
-use borrow.Author.Rules.{rules}
-use native.Mathlib.Omega.{arith}
+use mathlib.Core.Path.{◌≡◌}
+use Prim.Native.Nat.{◌-◌, ◌≤◌}
 use lib.ListN.{length}
 use Rattle.classes.specs.Classes.{class_table}
-use Rattle.jsontext.specs.StringAnswers.{Ahead}
-use Rattle.jsontext.specs.Chars.{Character, CharSays, CharInside}
-use Rattle.jsontext.proofs.Comparing.{Both, both_begin, both_alike, both_end, both_second_end, both_broken, both_second_broken, both_differ, both_agree}
+use Rattle.jsontext.proofs.Comparing.{Both}
 use Rattle.jsontext.proofs.decoded.same_quoted.Given as goal
 
 abbrev pub invariant-loop-a : goal.invariant-loop-a

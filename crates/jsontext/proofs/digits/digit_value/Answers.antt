@@ -1,6 +1,5 @@
 -- A digit's low four bits are its value. Assumes nothing.
 use native.Mathlib.Omega.{arith}
-use borrow.Author.Rules.{rules}
 use Rattle.classes.proofs.Ranges.{digit_range}
 use Rattle.jsontext.proofs.digits.digit_value.Goals as goal
 

@@ -1,7 +1,6 @@
 -- A minus stands inside the text. Assumes nothing.
 use mathlib.Core.Path.{sym, ap, ◌∙◌}
 use native.Mathlib.Omega.{arith}
-use borrow.Author.Rules.{rules}
 use Rattle.base.proofs.Bytes.{byte_inside}
 use Rattle.jsontext.specs.Number.{as_scalar}
 use Rattle.jsontext.proofs.NumberWays.{number_negative, number_plain}

@@ -1,6 +1,5 @@
 -- A count, a rate of at most 15 digits, or none. Assumes nothing.
 use native.Mathlib.Omega.{arith}
-use borrow.Author.Rules.{rules}
 use Rattle.jsontext.proofs.DigitRuns.{short_up}
 use Rattle.jsontext.proofs.NumberScalars.{as_count, as_none, as_rate}
 use Rattle.jsontext.proofs.number.as_scalar.Goals as goal

@@ -1,6 +1,5 @@
 -- The whole part, then what stands behind it. Assumes nothing.
 use mathlib.Core.Path.{◌∙◌, subst}
-use borrow.Author.Rules.{rules}
 use Rattle.jsontext.specs.Number.{whole_at}
 use Rattle.jsontext.specs.NumberAnswer.{BoundedFrom}
 use Rattle.jsontext.proofs.NumberParts.{found, not_found, whole_read, whole_faults}

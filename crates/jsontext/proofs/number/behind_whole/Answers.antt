@@ -3,7 +3,6 @@ use Prim.Native.Nat.{◌<◌}
 use mathlib.Core.Path.{sym, ap, ◌∙◌, subst}
 use lib.ListN.{length}
 use native.Mathlib.Omega.{arith}
-use borrow.Author.Rules.{rules}
 use Rattle.base.proofs.Bytes.{byte_inside}
 use Rattle.jsontext.specs.Number.{as_scalar, some_digits}
 use Rattle.jsontext.specs.NumberAnswer.{BoundedFrom}

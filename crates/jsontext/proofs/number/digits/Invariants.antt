@@ -1,12 +1,9 @@
 -- At the loop's head the digits left come to the whole of them. Assumes nothing.
 use Prim.Native.Nat.{◌-◌}
-use mathlib.Core.Path.{◌≡◌, sym, ◌∙◌}
-use native.Mathlib.Omega.{arith}
-use borrow.Author.Rules.{rules}
-use borrow.Author.Tests.{not-true, not-false}
+use mathlib.Core.Path.{◌≡◌}
 use lib.ListN.{length}
 use Rattle.classes.specs.Classes.{class_table}
-use Rattle.jsontext.proofs.DigitRuns.{Scanned, scanned_none, scanned_end, scanned_stop, scanned_more}
+use Rattle.jsontext.proofs.DigitRuns.{Scanned}
 use Rattle.jsontext.proofs.number.digits.Given as goal
 
 abbrev pub invariant-loop-i : goal.invariant-loop-i

@@ -1,7 +1,6 @@
 -- A short whole part with a fraction behind it or nothing, or any number. Assumes nothing.
 use mathlib.Core.Path.{sym}
 use native.Mathlib.Omega.{arith}
-use borrow.Author.Rules.{rules}
 use Rattle.jsontext.specs.NumberAnswer.{ShortWhole}
 use Rattle.jsontext.proofs.ShortRuns.{whole_count}
 use Rattle.jsontext.proofs.number.number.Goals as goal

@@ -1,6 +1,5 @@
 -- Digits that end early, none of them a 0 before others, are the whole part. Assumes nothing.
 use native.Mathlib.Omega.{arith}
-use borrow.Author.Rules.{rules}
 use Rattle.jsontext.specs.NumberAnswer.{ShortWhole}
 use Rattle.jsontext.proofs.ShortRuns.{not_short, whole_placed, whole_begins}
 use Rattle.jsontext.proofs.number.short_whole.Goals as goal
@@ -12,7 +11,7 @@ pub returns-then-at-text : goal.returns-then-at-text
 returns-then-at-text c = record { placed = not_short; begins = λ _. not_short }
 
 pub few_digits-run-requires : goal.few_digits-run-requires
-few_digits-run-requires c = ((omega arith, omega arith), (0, omega arith, omega arith))
+few_digits-run-requires c = record { order = (omega arith, omega arith); fitting = (0, omega arith, omega arith) }
 
 pub returns-then-next-at : goal.returns-then-next-at
 returns-then-next-at c = record { placed = not_short; begins = λ _. not_short }

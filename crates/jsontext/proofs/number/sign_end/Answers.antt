@@ -1,7 +1,6 @@
 -- A sign stands inside the text. Assumes nothing.
 use mathlib.Core.Path.{refl, sym, ap, ◌∙◌}
 use native.Mathlib.Omega.{arith}
-use borrow.Author.Rules.{rules}
 use Rattle.base.proofs.Bytes.{class_inside}
 use Rattle.jsontext.proofs.NumberWays.{sign?, sign_there, sign_not}
 use Rattle.jsontext.proofs.number.sign_end.Goals as goal

@@ -1,6 +1,5 @@
 -- One digit, then all of them. Assumes nothing.
 use mathlib.Core.Path.{sym, ap, ◌∙◌}
-use borrow.Author.Rules.{rules}
 use Rattle.classes.specs.Classes.{digit?}
 use Rattle.jsontext.specs.NumberAnswer.{carried_at}
 use Rattle.jsontext.proofs.NumberWays.{some_digits_lem, none_there}

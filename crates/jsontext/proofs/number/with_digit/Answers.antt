@@ -1,8 +1,7 @@
 -- A value that a digit takes to 2^64 is no longer carried, and never again. Assumes nothing.
-use mathlib.Core.Path.{◌≡◌, refl, sym, ◌∙◌}
+use mathlib.Core.Path.{refl, sym, ◌∙◌}
 use Prim.Native.Nat.{◌+◌, ◌-◌, ◌*◌, ◌/◌, ◌^◌, ◌≤◌}
 use native.Mathlib.Omega.{arith}
-use borrow.Author.Rules.{rules}
 use borrow.Author.Tests.{ltb-true, ltb-false}
 use Rattle.base.proofs.Tenths.{tenth_fits}
 use Rattle.jsontext.proofs.DigitRuns.{carry_past, carry_fits, short_more, short_past}

@@ -1,13 +1,8 @@
 -- At the loop's head n digits were read. Assumes nothing.
-use mathlib.Core.Path.{◌≡◌, sym, ◌∙◌}
-use mathlib.Core.Bool.{true}
+use mathlib.Core.Path.{◌≡◌}
 use Prim.Native.Nat.{◌-◌}
-use borrow.Author.Rules.{rules}
-use native.Mathlib.Omega.{arith}
-use borrow.Author.Tests.{not-true, not-false}
-use Rattle.classes.specs.Classes.{either_hex_digit?, class_table}
-use Rattle.base.specs.Text.{byte_at}
-use Rattle.jsontext.proofs.HexDigits.{Hex, hex_none, hex_end, hex_ahead, hex_room, hex_stop, hex_past, hex_more}
+use Rattle.classes.specs.Classes.{class_table}
+use Rattle.jsontext.proofs.HexDigits.{Hex}
 use Rattle.jsontext.proofs.pieces.hex.Given as goal
 
 abbrev pub invariant-loop-n : goal.invariant-loop-n

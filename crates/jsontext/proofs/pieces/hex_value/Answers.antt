@@ -1,5 +1,4 @@
 -- The sum is the value. Assumes nothing.
-use mathlib.Core.Path.{◌≡◌}
 use borrow.Author.Rules.{rules}
 use native.Mathlib.Omega.{arith}
 use Rattle.jsontext.proofs.HexDigits.{sum_value}

@@ -1,5 +1,4 @@
 -- The definition. Assumes nothing.
-use borrow.Author.Rules.{rules}
 use Rattle.jsontext.specs.Strings.{low?}
 use Rattle.jsontext.proofs.pieces.is_low.Goals as goal
 

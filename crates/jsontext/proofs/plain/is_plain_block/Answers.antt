@@ -1,9 +1,5 @@
-use mathlib.Core.Path.{◌≡◌}
-use mathlib.Core.Bool.{true}
-use Prim.Native.Nat.{◌+◌, ◌-◌, ◌≤◌}
-use borrow.Author.Rules.{rules}
+-- At the loop's head k bytes were tried. Assumes nothing.
 use native.Mathlib.Omega.{arith}
-use Rattle.jsontext.specs.StringAnswers.{Plains}
 use Rattle.jsontext.proofs.PlainRuns.{block_none, block_more, block_all}
 use Rattle.jsontext.proofs.plain.is_plain_block.Goals as goal
 

@@ -1,9 +1,5 @@
-use Prim.Native.Nat.{◌-◌}
-use borrow.Author.Rules.{rules}
-use borrow.Author.Tests.{not-false}
+-- At the loop's head the bytes so far stand for themselves. Assumes nothing.
 use native.Mathlib.Omega.{arith}
-use lib.ListN.{length}
-use Rattle.jsontext.specs.StringAnswers.{Plains}
 use Rattle.jsontext.proofs.PlainRuns.{plains_none, plains_join}
 use Rattle.jsontext.proofs.plain.plain_blocks.Goals as goal
 

@@ -1,8 +1,5 @@
-use Prim.Native.Nat.{◌-◌, ◌≤◌}
-use borrow.Author.Rules.{rules}
+-- At the loop's head the bytes so far stand for themselves. Assumes nothing.
 use native.Mathlib.Omega.{arith}
-use lib.ListN.{length}
-use Rattle.jsontext.specs.StringAnswers.{Plains}
 use Rattle.jsontext.proofs.PlainRuns.{plains_none, plains_join, plains_fewer}
 use Rattle.jsontext.proofs.plain.plain_end.Goals as goal
 

@@ -1,10 +1,7 @@
 -- At the loop's head the bytes so far stand for themselves. Assumes nothing.
 use Prim.Native.Nat.{◌-◌, ◌≤◌}
-use borrow.Author.Rules.{rules}
-use native.Mathlib.Omega.{arith}
 use lib.ListN.{length}
 use Rattle.jsontext.specs.StringAnswers.{Plains}
-use Rattle.jsontext.proofs.PlainRuns.{plains_none, plains_join, plains_fewer}
 use Rattle.jsontext.proofs.plain.plain_end.Given as goal
 
 abbrev pub invariant-loop-i : goal.invariant-loop-i

@@ -1,5 +1,4 @@
 -- Blocks, then words. Assumes nothing.
-use borrow.Author.Rules.{rules}
 use Rattle.jsontext.proofs.PlainRuns.{plains_join}
 use Rattle.jsontext.proofs.plain.plain_far.Goals as goal
 

@@ -1,8 +1,4 @@
-use Prim.Native.Nat.{◌-◌}
-use borrow.Author.Rules.{rules}
-use borrow.Author.Tests.{not-false}
-use lib.ListN.{length}
-use Rattle.jsontext.specs.StringAnswers.{Plains}
+-- At the loop's head the bytes so far stand for themselves. Assumes nothing.
 use Rattle.jsontext.proofs.PlainRuns.{plains_none, plains_more}
 use Rattle.jsontext.proofs.plain.plain_rest.Goals as goal
 

@@ -1,10 +1,7 @@
 -- At the loop's head the bytes so far stand for themselves. Assumes nothing.
 use Prim.Native.Nat.{◌-◌}
-use borrow.Author.Rules.{rules}
-use borrow.Author.Tests.{not-false}
 use lib.ListN.{length}
 use Rattle.jsontext.specs.StringAnswers.{Plains}
-use Rattle.jsontext.proofs.PlainRuns.{plains_none, plains_more}
 use Rattle.jsontext.proofs.plain.plain_rest.Given as goal
 
 abbrev pub invariant-loop-i : goal.invariant-loop-i

@@ -1,5 +1,4 @@
 -- Up to the lowest mark. Assumes nothing.
-use borrow.Author.Rules.{rules}
 use native.Mathlib.Omega.{arith}
 use lib.Count.{trailing_le}
 use Rattle.jsontext.proofs.Bytewise.{plains_front}

@@ -1,5 +1,4 @@
 -- The word's marks. Assumes nothing.
-use borrow.Author.Rules.{rules}
 use native.Mathlib.Omega.{arith}
 use Rattle.jsontext.proofs.Bytewise.{word_marked}
 use Rattle.jsontext.proofs.plain.word_marks.Goals as goal

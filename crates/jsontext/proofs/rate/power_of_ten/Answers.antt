@@ -1,7 +1,7 @@
-use Prim.Native.Nat.{◌-◌, ◌^◌, ◌≤◌}
+-- At the loop's head the power is that of the places so far. Assumes nothing.
+use Prim.Native.Nat.{◌^◌}
 use mathlib.Core.Path.{◌≡◌, refl, ap, ◌∙◌}
 use native.Mathlib.Omega.{arith}
-use borrow.Author.Rules.{rules}
 use Rattle.jsontext.proofs.Rates.{power_below, power_more}
 use Rattle.jsontext.proofs.rate.power_of_ten.Goals as goal
 

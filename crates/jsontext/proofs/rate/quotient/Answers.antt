@@ -1,6 +1,5 @@
 -- Both numbers are at most 2^53, so the casts lose nothing. Assumes nothing.
 use native.Mathlib.Omega.{arith}
-use borrow.Author.Rules.{rules}
 use Rattle.jsontext.proofs.Rates.{whole}
 use Rattle.jsontext.proofs.rate.quotient.Goals as goal
 

@@ -1,7 +1,6 @@
 -- The sign is put on after the division. Assumes nothing.
 use mathlib.Core.Path.{ap, ◌∙◌}
 use lib.Ieee.{neg}
-use borrow.Author.Rules.{rules}
 use Rattle.jsontext.specs.Number.{quotient, rate}
 use Rattle.jsontext.proofs.rate.rate.Goals as goal
 

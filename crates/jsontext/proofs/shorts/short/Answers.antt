@@ -1,5 +1,4 @@
 -- The string ends in the first word behind its quote or in the second. Assumes nothing.
-use borrow.Author.Rules.{rules}
 use native.Mathlib.Omega.{arith}
 use Rattle.jsontext.proofs.PlainRuns.{plains_join, plains_fewer}
 use Rattle.jsontext.proofs.shorts.short.Goals as goal

@@ -1,7 +1,6 @@
 -- A quote at the end closes the string. Assumes nothing.
 use mathlib.Core.Path.{sym, ◌∙◌}
 use mathlib.Core.List.{[]}
-use borrow.Author.Rules.{rules}
 use Rattle.jsontext.proofs.shorts.short_to.Goals as goal
 
 pub returns-then-byte_at-ne34 : goal.returns-then-byte_at-ne34
@@ -13,5 +12,5 @@ returns c _ =
       opens = c.requires.0;
       plain = c.requires.1;
       closes = sym c.byte_at.ensures ∙ c.if-byte_at-ne34.false;
-      slot_is = c.kept_slot.ensures _ (c.keep_part.ensures.by_index [] c.keep_none.ensures);
+      slot_is = c.kept_slot.ensures _ (c.keep_part.ensures.kept [] c.keep_none.ensures);
     }

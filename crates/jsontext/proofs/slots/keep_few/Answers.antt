@@ -1,6 +1,5 @@
 -- The last eight move up. Assumes nothing.
 use mathlib.Core.Path.{sym, ap, ◌∙◌}
-use borrow.Author.Rules.{rules}
 use native.Mathlib.Omega.{arith}
 use Rattle.jsontext.specs.Decoded.{join_bytes}
 use lib.Seq.{take_all}
@@ -10,8 +9,8 @@ use Rattle.jsontext.proofs.slots.keep_few.Goals as goal
 pub returns : goal.returns
 returns c =
     record {
-      by_index = λ bs xs v u e f.
-          c.keep.ensures.by_index bs xs v u e (f ∙ ap join_bytes (sym (take_all 8 xs (omega (arith, c.requires)))))
+      kept = λ bs xs v u e f.
+          c.keep.ensures.kept bs xs v u e (f ∙ ap join_bytes (sym (take_all 8 xs (omega (arith, c.requires)))))
           (last_shifted bs xs _ _ _ v.bytes u e (omega (arith, c.requires)) f v.last);
       few = c.keep.ensures.few;
     }

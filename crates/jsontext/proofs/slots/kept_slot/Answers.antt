@@ -1,5 +1,4 @@
 -- The hash of what is kept. Assumes nothing.
-use borrow.Author.Rules.{rules}
 use Rattle.jsontext.proofs.Keeping.{slot_kept}
 use Rattle.jsontext.proofs.slots.kept_slot.Goals as goal
 

@@ -1,10 +1,6 @@
-use Prim.Native.Nat.{◌-◌}
-use mathlib.Core.Path.{◌≡◌, sym, ◌∙◌}
-use borrow.Author.Rules.{rules}
-use borrow.Author.Tests.{not-true, not-false}
-use lib.ListN.{length}
-use Rattle.classes.specs.Classes.{class_table}
-use Rattle.jsontext.proofs.Blanks.{Blank, blank_none, blank_more, blank_stop, blank_all, blank_above}
+-- At the loop's head all bytes so far are spaces. Assumes nothing.
+use mathlib.Core.Path.{sym, ◌∙◌}
+use Rattle.jsontext.proofs.Blanks.{blank_none, blank_more, blank_stop, blank_all, blank_above}
 use Rattle.jsontext.proofs.spaces.space_end.Goals as goal
 
 pub loop-i-init : goal.loop-i-init

@@ -1,11 +1,9 @@
 -- At the loop's head all bytes so far are spaces. Assumes nothing.
 use Prim.Native.Nat.{◌-◌}
-use mathlib.Core.Path.{◌≡◌, sym, ◌∙◌}
-use borrow.Author.Rules.{rules}
-use borrow.Author.Tests.{not-true, not-false}
+use mathlib.Core.Path.{◌≡◌}
 use lib.ListN.{length}
 use Rattle.classes.specs.Classes.{class_table}
-use Rattle.jsontext.proofs.Blanks.{Blank, blank_none, blank_more, blank_stop, blank_all, blank_above}
+use Rattle.jsontext.proofs.Blanks.{Blank}
 use Rattle.jsontext.proofs.spaces.space_end.Given as goal
 
 abbrev pub invariant-loop-i : goal.invariant-loop-i

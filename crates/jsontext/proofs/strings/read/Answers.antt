@@ -1,7 +1,6 @@
 -- A quote behind the bytes that stand for themselves, or a char. Assumes nothing.
 use mathlib.Core.Path.{◌∙◌}
 use Prim.Native.Nat.{◌<◌}
-use borrow.Author.Rules.{rules}
 use native.Mathlib.Omega.{arith}
 use lib.ListN.{length}
 use Rattle.base.proofs.Bytes.{byte_inside}
@@ -31,7 +30,7 @@ pub returns-then-byte_at-eq34 : goal.returns-then-byte_at-eq34
 returns-then-byte_at-eq34 c =
     λ l.
     keeping_end _ _ _ _
-    (keeping_begin _ _ _ _ c.plain_end-i.ensures _ _ (scan_start _ _ _ c.byte_at.ensures c.if-byte_at-ne34.false) c.keep_none.ensures c.keep_part-k.ensures.by_index) _
+    (keeping_begin _ _ _ _ c.plain_end-i.ensures _ _ (scan_start _ _ _ c.byte_at.ensures c.if-byte_at-ne34.false) c.keep_none.ensures c.keep_part-k.ensures.kept) _
     c.byte_at-2.ensures c.if-byte_at-eq34.true _ c.kept_slot.ensures
 
 pub read_on-requires : goal.read_on-requires

@@ -1,6 +1,5 @@
 -- The words of the text are those of the token, so the string is its bytes. Assumes nothing.
 use mathlib.Core.Path.{sym}
-use borrow.Author.Rules.{rules}
 use borrow.Author.Tests.{eqb-true}
 use native.Mathlib.Omega.{arith}
 use Rattle.jsontext.proofs.Places.{never, both}

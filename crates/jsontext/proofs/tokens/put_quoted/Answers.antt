@@ -1,11 +1,10 @@
+-- A quote, the bytes one by one, a quote. Assumes nothing.
 use mathlib.Core.Path.{refl, sym, ◌∙◌}
-use Prim.Native.Nat.{◌+◌, ◌-◌, zero-le}
-use borrow.Author.Rules.{rules}
-use borrow.Author.Tests.{not-true, not-false}
+use Prim.Native.Nat.{◌+◌, zero-le}
 use native.Mathlib.Omega.{arith}
-use lib.ListN.{length, length-set}
+use lib.ListN.{length-set}
 use Rattle.jsontext.proofs.Places.{never}
-use Rattle.jsontext.proofs.Quoting.{Quoting, quoting_none, quoting_more, quoting_plain, quoting_all}
+use Rattle.jsontext.proofs.Quoting.{quoting_none, quoting_more, quoting_plain, quoting_all}
 use Rattle.jsontext.proofs.tokens.put_quoted.Goals as goal
 
 pub bounds-out-0 : goal.bounds-out-0

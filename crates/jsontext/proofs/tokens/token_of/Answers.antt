@@ -1,8 +1,6 @@
 -- Too many bytes or one that does not stand for itself, and there is none; else the words of what was put between quotes. Assumes nothing.
 use mathlib.Core.Path.{refl, sym, ◌∙◌}
 use Prim.Native.Nat.{◌+◌}
-use borrow.Author.Rules.{rules}
-use borrow.Author.Tests.{not-true, not-false}
 use native.Mathlib.Omega.{arith}
 use lib.ListN.{length}
 use Rattle.jsontext.proofs.Places.{never}

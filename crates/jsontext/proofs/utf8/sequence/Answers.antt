@@ -1,7 +1,6 @@
 -- The lead byte's numbers are its row of the table. Assumes nothing.
 use Prim.Native.Nat.{◌<◌, ◌+◌}
 use mathlib.Core.Path.{◌∙◌}
-use borrow.Author.Rules.{rules}
 use native.Mathlib.Omega.{arith}
 use lib.ListN.{length}
 use Rattle.jsontext.proofs.LeadRows.{lead_none, lead_bad, lead_more, lead_inside, second_inside}

@@ -1,12 +1,7 @@
 -- What is left comes to the whole. Assumes nothing.
-use mathlib.Core.Path.{◌≡◌, refl, ◌∙◌}
-use Prim.Native.Nat.{◌-◌}
-use borrow.Author.Rules.{rules}
-use native.Mathlib.Omega.{arith}
-use borrow.Author.Tests.{not-true, not-false}
+use mathlib.Core.Path.{◌≡◌}
 use lib.ListN.{replicate}
 use Rattle.jsontext.specs.Utf8.{tail, pass_at}
-use Rattle.jsontext.proofs.LeadRows.{tail_inside, tails_none, tails_stop, tails_more}
 use Rattle.jsontext.proofs.utf8.tails.Given as goal
 
 abbrev pub invariant-loop-left : goal.invariant-loop-left

@@ -1,8 +1,6 @@
+-- At the loop's head the bytes from i on are joined. Assumes nothing.
 use mathlib.Core.Path.{◌≡◌, sym, ap}
-use Prim.Native.Nat.{◌≤◌, ◌-◌}
-use borrow.Author.Rules.{rules}
 use native.Mathlib.Omega.{arith}
-use lib.ListN.{length, drop}
 use lib.Seq.{drop-length}
 use Rattle.jsontext.specs.Decoded.{join_bytes}
 use Rattle.jsontext.proofs.Keeping.{short_room, short_next}

@@ -1,12 +1,8 @@
 -- At the loop's head the bytes from i on are joined. Assumes nothing.
-use mathlib.Core.Path.{◌≡◌, sym, ap}
-use Prim.Native.Nat.{◌≤◌, ◌-◌}
-use borrow.Author.Rules.{rules}
-use native.Mathlib.Omega.{arith}
+use mathlib.Core.Path.{◌≡◌}
+use Prim.Native.Nat.{◌≤◌}
 use lib.ListN.{length, drop}
-use lib.Seq.{drop-length}
 use Rattle.jsontext.specs.Decoded.{join_bytes}
-use Rattle.jsontext.proofs.Keeping.{short_room, short_next}
 use Rattle.jsontext.proofs.words.short_word.Given as goal
 
 abbrev pub invariant-loop-i : goal.invariant-loop-i

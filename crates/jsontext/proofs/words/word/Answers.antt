@@ -1,5 +1,4 @@
 -- Eight bytes, each times its power of 256. Assumes nothing.
-use borrow.Author.Rules.{rules}
 use native.Mathlib.Omega.{arith}
 use Rattle.jsontext.proofs.Joining.{join_eight}
 use Rattle.jsontext.proofs.words.word.Goals as goal

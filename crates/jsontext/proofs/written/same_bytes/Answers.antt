@@ -1,7 +1,5 @@
+-- At the loop's head k bytes agree. Assumes nothing.
 use mathlib.Core.Path.{◌≡◌, refl, sym, subst, ◌∙◌}
-use Prim.Native.Nat.{◌-◌, ◌≤◌}
-use borrow.Author.Rules.{rules}
-use borrow.Author.Tests.{not-false}
 use native.Mathlib.Omega.{arith}
 use Rattle.jsontext.specs.Compared.{Alike}
 use Rattle.jsontext.proofs.Places.{never}

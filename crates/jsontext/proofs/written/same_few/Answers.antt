@@ -1,7 +1,6 @@
 -- The word is read where both have eight bytes. Assumes nothing.
 use mathlib.Core.Bool.{◌||◌}
 use Prim.Native.Nat.{◌-◌}
-use borrow.Author.Rules.{rules}
 use borrow.Author.Tests.{eqb-false, ltb-false}
 use native.Mathlib.Omega.{arith}
 use lib.Dec.{eqb, ltb}

@@ -1,13 +1,6 @@
 -- At the loop's head k bytes agree. Assumes nothing.
-use mathlib.Core.Path.{refl, sym}
 use Prim.Native.Nat.{◌-◌, ◌≤◌}
-use borrow.Author.Rules.{rules}
-use borrow.Author.Tests.{not-false}
-use native.Mathlib.Omega.{arith}
 use Rattle.jsontext.specs.Compared.{Alike}
-use Rattle.jsontext.proofs.Places.{never}
-use Rattle.jsontext.proofs.Agreeing.{alike_none}
-use Rattle.jsontext.proofs.Writing.{alike_join}
 use Rattle.jsontext.proofs.written.same_part.Given as goal
 
 abbrev pub invariant-loop-k : goal.invariant-loop-k

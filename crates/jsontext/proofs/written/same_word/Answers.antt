@@ -1,6 +1,5 @@
 -- What is shifted out is not compared. Assumes nothing.
 use mathlib.Core.Path.{sym}
-use borrow.Author.Rules.{rules}
 use borrow.Author.Tests.{eqb-true}
 use native.Mathlib.Omega.{arith}
 use Rattle.jsontext.proofs.Places.{never}
@@ -12,8 +11,7 @@ returns-then-word-others c e = never (sym e)
 
 pub returns : goal.returns
 returns c e =
-    let (some, (first, second)) = c.requires in
-    alike_word _ _ _ _ _ some.1 first second
+    alike_word _ _ _ _ _ c.requires.some.1 c.requires.first c.requires.second
     (λ i l. omega (arith, c.shared_slice_known-1.given i))
     (λ i l. omega (arith, c.shared_slice_known-2-1.given i))
     _ _ c.word.ensures c.word-2.ensures c.if-word-others.false

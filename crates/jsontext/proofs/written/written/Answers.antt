@@ -1,6 +1,5 @@
 -- Between the quotes stand the bytes, each of which stands for itself. Assumes nothing.
 use mathlib.Core.Path.{sym}
-use borrow.Author.Rules.{rules}
 use Rattle.jsontext.proofs.Places.{never}
 use Rattle.jsontext.proofs.Writing.{between_quotes}
 use Rattle.jsontext.proofs.written.written.Goals as goal
