@@ -1,0 +1,8 @@
+-- `cidhomba::cidhomba_narrow_states` meets its contract: the answer of `forms::narrow_states`, as a number. Assumes nothing.
+use mathlib.Core.Path.{ap, ◌∙◌}
+use borrow.Author.Rules.{rules}
+use Rattle.cidhomba.specs.Code.{count_code}
+use Rattle.cidhomba.proofs.cidhomba_narrow_states.Goals as goal
+
+pub returns : goal.returns
+returns c = record { answer = c.written_code.ensures ∙ ap count_code c.narrow_states.ensures.answer; space = c.narrow_states.ensures.space }

@@ -1,0 +1,8 @@
+-- `cidhomba::cidhomba_widen_rules` meets its contract: the answer of `forms::widen_rules`, as a number. Assumes nothing.
+use mathlib.Core.Path.{ap, ◌∙◌}
+use borrow.Author.Rules.{rules}
+use Rattle.cidhomba.specs.Code.{count_code}
+use Rattle.cidhomba.proofs.cidhomba_widen_rules.Goals as goal
+
+pub returns : goal.returns
+returns c = record { answer = c.written_code.ensures ∙ ap count_code c.widen_rules.ensures.answer; space = c.widen_rules.ensures.space }

@@ -1,0 +1,8 @@
+-- `cidhomba::cidhomba_witness` meets its contract: the answer, as a number, and the space as it was left. Assumes nothing.
+use mathlib.Core.Path.{ap, ◌∙◌}
+use borrow.Author.Rules.{rules}
+use Rattle.cidhomba.specs.Code.{witness_code}
+use Rattle.cidhomba.proofs.cidhomba_witness.Goals as goal
+
+pub returns : goal.returns
+returns c = record { answer = c.witness_code.ensures ∙ ap witness_code c.witness.ensures.result_value; space = c.witness.ensures.space }
