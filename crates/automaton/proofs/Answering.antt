@@ -1,9 +1,9 @@
 -- The answer of what writes a set, and the space that goes with it. Assumes nothing.
 use mathlib.Core.Path.{◌≡◌, refl, sym, ap, ◌∙◌, subst}
 use mathlib.Core.List.{List, ◌++◌}
-use Prim.Native.Nat.{ℕ, zero, suc, ◌≤◌}
+use Prim.Native.Nat.{ℕ, zero, suc}
 use native.Mathlib.Omega.{arith}
-use lib.ListN.{length, take, drop}
+use lib.ListN.{take, drop}
 use lib.Seq.{take_at}
 use Rattle.model.specs.Automaton.{Automaton}
 use Rattle.model.specs.Refusal.{gives, refuses, unless}

@@ -18,7 +18,7 @@ use Rattle.model.specs.Order.{place}
 use Rattle.model.specs.Sound.{Sound}
 use Rattle.model.specs.Written.{no_rule, rule_at}
 use Rattle.model.proofs.Rows.{in_get_d}
-use Rattle.model.proofs.Tab.{tab_at, length_tab}
+use Rattle.model.proofs.Tab.{tab_at}
 use Rattle.automaton.specs.Form.{header_width, tags_width, state_width, rule_numbers, rule_width, tag_bits, kept_mask, HasRoom, states_offset, rules_offset}
 use Rattle.automaton.specs.declared.Form.{Form}
 use Rattle.automaton.specs.declared.Form.TheVariants.{Narrow, Wide, Isolating}

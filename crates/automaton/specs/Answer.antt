@@ -11,7 +11,6 @@ use Rattle.automaton.specs.declared.Checked.{Checked}
 use Rattle.automaton.specs.declared.Checked.TheVariants.{Passed, Refused}
 use Rattle.automaton.specs.declared.Written.{Written}
 use Rattle.automaton.specs.declared.Written.TheVariants.{Length}
-use Rattle.automaton.specs.declared.Written.TheVariants as Written
 use Rattle.automaton.specs.declared.StoredHeader.{StoredHeader}
 use Rattle.automaton.specs.declared.StoredRule.{StoredRule}
 

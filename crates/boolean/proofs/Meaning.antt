@@ -4,7 +4,6 @@ use mathlib.Core.Logic.{◌⊎◌, ◌↔◌}
 use mathlib.Core.List.{List}
 use mathlib.Core.Bool.{Bool, true, false, ◌||◌, cond}
 use Prim.Native.Nat.{ℕ}
-use native.Mathlib.Omega.{arith}
 use lib.ListN.{length, take}
 use Rattle.model.specs.Tree.{Tree}
 use Rattle.model.specs.Automaton.{Automaton, ForgetsNothing}
@@ -14,8 +13,7 @@ use Rattle.model.specs.Sound.{Sound}
 use Rattle.model.specs.Boolean.{union, product}
 use Rattle.model.proofs.SoundUnion.{union_nothing, union_accepts}
 use Rattle.model.proofs.SoundProduct.{product_nothing, product_accepts}
-use Rattle.automaton.specs.declared.Form.{Form}
-use Rattle.automaton.specs.declared.Form.TheVariants.{Narrow, Wide, Isolating}
+use Rattle.automaton.specs.declared.Form.TheVariants.{Wide, Isolating}
 use Rattle.automaton.specs.Form.{isolating?, HasRoom}
 use Rattle.automaton.specs.Stored.{form_of, decode}
 use Rattle.automaton.specs.Check.{check_of}

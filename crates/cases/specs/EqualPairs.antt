@@ -1,5 +1,5 @@
 -- Lists of equal pairs (document 02, Wish 9): sets whose rules forget tags, computed from bytes: the form, its numbers, the judge, the run check, union and product, the sample, the move. Assumes nothing.
-use Rattle.std.specs.Prelude.{◌≡◌, List, [], ◌∷◌, ◌++◌, map, true, false, ℕ, ◌+◌, ◌/◌, ◌%◌, length, take, drop, replicate}
+use Rattle.std.specs.Prelude.{◌≡◌, List, [], ◌∷◌, ◌++◌, map, true, false, ℕ, ◌/◌, ◌%◌, length, take, drop, replicate}
 use Rattle.model.specs.Refusal.{gives, refuses}
 use Rattle.model.specs.Automaton.{forgets_nothing?}
 use Rattle.model.specs.Papers.{papers?}
@@ -10,7 +10,7 @@ use Rattle.automaton.specs.Stored.{form_of, decode}
 use Rattle.automaton.specs.Check.{check_of}
 use Rattle.runs.specs.Check.{check_run_of}
 use Rattle.boolean.specs.Answer.{combined_of, combined_space}
-use Rattle.forms.specs.Move.{moved_of, moved_space}
+use Rattle.forms.specs.Move.{moved_of}
 use Rattle.cases.specs.Sets.{set_e}
 use Rattle.cases.specs.Cases.{Case, judged, refused, live, unsampled, AllHold, cells_from, a, a=, g, g_names}
 use Rattle.cases.specs.Edges.{bare_in}

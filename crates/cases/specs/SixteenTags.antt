@@ -1,5 +1,5 @@
 -- Sixteen tags (document 02, Wish 2): the two forms, their limits and the moves between them, computed from bytes. Assumes nothing.
-use Rattle.std.specs.Prelude.{◌≡◌, List, [], ◌∷◌, ◌++◌, ℕ, length, replicate}
+use Rattle.std.specs.Prelude.{◌≡◌, List, [], ◌∷◌, ◌++◌, ℕ, replicate}
 use Rattle.model.specs.Refusal.{gives, refuses}
 use Rattle.model.specs.Boolean.{union, product}
 use Rattle.automaton.specs.declared.Form.TheVariants.{Narrow, Wide}

@@ -1,9 +1,8 @@
 -- The line for each answer of the reader, the writer, the judge and the emptiness test is the line for what they are asked. Assumes nothing.
 use mathlib.Core.Path.{◌≡◌, refl, sym, ap, subst, ◌∙◌}
 use mathlib.Core.List.{List, [], ◌++◌}
-use mathlib.Core.Bool.{Bool, true, false}
 use mathlib.Core.Option.{Option, none, some}
-use Prim.Native.Nat.{ℕ, zero, suc, ◌+◌, ◌*◌, ◌≤◌}
+use Prim.Native.Nat.{ℕ, zero, suc, ◌*◌, ◌≤◌}
 use native.Mathlib.Omega.{arith}
 use lib.ListN.{length, take, drop, replicate, length-append, length-replicate}
 use lib.Seq.{take_at}
@@ -19,7 +18,6 @@ use Rattle.document.specs.Rows.{row_cells, encode_rows, decode_rows}
 use Rattle.document.proofs.Encoding.{length_encode}
 use Rattle.runs.specs.Steps.{step_cells}
 use Rattle.membership.specs.declared.Judged.{Judged}
-use Rattle.membership.specs.declared.Judged.TheVariants.{Yes, No, Refused as Stopped}
 use Rattle.membership.specs.Cells.{annotation_cells}
 use Rattle.membership.specs.Judge.{Judging, judge_check_of, judge_answer}
 use Rattle.term.specs.declared.TermRead.{TermRead}
@@ -33,7 +31,7 @@ use Rattle.emptiness.specs.declared.Emptiness.{Emptiness}
 use Rattle.emptiness.specs.declared.Emptiness.TheVariants.{Dead, Live, Refused as Unsampled}
 use Rattle.emptiness.specs.Answer.{emptiness_answer, witness_check_of, space_of, emptiness_of, space_after as witnessAfter}
 use Rattle.emptiness.proofs.Answered.{answer_of as liveAnswer, answer_is as live-is}
-use Rattle.console.specs.Words.{refused_line, refusal_line, alive_lines, dead_line, yes_line, no_line}
+use Rattle.console.specs.Words.{refused_line, refusal_line, alive_lines, dead_line}
 use Rattle.console.specs.Output.{Printed, room, text_space, live_lines, sample_lines, judge_line, rows_line, read_line, judged_line}
 
 -- a space as it is lent, of zeros

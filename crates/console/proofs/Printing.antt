@@ -1,11 +1,10 @@
 -- Lines made of pieces, and the output that they are. Assumes nothing.
-use mathlib.Core.Path.{◌≡◌, refl, ap, subst, ◌∙◌}
+use mathlib.Core.Path.{◌≡◌, refl, ap, ◌∙◌}
 use mathlib.Core.List.{List, [], ◌∷◌, ◌++◌}
-use Prim.Native.Nat.{ℕ, ◌+◌, ◌-◌, ◌<◌, ◌≤◌}
+use Prim.Native.Nat.{ℕ, ◌+◌, ◌<◌, ◌≤◌}
 use native.Mathlib.Omega.{arith}
 use borrow.Author.Tests.{le-leb, lt-leb}
-use lib.ListN.{length, drop, take, length-append, length-drop}
-use lib.Seq.{take_all}
+use lib.ListN.{length, length-append}
 use Rattle.names.specs.Names.{decimal}
 use Rattle.model.specs.Space.{put_at}
 use Rattle.model.proofs.Space.{put_front}

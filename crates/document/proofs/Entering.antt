@@ -13,7 +13,7 @@ use mir.Val.{Fits}
 use lib.Dec.{T}
 use lib.ListN.{length, set, replicate}
 use Rattle.model.specs.Lists.{all_below}
-use Rattle.model.specs.Table.{Row, row_at, scalar?}
+use Rattle.model.specs.Table.{row_at, scalar?}
 use Rattle.model.specs.Build.{eq_row}
 use Rattle.model.proofs.Members.{T_true}
 use Rattle.model.proofs.Below.{Passed, passed_none, passed_more, passed_all, stopped, at, fails}

@@ -7,7 +7,7 @@ use Prim.Native.Nat.{ℕ, zero, suc, ◌+◌, ◌*◌, ◌<◌, ◌≤◌}
 use native.Mathlib.Omega.{arith}
 use borrow.Author.Tests.{lt-ltb}
 use lib.Dec.{T, ltb}
-use lib.ListN.{get_or, take}
+use lib.ListN.{get_or}
 use lib.Seq.{get_or-take}
 use Rattle.model.specs.Limits.{max_rows}
 use Rattle.model.specs.Lists.{eq_list, tab}
@@ -20,7 +20,7 @@ use Rattle.automaton.proofs.Parts.{tab_same, tab_of}
 use Rattle.document.specs.declared.index.Probed.{Probed}
 use Rattle.document.specs.declared.index.Probed.TheVariants.{Found, Free}
 use Rattle.document.specs.declared.builder.Placed.TheVariants.{Known}
-use Rattle.document.specs.Rows.{row_cells, cell_in, row_in, rows_below, encode_row, encode_rows}
+use Rattle.document.specs.Rows.{row_cells, cell_in, row_in, rows_below, encode_row}
 use Rattle.document.specs.Words.{words_cells, Words, same_words}
 use Rattle.document.specs.Fields.{as_row}
 use Rattle.document.specs.Index.{slot_after, at_slot, probe_from, probe, start_slot}

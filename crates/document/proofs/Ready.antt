@@ -13,7 +13,7 @@ use lib.Seq.{take_at, length-take-le}
 use Rattle.model.specs.Limits.{max_rows}
 use Rattle.model.specs.Space.{put_at}
 use Rattle.model.specs.Table.{Row}
-use Rattle.model.specs.Build.{eq_row, find_row, placed, add_row}
+use Rattle.model.specs.Build.{eq_row, find_row, placed}
 use Rattle.model.proofs.Space.{put_fits}
 use Rattle.model.proofs.Tab.{length_tab}
 use Rattle.document.specs.declared.rows.Row as number
@@ -22,7 +22,6 @@ use Rattle.document.specs.declared.index.Probed.TheVariants.{Found, Free, Crowde
 use Rattle.document.specs.declared.builder.Placed.{Placed}
 use Rattle.document.specs.declared.builder.Placed.TheVariants.{Known, Added, Full}
 use Rattle.document.specs.Rows.{row_cells, row_in, rows_below, encode_row, encode_rows, Kept}
-use Rattle.document.specs.Fields.{as_row}
 use Rattle.document.specs.Index.{probe, start_slot}
 use Rattle.document.specs.Builder.{Built, room_for?, place_at, find_or_add, Did, Grows, Ready}
 use Rattle.document.proofs.Putting.{rows_put}

@@ -7,7 +7,6 @@ use Prim.Native.Nat.{ℕ, suc, ◌+◌, ◌*◌, ◌<◌, ◌≤◌}
 use native.Mathlib.Decide.{dec_lt}
 use native.Mathlib.Omega.{arith}
 use borrow.Author.Tests.{lt-ltb, le-leb}
-use lib.Dec.{T}
 use lib.ListN.{length, get_or, set, take, drop, length-map, drop_of_length-le, get_or-eq_default}
 use lib.Seq.{drop-drop, drop-append-add, take_at}
 use Rattle.model.specs.Limits.{max_children, max_rows, unused}

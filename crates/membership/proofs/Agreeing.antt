@@ -1,7 +1,7 @@
 -- Agreement and joining of memories: with two that are joined, in either order, joined in turn, and with tags dropped on either side. Assumes nothing.
 use mathlib.Core.Path.{◌≡◌, refl, sym, ap, ◌∙◌, subst}
-use mathlib.Core.List.{List, [], ◌∷◌}
-use mathlib.Core.Bool.{Bool, true, false, ◌&&◌, cond}
+use mathlib.Core.List.{[], ◌∷◌}
+use mathlib.Core.Bool.{Bool, true, false, cond}
 use Prim.Native.Nat.{ℕ, zero, suc, ◌<◌, ◌≤◌}
 use native.Mathlib.Omega.{arith}
 use native.Mathlib.Decide.{dec_lt}
@@ -10,7 +10,7 @@ use lib.ListN.{get_or}
 use Rattle.model.specs.Lists.{tab}
 use Rattle.model.specs.Automaton.{bit?}
 use Rattle.model.specs.Annotation.{Memory, places_agree, joined_place, agree?, joined}
-use Rattle.model.proofs.Members.{T_and, and_T, T_true}
+use Rattle.model.proofs.Members.{T_and, and_T}
 use Rattle.model.proofs.Tab.{tab_at, tab_past}
 use Rattle.automaton.proofs.Parts.{tab_same}
 use Rattle.membership.specs.Cells.{without}

@@ -1,13 +1,13 @@
 -- What cannot end well may end early: the target's tags that the rule does not forget may be joined first. Assumes nothing.
 use mathlib.Core.Path.{◌≡◌, refl, sym, ap, ◌∙◌, subst}
 use mathlib.Core.List.{List, [], ◌∷◌}
-use mathlib.Core.Bool.{Bool, true, false, ◌&&◌, cond}
-use Prim.Native.Nat.{ℕ, zero, suc, ◌+◌, ◌-◌, ◌<◌, ◌≤◌}
+use mathlib.Core.Bool.{Bool, true, false, cond}
+use Prim.Native.Nat.{ℕ, zero, suc, ◌-◌, ◌<◌, ◌≤◌}
 use native.Mathlib.Omega.{arith}
 use native.Mathlib.Decide.{dec_lt}
 use lib.Dec.{T, eqb}
 use lib.ListN.{get_or, set}
-use Rattle.model.specs.Lists.{concat_map, only, tab}
+use Rattle.model.specs.Lists.{only, tab}
 use Rattle.model.specs.Automaton.{bit?}
 use Rattle.model.specs.Annotation.{Memory, Annotation, places_agree, joined_place, agree?, joined, annotation}
 use Rattle.model.proofs.Members.{T_and, and_T, T_true}
@@ -15,7 +15,7 @@ use Rattle.model.proofs.Tab.{tab_at, tab_past}
 use Rattle.automaton.proofs.Parts.{tab_same}
 use Rattle.membership.specs.Cells.{no_memory, without}
 use Rattle.membership.specs.Entries.{Entry}
-use Rattle.membership.specs.Search.{span, no_annotation, choosable?, tags_in, arity_in, low_in, high_in, forget_asked, state_asked, row_asked, target_asked, rule_asked, leaving, chosen, found}
+use Rattle.membership.specs.Search.{no_annotation, choosable?, tags_in, arity_in, low_in, high_in, forget_asked, state_asked, row_asked, target_asked, rule_asked, chosen, found}
 use Rattle.membership.proofs.Spans.{concat_map_same, none}
 use Rattle.membership.proofs.Places.{joined_tab}
 use Rattle.membership.proofs.Agreeing.{agree_all, same_test, agree_swap, agree_first, agree_second, agree_both, agree_self, joined_turn, dropped_there, dropped_here, joined_early}

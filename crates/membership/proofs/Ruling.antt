@@ -1,16 +1,16 @@
 -- One rule on one row: the search from the target's tags that it does not forget makes what the rule makes from no memory, and the slots are of no later rule. Assumes nothing.
-use mathlib.Core.Path.{◌≡◌, sym, ap, ◌∙◌, subst}
+use mathlib.Core.Path.{◌≡◌, ap, ◌∙◌, subst}
 use mathlib.Core.List.{List}
 use mathlib.Core.Bool.{cond}
-use Prim.Native.Nat.{ℕ, suc, ◌+◌, ◌*◌, ◌-◌, ◌<◌, ◌≤◌}
+use Prim.Native.Nat.{ℕ, suc, ◌+◌, ◌*◌, ◌-◌, ◌<◌}
 use native.Mathlib.Omega.{arith}
 use lib.ListN.{get_or}
 use Rattle.model.specs.Lists.{tab}
 use Rattle.model.specs.Automaton.{bit?}
-use Rattle.model.specs.Annotation.{Memory, Annotation}
+use Rattle.model.specs.Annotation.{Annotation}
 use Rattle.membership.specs.Cells.{no_memory, memory_of, without, annotations_in}
-use Rattle.membership.specs.Entries.{Entry, entries_in, add_entries, Grown}
-use Rattle.membership.specs.Search.{tags_in, arity_in, base_in, room_in, forget_asked, found, Ready, Alike}
+use Rattle.membership.specs.Entries.{entries_in, add_entries, Grown}
+use Rattle.membership.specs.Search.{tags_in, arity_in, base_in, room_in, forget_asked, found, Alike}
 use Rattle.membership.specs.Plan.{asked_in, own_in, rule_found}
 use Rattle.membership.specs.Tried.{Fresh, Tried}
 use Rattle.membership.proofs.Early.{from_early}

@@ -1,6 +1,6 @@
 -- Every entry has the source that it names. Assumes nothing.
 use mathlib.Core.Path.{◌≡◌, refl, sym, ap, ◌∙◌, subst}
-use mathlib.Core.Logic.{◌⊎◌, ⊎_elim}
+use mathlib.Core.Logic.{⊎_elim}
 use mathlib.Core.List.Memᴰ
 use mathlib.Core.List.Memᴰ.{cases_cons as in-cons}
 use mathlib.Core.List.Memᴰ.{head as here}

@@ -4,17 +4,17 @@ use mathlib.Core.Logic.{⊎_elim, ◌↔◌}
 use mathlib.Core.List.Memᴰ.{eq_of_singleton}
 use mathlib.Core.List.Memᴰ.{head as here}
 use mathlib.Core.List.{List, [], ◌∷◌, ◌++◌, map, Memᴰ as In}
-use mathlib.Core.Bool.{Bool, true, false, ◌&&◌, cond}
+use mathlib.Core.Bool.{cond}
 use Prim.Native.Nat.{ℕ, zero, suc, ◌<◌}
 use native.Mathlib.Omega.{arith}
 use native.Mathlib.Nat.{eq-or-lt_of_le, le_of_suc-le-suc}
 use lib.Dec.{T}
 use lib.Seq.{get_or-append_seam}
 use lib.ListN.{length, get_or, length-append, get_or-append}
-use Rattle.model.specs.Lists.{only, tab, all_below}
-use Rattle.model.specs.Automaton.{Rule, Automaton, carries?, forgets?}
+use Rattle.model.specs.Lists.{tab, all_below}
+use Rattle.model.specs.Automaton.{Rule, Automaton, forgets?}
 use Rattle.model.specs.Table.{Row}
-use Rattle.model.specs.Annotation.{Memory, places_agree, joined_place, empty_memory, agree?, joined, own_memory, kept, finish}
+use Rattle.model.specs.Annotation.{Memory, places_agree, joined_place, empty_memory, agree?, joined, kept, finish}
 use Rattle.model.specs.Written.{Step, step_at, rule_of, StepFits, joined_all, left_by}
 use Rattle.model.specs.WrittenTest.{left_at, some?, first_or, memories_below, clear?, one_row?}
 use Rattle.model.specs.ByTag.{all_joined, all_agree?, kept_place, own_place, place_by, place_clear?, child_places, places_below, tag_clear?, one_row_by_tag?}

@@ -1,18 +1,18 @@
 -- Where tags are forgotten: at the root, below a child, and between two positions. Assumes nothing.
-use mathlib.Core.Path.{◌≡◌, refl, sym, ap, ◌∙◌, subst}
+use mathlib.Core.Path.{◌≡◌, refl, sym, ◌∙◌, subst}
 use mathlib.Core.Logic.{◌↔◌}
 use mathlib.Core.Bool.{true}
 use mathlib.Core.Option.{some, some-injective}
 use mathlib.Core.List.{List, [], ◌∷◌, ◌++◌}
-use Prim.Native.Nat.{ℕ, zero, suc, ◌%◌, ◌^◌, ◌<◌}
+use Prim.Native.Nat.{ℕ, ◌%◌, ◌^◌}
 use native.Mathlib.Nat.{zero-div}
 use native.Mathlib.Omega.{arith}
 use lib.Dec.{T, eqb, eqb→eq}
 use lib.Seq.{ext_get_or}
-use lib.ListN.{length, get_or}
-use Rattle.model.specs.Tree.{Tree, at, children_of}
-use Rattle.model.specs.Automaton.{Rule, Automaton, OneRule, ForgetsNothing, forgets_nothing?, bit?, carries?, forgets?}
-use Rattle.model.specs.Run.{Labelling, Move, IsRun, Above, Forgets, Together, Consistent, AllEqual, Accepts, AcceptsPlain}
+use lib.ListN.{length}
+use Rattle.model.specs.Tree.{Tree, at}
+use Rattle.model.specs.Automaton.{Rule, Automaton, OneRule, ForgetsNothing, forgets_nothing?, bit?, forgets?}
+use Rattle.model.specs.Run.{Labelling, Move, Above, Forgets, Together, Consistent, AllEqual, Accepts, AcceptsPlain}
 use Rattle.model.specs.Annotation.{Memory, kept}
 use Rattle.model.specs.Leaves.{Remembered}
 use Rattle.model.proofs.Members.{T_true, all_in, in_all}

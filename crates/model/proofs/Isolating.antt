@@ -16,7 +16,7 @@ use Rattle.model.specs.Run.{Move, Forgets, Accepts}
 use Rattle.model.specs.Table.{Row, tree_of, SoundTable}
 use Rattle.model.specs.Fit.{FitTree}
 use Rattle.model.specs.Papers.{letter_at, Ground, rigid_of, Papers}
-use Rattle.model.specs.Isolating.{States, bare, IsIsolating, Isolates, isolated_by, isolating_of}
+use Rattle.model.specs.Isolating.{States, IsIsolating, Isolates, isolated_by, isolating_of}
 use Rattle.model.proofs.Members.{T_and, and_T}
 use Rattle.model.proofs.Below.{any_below_lem, below_any}
 use Rattle.model.proofs.Tab.{tab_at, length_tab}

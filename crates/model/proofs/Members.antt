@@ -14,7 +14,7 @@ use Prim.Native.Nat.{ℕ, zero, suc, ◌<◌}
 use native.Mathlib.Omega.{arith}
 use lib.Dec.{T, eqb, eqb→eq, eqb_refl}
 use lib.ListN.{length, get_or}
-use Rattle.model.specs.Lists.{concat_map, only, any, all, eq_list, tab}
+use Rattle.model.specs.Lists.{concat_map, only, any, all, eq_list}
 use Rattle.model.specs.Annotation.{Annotation, eq_annotation, add_new, memories}
 
 pub T_and : (a b : Bool) → T (a && b) → T a × T b

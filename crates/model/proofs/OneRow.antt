@@ -1,6 +1,6 @@
 -- Memories worked out step by step: where each tag has one row over all steps there is no clash; where no rule forgets, only there. Assumes nothing.
 use mathlib.Core.Path.{◌≡◌, refl, sym, ap, ◌∙◌, subst}
-use mathlib.Core.Logic.{◌⊎◌, inl, inr, ⊎_elim, ◌↔◌}
+use mathlib.Core.Logic.{⊎_elim}
 use mathlib.Core.List.Memᴰ.{cases_cons as in-cons}
 use mathlib.Core.List.Memᴰ.{eq_of_singleton}
 use mathlib.Core.List.Memᴰ.{head as here}
@@ -14,8 +14,8 @@ use native.Mathlib.Nat.{eq-or-lt_of_le, le_of_suc-le-suc}
 use native.Mathlib.Decide.{dec_lt}
 use lib.Dec.{T}
 use lib.ListN.{length, get_or, get_or-eq_default}
-use Rattle.model.specs.Lists.{concat_map, only, tab, all_below}
-use Rattle.model.specs.Automaton.{Rule, Automaton, ForgetsNothing, final?, carries?, forgets?}
+use Rattle.model.specs.Lists.{concat_map, only, tab}
+use Rattle.model.specs.Automaton.{Rule, Automaton, ForgetsNothing, final?, carries?}
 use Rattle.model.specs.Table.{Row}
 use Rattle.model.specs.Annotation.{Memory, empty_memory, agree?, joined, own_memory, kept, finish}
 use Rattle.model.specs.Written.{Step, step_at, no_rule, rule_of, StepFits, joined_all, left_by, WrittenRun, OneRow}

@@ -4,7 +4,6 @@ use mathlib.Core.Logic.{⊎_elim, ◌↔◌}
 use mathlib.Core.List.Memᴰ.{cases_cons as in-cons}
 use mathlib.Core.List.{List, [], ◌∷◌, ◌++◌, Memᴰ as In}
 use mathlib.Core.Bool.{true, ◌&&◌, not}
-use mathlib.Core.Option.{some}
 use Prim.Native.Nat.{ℕ, ◌+◌, ◌^◌, ◌<◌}
 use native.Mathlib.Omega.{arith}
 use native.Mathlib.Decide.{dec_lt}
@@ -12,11 +11,11 @@ use lib.Dec.{T, T_not, not_T}
 use lib.Seq.{ext_get_or}
 use lib.ListN.{length, get_or, get_or-eq_default}
 use Rattle.model.specs.Lists.{tab, concat_map, all_below, any_below}
-use Rattle.model.specs.Tree.{Tree, node, at, symbol_of, children_of}
-use Rattle.model.specs.Automaton.{State, Automaton, Wellformed, ForgetsNothing, no_state, arity_of, final?, carries?}
+use Rattle.model.specs.Tree.{Tree, node, symbol_of, children_of}
+use Rattle.model.specs.Automaton.{State, Automaton, Wellformed, ForgetsNothing, no_state, final?, carries?}
 use Rattle.model.specs.Run.{Move, Accepts}
 use Rattle.model.specs.Table.{Row, tree_of, SoundTable}
-use Rattle.model.specs.Fit.{Fit, FitNode, FitTree}
+use Rattle.model.specs.Fit.{FitNode, FitTree}
 use Rattle.model.specs.Witness.{Apart, apart?}
 use Rattle.model.specs.Papers.{Letter, letter_at, Rigid, IsRigid, Ground, Recognizes, rigid_of, Papers, tagged?, one_tag?, papers?}
 use Rattle.model.proofs.Members.{T_and, and_T, T_true, concat_map_in}

@@ -1,15 +1,15 @@
 -- The trees of a table's rows: the equation of a row's tree, and that rows without equals have trees without equals. Assumes nothing.
-use mathlib.Core.Path.{◌≡◌, refl, sym, ap, ◌∙◌, subst}
-use mathlib.Core.Logic.{◌⊎◌, inl, inr, ⊎_elim, ◌↔◌}
+use mathlib.Core.Path.{◌≡◌, refl, sym, ap, ◌∙◌}
+use mathlib.Core.Logic.{◌↔◌}
 use mathlib.Core.Option.{Option, none, some, some-injective, none-ne-some}
 use mathlib.Core.List.Memᴰ.{head as here}
 use mathlib.Core.List.Memᴰ.{tail as there}
 use mathlib.Core.List.{List, [], ◌∷◌, ◌++◌, map, Memᴰ as In, nil≢cons, cons≢nil, head-eq_of_cons-eq, tail-eq_of_cons-eq}
-use Prim.Native.Nat.{ℕ, zero, suc, ◌<◌, ◌≤◌}
+use Prim.Native.Nat.{ℕ, zero, suc, ◌<◌}
 use native.Mathlib.Omega.{arith}
 use lib.ListN.{length, get_or, get_elem?, length-map}
-use Rattle.model.specs.Tree.{Tree, Forest, node, fnil, fcons, trees, forest, children_of, symbol_of, at, and_then}
-use Rattle.model.specs.Table.{Row, no_row, row_at, tree_in, tree_at, Lower, Distinct}
+use Rattle.model.specs.Tree.{Tree, node, trees, forest, children_of, symbol_of, at, and_then}
+use Rattle.model.specs.Table.{Row, row_at, tree_in, tree_at, Lower, Distinct}
 use Rattle.model.proofs.Members.{map_same}
 
 pub trees_forest : (ts : List Tree) → trees (forest ts) ≡ ts

@@ -1,7 +1,7 @@
 -- Runs put together: a node's run from its children's. What holds at each position is a parameter. Assumes nothing.
 use mathlib.Core.Path.{◌≡◌, refl, sym, ap, ◌∙◌, subst}
-use mathlib.Core.Option.{Option, none, some, some-injective, none-ne-some}
-use mathlib.Core.List.{List, [], ◌∷◌, ◌++◌, map, Memᴰ as In}
+use mathlib.Core.Option.{some, some-injective, none-ne-some}
+use mathlib.Core.List.{List, [], ◌∷◌, Memᴰ as In}
 use Prim.Native.Nat.{ℕ, zero, suc, ◌<◌}
 use native.Mathlib.Omega.{arith}
 use lib.ListN.{length, get_or, get_elem?}

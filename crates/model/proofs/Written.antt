@@ -1,16 +1,15 @@
 -- A written run is an accepting run; with one step for each annotation, or each pair of row and state, it is short. Assumes nothing.
-use mathlib.Core.Path.{◌≡◌, refl, sym, ap, ◌∙◌, subst}
+use mathlib.Core.Path.{◌≡◌, refl, sym, ◌∙◌, subst}
 use mathlib.Core.List.Memᴰ.{eq_of_singleton}
 use mathlib.Core.List.{List, [], ◌∷◌, map, Memᴰ as In}
 use Prim.Native.Nat.{ℕ, zero, suc, ◌+◌, ◌*◌, ◌-◌, ◌/◌, ◌%◌, ◌<◌, ◌≤◌}
 use native.Mathlib.Omega.{arith}
-use lib.Dec.{T}
 use lib.Arith.{digits_lt, digits_div, digits_mod}
 use lib.ListN.{length, get_or, length-map}
 use Rattle.model.specs.Lists.{tab}
-use Rattle.model.specs.Automaton.{Rule, Automaton, OneRule, Wellformed}
+use Rattle.model.specs.Automaton.{Automaton, OneRule, Wellformed}
 use Rattle.model.specs.Run.{Accepts}
-use Rattle.model.specs.Table.{Row, row_at, tree_of, Lower, Distinct}
+use Rattle.model.specs.Table.{Row, tree_of, Lower, Distinct}
 use Rattle.model.specs.Annotation.{Memory, Annotation, annotation, annotations, empty_memory, agree?, joined, kept, finish, Derivable, derived, Joins, joins_none, joins_more}
 use Rattle.model.specs.Written.{Step, step_at, rule_of, row_of, no_rule, joined_all, WrittenRun, OnePerAnnotation, OnePerPair}
 use Rattle.model.proofs.Members.{map_at, in_only, in_concat_map}

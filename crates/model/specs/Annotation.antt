@@ -1,5 +1,5 @@
 -- Annotations, bottom-up, as source document 000, section 3, derives them (document 01, section "Runs"). Assumes nothing.
-use Rattle.std.specs.Prelude.{◌≡◌, Bool, true, false, ◌&&◌, cond, ℕ, zero, suc, ◌-◌, ◌<◌, T, eqb, length, get_or}
+use Rattle.std.specs.Prelude.{◌≡◌, Bool, true, ◌&&◌, cond, ℕ, zero, suc, ◌-◌, ◌<◌, T, eqb, length, get_or}
 use mathlib.Core.List.{List, [], ◌∷◌, ◌++◌, map, Memᴰ as In}
 use Rattle.model.specs.Lists.{concat_map, only, any, eq_list, tab}
 use Rattle.model.specs.Automaton.{Rule, Automaton, final?, carries?, forgets?}

@@ -1,6 +1,6 @@
 -- Automata: document 01, section "Sets", calls one a set. Assumes nothing.
 use mathlib.Core.List.{List, Memᴰ as In}
-use Rattle.std.specs.Prelude.{Bool, true, false, ℕ, ◌<◌, ◌≤◌, ◌/◌, ◌%◌, ◌^◌, ◌≡◌, eqb, length, get_or}
+use Rattle.std.specs.Prelude.{Bool, false, ℕ, ◌<◌, ◌/◌, ◌%◌, ◌^◌, ◌≡◌, eqb, length, get_or}
 use Rattle.model.specs.Lists.{all}
 
 -- A rule: a symbol, one state for each child, a target state, and the tags to forget (document 02, Wish 9): bit k of the mask for tag k. A rule of 12 bytes forgets none, 0.

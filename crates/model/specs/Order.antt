@@ -1,5 +1,5 @@
 -- The order of rules in the stored form (document 01, section "Sets"). Assumes nothing.
-use Rattle.std.specs.Prelude.{List, [], ◌∷◌, ◌++◌, Bool, true, false, ◌&&◌, ◌||◌, not, cond, ℕ, zero, suc, T, eqb, ltb, get_or}
+use Rattle.std.specs.Prelude.{List, [], ◌∷◌, ◌++◌, Bool, false, ◌&&◌, ◌||◌, cond, ℕ, T, eqb, ltb, get_or}
 use Rattle.model.specs.Limits.{max_children, unused}
 use Rattle.model.specs.Lists.{tab}
 use Rattle.model.specs.Automaton.{Rule}

@@ -1,6 +1,6 @@
 -- Row tables and their trees (document 01, section "Documents"; which rates stand in rows: document 02, Wish 6). Assumes nothing.
-use Rattle.std.specs.Prelude.{◌≡◌, Bool, true, false, ◌&&◌, ◌||◌, not, cond, ℕ, zero, suc, ◌+◌, ◌-◌, ◌^◌, ◌<◌, ◌≤◌, T, eqb, ltb, length, get_or}
-use mathlib.Core.List.{List, [], ◌∷◌, map, Memᴰ as In}
+use Rattle.std.specs.Prelude.{◌≡◌, Bool, ◌&&◌, ◌||◌, not, cond, ℕ, zero, suc, ◌-◌, ◌^◌, ◌<◌, ◌≤◌, T, eqb, ltb, length, get_or}
+use mathlib.Core.List.{List, [], map, Memᴰ as In}
 use Rattle.model.specs.Limits.{max_rows, max_levels}
 use Rattle.model.specs.Tree.{Tree, node, forest, levels}
 use Rattle.model.specs.Automaton.{Automaton, arity_of}

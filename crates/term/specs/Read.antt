@@ -1,5 +1,5 @@
 -- Reading a whole text against a stored set and two name lists. Assumes nothing.
-use Rattle.std.specs.Prelude.{◌≡◌, List, [], ◌++◌, cond, ℕ, zero, suc, ◌+◌, ◌*◌, ◌/◌, min, eqb, length, drop}
+use Rattle.std.specs.Prelude.{◌≡◌, List, [], ◌++◌, cond, ℕ, zero, suc, ◌*◌, ◌/◌, min, eqb, length, drop}
 use Rattle.model.specs.Limits.{max_rows, max_levels}
 use Rattle.model.specs.Automaton.{arity_of}
 use Rattle.model.specs.Table.{Row}

@@ -1,8 +1,6 @@
 -- `automaton::check` meets its contract: each test is the definition's, in its order. Assumes nothing.
-use borrow.Author.Tests.{not-false}
 use Rattle.automaton.specs.Check.{check_of}
 use Rattle.automaton.proofs.Verdict.{verdicts, answered, tags_few}
-use borrow.Author.Rules.{rules}
 use Rattle.automaton.proofs.check.Goals as goal
 
 pub returns-then-set-lt-HEADER_WIDTH : goal.returns-then-set-lt-HEADER_WIDTH

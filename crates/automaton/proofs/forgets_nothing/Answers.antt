@@ -1,9 +1,7 @@
 use mathlib.Core.Path.{◌∙◌}
-use Prim.Native.Nat.{◌-◌}
 use lib.Dec.{eqb}
-use lib.ListN.{length}
-use Rattle.model.specs.Written.{no_rule, rule_at}
-use Rattle.model.proofs.Below.{Passed, passed_all, stopped, loops}
+use Rattle.model.specs.Written.{no_rule}
+use Rattle.model.proofs.Below.{passed_all, stopped, loops}
 use Rattle.model.proofs.Count.{all_below_lem}
 use Rattle.automaton.specs.Stored.{decode}
 use Rattle.automaton.proofs.forgets_nothing.Goals as goal

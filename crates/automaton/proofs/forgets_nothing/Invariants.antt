@@ -1,11 +1,9 @@
 -- `automaton::forgets_nothing` meets its contract: the loop has passed every rule before its index. Assumes nothing.
-use mathlib.Core.Path.{◌∙◌}
 use Prim.Native.Nat.{◌-◌}
 use lib.Dec.{eqb}
 use lib.ListN.{length}
-use Rattle.model.specs.Written.{no_rule, rule_at}
-use Rattle.model.proofs.Below.{Passed, passed_all, stopped, loops}
-use Rattle.model.proofs.Count.{all_below_lem}
+use Rattle.model.specs.Written.{rule_at}
+use Rattle.model.proofs.Below.{Passed}
 use Rattle.automaton.specs.Stored.{decode}
 use Rattle.automaton.proofs.forgets_nothing.Given as goal
 

@@ -1,7 +1,6 @@
 -- `automaton::header` meets its contract: each count is a length. Assumes nothing.
 use mathlib.Core.Path.{sym, ◌∙◌}
 use Rattle.automaton.proofs.Decode.{symbols_are, states_are, tags_are, rules_are}
-use borrow.Author.Rules.{rules}
 use Rattle.automaton.proofs.header.Goals as goal
 
 pub returns : goal.returns

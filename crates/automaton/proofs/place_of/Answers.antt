@@ -1,7 +1,6 @@
 -- `automaton::place_of` meets its contract: the test is the definition's. Assumes nothing.
 use borrow.Author.Tests.{lt-ltb, le-ltb}
 use Rattle.automaton.specs.Stored.{place_of}
-use borrow.Author.Rules.{rules}
 use Rattle.automaton.proofs.place_of.Goals as goal
 
 pub returns-then-k-n : goal.returns-then-k-n

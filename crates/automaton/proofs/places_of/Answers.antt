@@ -1,7 +1,4 @@
-use Prim.Native.Nat.{◌-◌}
-use Rattle.model.specs.Limits.{max_children}
-use Rattle.automaton.specs.Stored.{place_of}
-use Rattle.automaton.proofs.Loops.{Filled, fills}
+use Rattle.automaton.proofs.Loops.{fills}
 use Rattle.automaton.proofs.places_of.Goals as goal
 
 pub loop-k-init : goal.loop-k-init

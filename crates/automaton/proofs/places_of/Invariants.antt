@@ -2,7 +2,7 @@
 use Prim.Native.Nat.{◌-◌}
 use Rattle.model.specs.Limits.{max_children}
 use Rattle.automaton.specs.Stored.{place_of}
-use Rattle.automaton.proofs.Loops.{Filled, fills}
+use Rattle.automaton.proofs.Loops.{Filled}
 use Rattle.automaton.proofs.places_of.Given as goal
 
 abbrev pub invariant-loop-k : goal.invariant-loop-k

@@ -1,7 +1,6 @@
 -- `automaton::rules` meets its contract: the count is the length. Assumes nothing.
 use mathlib.Core.Path.{sym, ◌∙◌}
 use Rattle.automaton.proofs.Decode.{rules_are}
-use borrow.Author.Rules.{rules}
 use Rattle.automaton.proofs.rules.Goals as goal
 
 pub returns : goal.returns

@@ -1,6 +1,5 @@
-use Prim.Native.Nat.{◌-◌, ◌<◌}
 use native.Mathlib.Omega.{arith}
-use Rattle.automaton.proofs.Window.{Sought, sought_low, sought_high, seeks}
+use Rattle.automaton.proofs.Window.{sought_low, sought_high, seeks}
 use Rattle.automaton.proofs.rules_from.Goals as goal
 
 pub form_at-form-requires : goal.form_at-form-requires

@@ -1,7 +1,6 @@
 -- `automaton::rules_from` meets its contract: from each turn's bounds on, bisection ends where the whole one does. Assumes nothing.
 use Prim.Native.Nat.{◌-◌, ◌<◌}
-use native.Mathlib.Omega.{arith}
-use Rattle.automaton.proofs.Window.{Sought, sought_low, sought_high, seeks}
+use Rattle.automaton.proofs.Window.{Sought}
 use Rattle.automaton.proofs.rules_from.Given as goal
 
 abbrev pub invariant-loop-low : goal.invariant-loop-low

@@ -1,6 +1,5 @@
 -- `boolean::inputs` meets its contract: the first set is tried before the second, and 51 after both. Assumes nothing.
 use mathlib.Core.Path.{refl, ◌∙◌}
-use borrow.Author.Rules.{rules}
 use Rattle.automaton.proofs.Verdict.{refused_after, passed_after, pass, stop}
 use Rattle.boolean.proofs.inputs.Goals as goal
 

@@ -1,5 +1,4 @@
 -- `boolean::product` meets its contract: the inputs' number, then the result's, then the bytes. Assumes nothing.
-use borrow.Author.Rules.{rules}
 use Rattle.model.specs.Boolean.{product}
 use Rattle.boolean.proofs.Refusing.{inputs_refused, result_refused, may_write, written, inputs_sound}
 use Rattle.boolean.proofs.product.Goals as goal

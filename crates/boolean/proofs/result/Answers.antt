@@ -2,8 +2,6 @@
 use mathlib.Core.Path.{refl, sym, ◌∙◌}
 use Prim.Native.Nat.{◌≤◌, ◌<◌}
 use native.Mathlib.Omega.{arith}
-use borrow.Author.Rules.{rules}
-use borrow.Author.Tests.{not-true, not-false}
 use Rattle.automaton.specs.Form.{total_length}
 use Rattle.automaton.proofs.Verdict.{pass, stop, pass_at_least, stop_below}
 use Rattle.boolean.proofs.Refusing.{within_known}

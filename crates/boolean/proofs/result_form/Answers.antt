@@ -1,5 +1,4 @@
 -- `boolean::result_form` meets its contract: the forms of both inputs tell. Assumes nothing.
-use borrow.Author.Rules.{rules}
 use Rattle.boolean.proofs.Refusing.{form_told}
 use Rattle.boolean.proofs.result_form.Goals as goal
 

@@ -1,7 +1,6 @@
 -- `boolean::same_arity` meets its contract. Assumes nothing.
 use mathlib.Core.Path.{ap, ◌∙◌}
 use Prim.Native.Nat.{ℕ}
-use borrow.Author.Rules.{rules}
 use lib.Dec.{eqb}
 use Rattle.boolean.proofs.same_arity.Goals as goal
 

@@ -1,11 +1,5 @@
 use mathlib.Core.Path.{sym, ◌∙◌}
-use Prim.Native.Nat.{◌-◌}
-use borrow.Author.Rules.{rules}
-use lib.Dec.{eqb}
-use lib.ListN.{length}
-use Rattle.model.specs.Automaton.{arity_of}
-use Rattle.model.proofs.Below.{Passed, passed_none, passed_more, passed_all, stopped}
-use Rattle.automaton.specs.Stored.{decode}
+use Rattle.model.proofs.Below.{passed_none, passed_more, passed_all, stopped}
 use Rattle.boolean.proofs.Refusing.{symbols_apart, symbols_alike}
 use Rattle.boolean.proofs.same_symbols.Goals as goal
 

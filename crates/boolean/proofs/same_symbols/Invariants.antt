@@ -1,13 +1,10 @@
 -- `boolean::same_symbols` meets its contract: the loop has compared the symbols before its index. Assumes nothing.
-use mathlib.Core.Path.{sym, ◌∙◌}
 use Prim.Native.Nat.{◌-◌}
-use borrow.Author.Rules.{rules}
 use lib.Dec.{eqb}
 use lib.ListN.{length}
 use Rattle.model.specs.Automaton.{arity_of}
-use Rattle.model.proofs.Below.{Passed, passed_none, passed_more, passed_all, stopped}
+use Rattle.model.proofs.Below.{Passed}
 use Rattle.automaton.specs.Stored.{decode}
-use Rattle.boolean.proofs.Refusing.{symbols_apart, symbols_alike}
 use Rattle.boolean.proofs.same_symbols.Given as goal
 
 abbrev pub invariant-loop-f : goal.invariant-loop-f

@@ -1,5 +1,4 @@
 -- `boolean::union` meets its contract: the inputs' number, then the result's, then the bytes. Assumes nothing.
-use borrow.Author.Rules.{rules}
 use Rattle.model.specs.Boolean.{union}
 use Rattle.boolean.proofs.Refusing.{inputs_refused, result_refused, may_write, written}
 use Rattle.boolean.proofs.union.Goals as goal

@@ -1,6 +1,5 @@
 -- `boolean::union_size` meets its contract. Assumes nothing.
 use native.Mathlib.Omega.{arith}
-use borrow.Author.Rules.{rules}
 use Rattle.model.proofs.SoundUnion.{union_states, union_rules_lem}
 use Rattle.automaton.specs.Stored.{decode}
 use Rattle.boolean.proofs.union_size.Goals as goal

@@ -1,6 +1,5 @@
 -- `boolean::within_limits` meets its contract. Assumes nothing.
 use mathlib.Core.Path.{refl}
-use borrow.Author.Rules.{rules}
 use Rattle.boolean.specs.Combine.{within_limits}
 use Rattle.boolean.proofs.within_limits.Goals as goal
 

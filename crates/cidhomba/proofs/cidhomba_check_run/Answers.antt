@@ -1,6 +1,5 @@
 -- `cidhomba::cidhomba_check_run` meets its contract: the check's answer, as a number. Assumes nothing.
 use mathlib.Core.Path.{ap, ◌∙◌}
-use borrow.Author.Rules.{rules}
 use Rattle.cidhomba.specs.Code.{check_code}
 use Rattle.cidhomba.proofs.cidhomba_check_run.Goals as goal
 

@@ -1,5 +1,4 @@
 -- `cidhomba::cidhomba_membership` meets its contract: the judge's answer, as a number. Assumes nothing.
-use borrow.Author.Rules.{rules}
 use Rattle.cidhomba.proofs.cidhomba_membership.Goals as goal
 
 pub returns : goal.returns

@@ -1,6 +1,5 @@
 -- `cidhomba::cidhomba_narrow_rules` meets its contract: the answer of `forms::narrow_rules`, as a number. Assumes nothing.
 use mathlib.Core.Path.{ap, ◌∙◌}
-use borrow.Author.Rules.{rules}
 use Rattle.cidhomba.specs.Code.{count_code}
 use Rattle.cidhomba.proofs.cidhomba_narrow_rules.Goals as goal
 

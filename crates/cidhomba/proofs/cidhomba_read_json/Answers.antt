@@ -1,7 +1,6 @@
 -- `cidhomba::cidhomba_read_json` meets its contract: the reader's answer, as a number. Assumes nothing.
 use mathlib.Core.Path.{sym, ap, ◌∙◌}
 use native.Mathlib.Omega.{arith}
-use borrow.Author.Rules.{rules}
 use Rattle.jsonrows.specs.Answer.{read_answer}
 use Rattle.jsonrows.proofs.Refusals.{refused_most}
 use Rattle.cidhomba.specs.Code.{json_code}

@@ -1,7 +1,6 @@
 -- `cidhomba::cidhomba_read_term` meets its contract: the reader's answer, as a number. Assumes nothing.
 use mathlib.Core.Path.{sym, ap, ◌∙◌}
 use native.Mathlib.Omega.{arith}
-use borrow.Author.Rules.{rules}
 use Rattle.term.specs.Read.{read_answer}
 use Rattle.term.proofs.Refusals.{refused_most}
 use Rattle.cidhomba.specs.Code.{read_code}

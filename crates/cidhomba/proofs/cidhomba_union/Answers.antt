@@ -1,6 +1,5 @@
 -- `cidhomba::cidhomba_union` meets its contract: the answer of `boolean::union`, as a number. Assumes nothing.
 use mathlib.Core.Path.{ap, ◌∙◌}
-use borrow.Author.Rules.{rules}
 use Rattle.cidhomba.specs.Code.{count_code}
 use Rattle.cidhomba.proofs.cidhomba_union.Goals as goal
 

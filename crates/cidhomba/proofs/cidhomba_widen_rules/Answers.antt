@@ -1,6 +1,5 @@
 -- `cidhomba::cidhomba_widen_rules` meets its contract: the answer of `forms::widen_rules`, as a number. Assumes nothing.
 use mathlib.Core.Path.{ap, ◌∙◌}
-use borrow.Author.Rules.{rules}
 use Rattle.cidhomba.specs.Code.{count_code}
 use Rattle.cidhomba.proofs.cidhomba_widen_rules.Goals as goal
 

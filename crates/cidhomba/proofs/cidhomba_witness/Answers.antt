@@ -1,6 +1,5 @@
 -- `cidhomba::cidhomba_witness` meets its contract: the answer, as a number, and the space as it was left. Assumes nothing.
 use mathlib.Core.Path.{ap, ◌∙◌}
-use borrow.Author.Rules.{rules}
 use Rattle.cidhomba.specs.Code.{witness_code}
 use Rattle.cidhomba.proofs.cidhomba_witness.Goals as goal
 

@@ -1,6 +1,5 @@
 -- `cidhomba::cidhomba_write_term` meets its contract: the writer's answer, as a number, and the space as it was left. Assumes nothing.
 use mathlib.Core.Path.{ap, ◌∙◌}
-use borrow.Author.Rules.{rules}
 use Rattle.cidhomba.specs.Code.{count_code}
 use Rattle.cidhomba.proofs.cidhomba_write_term.Goals as goal
 

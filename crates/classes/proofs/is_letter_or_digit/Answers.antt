@@ -1,7 +1,6 @@
 -- Either class. Assumes nothing.
 use mathlib.Core.Path.{ap₂}
 use mathlib.Core.Bool.{◌||◌}
-use borrow.Author.Rules.{rules}
 use Rattle.classes.proofs.is_letter_or_digit.Goals as goal
 
 pub returns : goal.returns

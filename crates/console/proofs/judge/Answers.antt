@@ -1,7 +1,6 @@
 -- `console::judge` meets its contract: the length of the input decides, then the set and the text in it are judged. Assumes nothing.
 use mathlib.Core.Path.{sym}
 use native.Mathlib.Omega.{arith}
-use borrow.Author.Rules.{rules}
 use lib.Seq.{length-take-le}
 use Rattle.console.proofs.Outputs.{judge_beyond, judge_within}
 use Rattle.console.proofs.judge.Goals as goal

@@ -1,5 +1,4 @@
 -- `console::judge_rows` meets its contract: the judge's answer decides. Assumes nothing.
-use borrow.Author.Rules.{rules}
 use lib.ListN.{replicate}
 use Rattle.console.proofs.Answers.{zeros_long, judged_printed}
 use Rattle.console.proofs.judge_rows.Goals as goal

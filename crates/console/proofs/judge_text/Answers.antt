@@ -1,6 +1,5 @@
 -- `console::judge_text` meets its contract: the reader's answer decides. Assumes nothing.
 use mathlib.Core.Path.{sym}
-use borrow.Author.Rules.{rules}
 use lib.ListN.{replicate}
 use lib.Seq.{length-take-le}
 use Rattle.console.proofs.Answers.{zeros_long, read_fits, read_printed}

@@ -1,7 +1,6 @@
 -- `console::live` meets its contract: the writer's answer decides. Assumes nothing.
 use mathlib.Core.Path.{sym}
 use native.Mathlib.Omega.{arith}
-use borrow.Author.Rules.{rules}
 use lib.ListN.{replicate}
 use lib.Seq.{length-take-le}
 use Rattle.console.proofs.Answers.{zeros_long, write_fits, write_printed}

@@ -1,6 +1,5 @@
 -- `console::sample` meets its contract: the length of the input, then the answer of the emptiness test decide. Assumes nothing.
 use mathlib.Core.Path.{sym}
-use borrow.Author.Rules.{rules}
 use lib.ListN.{replicate}
 use lib.Seq.{length-take-le}
 use Rattle.console.proofs.Answers.{zeros_long, sample_fits, sample_printed}

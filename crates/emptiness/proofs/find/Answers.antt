@@ -1,5 +1,4 @@
 -- `emptiness::find` meets its contract: without a state there is no witness, else the rows built are its. Assumes nothing.
-use borrow.Author.Rules.{rules}
 use Rattle.emptiness.proofs.Verdicts.{dead_answer, dead_space, live_answer, live_space}
 use Rattle.emptiness.proofs.find.Goals as goal
 

@@ -1,5 +1,4 @@
 -- `emptiness::sample_check` meets its contract: the space is tried before the tags. Assumes nothing.
-use borrow.Author.Rules.{rules}
 use Rattle.emptiness.proofs.Verdicts.{sampling}
 use Rattle.emptiness.proofs.sample_check.Goals as goal
 

@@ -1,5 +1,4 @@
 -- `emptiness::witness` meets its contract: the set is tried first, then the space and the tags, then what was found stands. Assumes nothing.
-use borrow.Author.Rules.{rules}
 use Rattle.emptiness.proofs.Outcome.{outcome}
 use Rattle.emptiness.proofs.witness.Goals as goal
 

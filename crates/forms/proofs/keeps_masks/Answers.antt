@@ -1,6 +1,5 @@
 -- `forms::keeps_masks` meets its contract: the form has a place for masks, the set's own form has none, or the masks were looked at. Assumes nothing.
 use Rattle.forms.proofs.Moving.{kept_unseen, kept_seen}
-use borrow.Author.Rules.{rules}
 use Rattle.forms.proofs.keeps_masks.Goals as goal
 
 pub returns-then-isolating : goal.returns-then-isolating

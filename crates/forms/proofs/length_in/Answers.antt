@@ -2,7 +2,6 @@
 use mathlib.Core.Path.{◌∙◌}
 use Rattle.automaton.specs.Stored.{decode}
 use Rattle.forms.proofs.Moving.{counted}
-use borrow.Author.Rules.{rules}
 use Rattle.forms.proofs.length_in.Goals as goal
 
 pub returns : goal.returns

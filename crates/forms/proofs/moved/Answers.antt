@@ -3,7 +3,6 @@ use mathlib.Core.Path.{sym, ◌∙◌}
 use Rattle.automaton.specs.Stored.{decode}
 use Rattle.automaton.proofs.Answering.{refused_answer, written_answer_lem}
 use Rattle.forms.proofs.Moving.{movable}
-use borrow.Author.Rules.{rules}
 use Rattle.forms.proofs.moved.Goals as goal
 
 pub returns-then-refused-ne0 : goal.returns-then-refused-ne0

@@ -1,7 +1,6 @@
 -- `forms::put_set` meets its contract: each part is put where the one before it ends. Assumes nothing.
 use Rattle.automaton.specs.Stored.{decode}
 use Rattle.forms.proofs.Moving.{set_put, header_put}
-use borrow.Author.Rules.{rules}
 use Rattle.forms.proofs.put_set.Goals as goal
 
 pub returns : goal.returns

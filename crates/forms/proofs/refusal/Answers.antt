@@ -2,13 +2,11 @@
 use mathlib.Core.Path.{sym, ◌∙◌, subst}
 use Prim.Native.Nat.{ℕ, ◌≤◌, ◌<◌}
 use native.Mathlib.Omega.{arith}
-use borrow.Author.Tests.{not-true, not-false}
 use Rattle.automaton.specs.Form.{tag_bits}
 use Rattle.automaton.specs.Stored.{decode}
 use Rattle.automaton.proofs.Verdict.{refused_after, passed_zero}
 use Rattle.forms.proofs.Moving.{not_in_form, too_many_tags, forgets_tags, too_short, passed_all}
 use Rattle.forms.specs.Move.{move_check_of}
-use borrow.Author.Rules.{rules}
 use Rattle.forms.proofs.refusal.Goals as goal
 
 pub returns-in-Refused : goal.returns-in-Refused

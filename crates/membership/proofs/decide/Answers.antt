@@ -1,5 +1,4 @@
 -- `membership::decide` meets its contract: each answer by its law. Assumes nothing.
-use borrow.Author.Rules.{rules}
 use Rattle.membership.proofs.Meaning.{set_passed, table_passed, too_short, too_many, spaces, held_in, says_no, narrow_steps, says_yes}
 use Rattle.membership.proofs.decide.Goals as goal
 

@@ -1,5 +1,4 @@
 -- `membership::judge` meets its contract: the set and the table are tried first, then the judging. Assumes nothing.
-use borrow.Author.Rules.{rules}
 use Rattle.membership.proofs.Meaning.{judges}
 use Rattle.membership.proofs.judge.Goals as goal
 

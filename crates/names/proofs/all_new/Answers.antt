@@ -1,7 +1,5 @@
-use Prim.Native.Nat.{◌-◌}
-use Rattle.model.proofs.Below.{Passed, loops}
-use Rattle.names.specs.Table.{name_in}
-use Rattle.names.specs.Check.{new?, distinct?}
+use Rattle.model.proofs.Below.{loops}
+use Rattle.names.specs.Check.{distinct?}
 use Rattle.names.proofs.all_new.Goals as goal
 
 pub loop-i-init : goal.loop-i-init

@@ -1,8 +1,8 @@
 -- A loop that tests every index. Assumes nothing.
 use Prim.Native.Nat.{◌-◌}
-use Rattle.model.proofs.Below.{Passed, loops}
+use Rattle.model.proofs.Below.{Passed}
 use Rattle.names.specs.Table.{name_in}
-use Rattle.names.specs.Check.{new?, distinct?}
+use Rattle.names.specs.Check.{new?}
 use Rattle.names.proofs.all_new.Given as goal
 
 abbrev pub invariant-loop-i : goal.invariant-loop-i

@@ -1,5 +1,4 @@
 -- The table holds the names shown, so its names differ where those do. Assumes nothing.
-use borrow.Author.Rules.{rules}
 use Rattle.names.proofs.Checked.{answers}
 use Rattle.names.proofs.are_distinct.Goals as goal
 

@@ -1,6 +1,5 @@
 -- Nothing is found where every earlier name differs. Assumes nothing.
 use mathlib.Core.Path.{sym, ap, ◌∙◌}
-use borrow.Author.Rules.{rules}
 use Rattle.names.specs.Names.{find_in}
 use Rattle.names.specs.Table.{name_in}
 use Rattle.names.specs.Check.{new?, found_of}

@@ -1,5 +1,4 @@
 -- `runs::tried` meets its contract: each test is the definition's, in its order. Assumes nothing.
-use borrow.Author.Rules.{rules}
 use borrow.Author.Tests.{not-false}
 use Rattle.automaton.proofs.Verdict.{verdicts, answered}
 use Rattle.runs.specs.Check.{run_check_of}

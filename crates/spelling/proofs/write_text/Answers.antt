@@ -1,6 +1,5 @@
 -- `spelling::write_text` meets its contract: where the length fits, the last row's text is put at the front. Assumes nothing.
 use native.Mathlib.Omega.{arith}
-use borrow.Author.Rules.{rules}
 use Rattle.names.specs.Table.{name_in}
 use Rattle.spelling.proofs.Texts.{some_rows, few_rows}
 use Rattle.spelling.proofs.Writing.{too_long, last_inside, last_fits, last_written}

@@ -1,6 +1,5 @@
 -- The set, the names, the text: the first place that refuses decides. Assumes nothing.
 use native.Mathlib.Omega.{arith}
-use borrow.Author.Rules.{rules}
 use lib.ListN.{length-replicate}
 use Prim.Native.Nat.{ℕ}
 use Rattle.automaton.proofs.Verdict.{passed_zero}

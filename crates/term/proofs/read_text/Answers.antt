@@ -1,7 +1,6 @@
 -- What the term reader said of the text, then whether it went to the end. Assumes nothing.
 use mathlib.Core.Path.{sym, ap}
 use Prim.Native.Nat.{◌*◌}
-use borrow.Author.Rules.{rules}
 use lib.Seq.{length-take-le}
 use Rattle.document.specs.Rows.{row_cells}
 use Rattle.term.proofs.Texts.{ready_start, text_refused, text_inside, text_more, text_rows}

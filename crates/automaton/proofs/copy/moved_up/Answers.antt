@@ -1,6 +1,5 @@
 -- `automaton::copy::moved_up` meets its contract: a shift is a product. Assumes nothing.
 use Rattle.automaton.proofs.Shifted.{moved_in, moved_out}
-use borrow.Author.Rules.{rules}
 use Rattle.automaton.proofs.copy.moved_up.Goals as goal
 
 pub returns-then-t-lt16 : goal.returns-then-t-lt16

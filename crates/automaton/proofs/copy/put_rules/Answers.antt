@@ -1,16 +1,13 @@
-use mathlib.Core.Path.{◌≡◌, ap, ◌∙◌}
-use Prim.Native.Nat.{ℕ, ◌-◌, ◌*◌}
+use mathlib.Core.Path.{ap, ◌∙◌}
+use Prim.Native.Nat.{ℕ, ◌*◌}
 use native.Mathlib.Omega.{arith}
-use borrow.Author.Tests.{not-true, not-false}
-use lib.ListN.{length}
 use Rattle.automaton.specs.Stored.{decode}
-use Rattle.automaton.proofs.Laying.{Parts, parts_none, parts_put, parts_all, parts_fit, parts_stay, laid_length, put_laid}
+use Rattle.automaton.proofs.Laying.{parts_none, parts_put, parts_all, parts_fit, parts_stay, laid_length, put_laid}
 use Rattle.model.specs.Written.{no_rule}
 use Rattle.automaton.specs.Form.{rule_width}
 use Rattle.automaton.specs.Encode.{encode_rule}
 use Rattle.automaton.proofs.Encoded.{rule_width_lem}
 use Rattle.automaton.proofs.Known.{rule_bytes}
-use borrow.Author.Rules.{rules}
 use Rattle.automaton.proofs.copy.put_rules.Goals as goal
 
 pub returns-then-not-fits : goal.returns-then-not-fits

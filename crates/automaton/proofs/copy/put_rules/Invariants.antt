@@ -1,17 +1,10 @@
 -- `automaton::copy::put_rules` meets its contract: the loop has put the rules before its index. Assumes nothing.
-use mathlib.Core.Path.{◌≡◌, ap, ◌∙◌}
-use Prim.Native.Nat.{ℕ, ◌-◌, ◌*◌}
-use native.Mathlib.Omega.{arith}
-use borrow.Author.Tests.{not-true, not-false}
+use mathlib.Core.Path.{◌≡◌}
+use Prim.Native.Nat.{◌-◌}
 use lib.ListN.{length}
 use Rattle.automaton.specs.Stored.{decode}
-use Rattle.automaton.proofs.Laying.{Parts, parts_none, parts_put, parts_all, parts_fit, parts_stay, laid_length, put_laid}
-use Rattle.model.specs.Written.{no_rule}
-use Rattle.automaton.specs.Form.{rule_width}
+use Rattle.automaton.proofs.Laying.{Parts}
 use Rattle.automaton.specs.Encode.{encode_rule}
-use Rattle.automaton.proofs.Encoded.{rule_width_lem}
-use Rattle.automaton.proofs.Known.{rule_bytes}
-use borrow.Author.Rules.{rules}
 use Rattle.automaton.proofs.copy.put_rules.Given as goal
 
 abbrev pub invariant-loop-i : goal.invariant-loop-i

@@ -1,18 +1,16 @@
 use mathlib.Core.List.{map}
-use mathlib.Core.Path.{◌≡◌, sym, ap, ◌∙◌}
-use Prim.Native.Nat.{ℕ, ◌-◌, ◌*◌, ◌<◌}
+use mathlib.Core.Path.{sym, ap, ◌∙◌}
+use Prim.Native.Nat.{ℕ, ◌*◌, ◌<◌}
 use native.Mathlib.Omega.{arith}
-use borrow.Author.Tests.{not-true, not-false}
 use lib.ListN.{length}
 use Rattle.automaton.specs.Stored.{decode}
-use Rattle.automaton.proofs.Laying.{Parts, parts_none, parts_put, parts_all, parts_fit, parts_stay, laid_length, put_laid}
+use Rattle.automaton.proofs.Laying.{parts_none, parts_put, parts_all, parts_fit, parts_stay, laid_length, put_laid}
 use lib.ListN.{length-map}
 use Rattle.model.specs.Automaton.{no_state}
 use Rattle.model.specs.Boolean.{shift_state}
 use Rattle.automaton.specs.Form.{state_width}
 use Rattle.automaton.proofs.Encoded.{encode_of, state_width_lem}
 use Rattle.automaton.proofs.Shifted.{shifted_bytes}
-use borrow.Author.Rules.{rules}
 use Rattle.automaton.proofs.copy.put_states.Goals as goal
 
 pub returns-then-not-fits : goal.returns-then-not-fits

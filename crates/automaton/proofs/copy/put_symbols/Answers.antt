@@ -1,14 +1,10 @@
-use mathlib.Core.Path.{◌≡◌, sym, ap, ◌∙◌}
-use Prim.Native.Nat.{◌-◌}
+use mathlib.Core.Path.{sym, ap, ◌∙◌}
 use native.Mathlib.Nat.{one-mul}
 use native.Mathlib.Omega.{arith}
-use borrow.Author.Tests.{not-true, not-false}
-use lib.ListN.{length}
 use Rattle.automaton.specs.Stored.{decode}
-use Rattle.automaton.proofs.Laying.{Parts, parts_none, parts_put, parts_all, parts_fit, parts_stay, laid_length, put_laid}
+use Rattle.automaton.proofs.Laying.{parts_none, parts_put, parts_all, parts_fit, parts_stay, laid_length, put_laid}
 use Rattle.automaton.specs.Encode.{encode_symbol}
 use Rattle.automaton.proofs.Encoded.{symbol_width}
-use borrow.Author.Rules.{rules}
 use Rattle.automaton.proofs.copy.put_symbols.Goals as goal
 
 pub returns-then-not-fits : goal.returns-then-not-fits

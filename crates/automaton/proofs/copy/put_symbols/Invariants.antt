@@ -1,15 +1,10 @@
 -- `automaton::copy::put_symbols` meets its contract: the loop has put the symbols before its index. Assumes nothing.
-use mathlib.Core.Path.{◌≡◌, sym, ap, ◌∙◌}
+use mathlib.Core.Path.{◌≡◌}
 use Prim.Native.Nat.{◌-◌}
-use native.Mathlib.Nat.{one-mul}
-use native.Mathlib.Omega.{arith}
-use borrow.Author.Tests.{not-true, not-false}
 use lib.ListN.{length}
 use Rattle.automaton.specs.Stored.{decode}
-use Rattle.automaton.proofs.Laying.{Parts, parts_none, parts_put, parts_all, parts_fit, parts_stay, laid_length, put_laid}
+use Rattle.automaton.proofs.Laying.{Parts}
 use Rattle.automaton.specs.Encode.{encode_symbol}
-use Rattle.automaton.proofs.Encoded.{symbol_width}
-use borrow.Author.Rules.{rules}
 use Rattle.automaton.proofs.copy.put_symbols.Given as goal
 
 abbrev pub invariant-loop-f : goal.invariant-loop-f

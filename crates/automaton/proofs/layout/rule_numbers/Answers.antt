@@ -1,7 +1,6 @@
 -- `automaton::layout::rule_numbers` meets its contract: each form has its numbers. Assumes nothing.
 use Rattle.automaton.specs.Form.{rule_numbers}
 use native.Mathlib.Omega.{arith}
-use borrow.Author.Rules.{rules}
 use Rattle.automaton.proofs.layout.rule_numbers.Goals as goal
 
 pub returns-in-Narrow : goal.returns-in-Narrow

@@ -3,7 +3,6 @@ use mathlib.Core.Path.{ap}
 use Prim.Native.Nat.{ℕ, ◌*◌}
 use native.Mathlib.Omega.{arith}
 use Rattle.automaton.specs.Form.{rule_width}
-use borrow.Author.Rules.{rules}
 use Rattle.automaton.proofs.layout.rule_width.Goals as goal
 
 pub returns : goal.returns

@@ -1,7 +1,6 @@
 -- `automaton::layout::state_width` meets its contract: each form has its width. Assumes nothing.
 use Rattle.automaton.specs.Form.{tags_width, state_width}
 use native.Mathlib.Omega.{arith}
-use borrow.Author.Rules.{rules}
 use Rattle.automaton.proofs.layout.state_width.Goals as goal
 
 pub returns-in-Narrow : goal.returns-in-Narrow

@@ -1,7 +1,6 @@
 -- `automaton::layout::states_length` meets its contract: so many times the width. Assumes nothing.
 use native.Mathlib.Omega.{arith}
 use Rattle.automaton.proofs.Widths.{few_bytes}
-use borrow.Author.Rules.{rules}
 use Rattle.automaton.proofs.layout.states_length.Goals as goal
 
 pub overflow_mul-result : goal.overflow_mul-result

@@ -1,6 +1,5 @@
 -- `automaton::layout::tag_bits` meets its contract: each form has its bits. Assumes nothing.
 use Rattle.automaton.specs.Form.{tags_width}
-use borrow.Author.Rules.{rules}
 use Rattle.automaton.proofs.layout.tag_bits.Goals as goal
 
 pub returns-in-Narrow : goal.returns-in-Narrow

@@ -1,6 +1,5 @@
 -- `automaton::raw::final_byte` meets its contract: the offset is the header's, and the width the form's. Assumes nothing.
 use Rattle.automaton.specs.Stored.{final_byte}
-use borrow.Author.Rules.{rules}
 use Rattle.automaton.proofs.raw.final_byte.Goals as goal
 
 pub returns : goal.returns

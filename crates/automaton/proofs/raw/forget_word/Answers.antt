@@ -5,7 +5,6 @@ use Prim.Native.Nat.{ℕ}
 use Rattle.automaton.specs.Form.{kept_mask}
 use Rattle.automaton.specs.Stored.{form_of, rule_word, forget_of}
 use Rattle.automaton.specs.declared.Form.{Form}
-use borrow.Author.Rules.{rules}
 use Rattle.automaton.proofs.raw.forget_word.Goals as goal
 
 as-form : (s : List ℕ) (i x : ℕ) (form : Form) → form ≡ form_of s → x ≡ kept_mask form (rule_word s i 6) → x ≡ forget_of s i

@@ -1,7 +1,6 @@
 -- `automaton::raw::form_at` meets its contract: the distance from the states to the rules tells, and then the total. Assumes nothing.
 use mathlib.Core.Path.{◌∙◌}
 use Rattle.automaton.proofs.Widths.{form_narrow, form_wide, form_isolating}
-use borrow.Author.Rules.{rules}
 use Rattle.automaton.proofs.raw.form_at.Goals as goal
 
 pub returns-then-first-end : goal.returns-then-first-end

@@ -2,7 +2,6 @@
 use mathlib.Core.Path.{ap, ◌∙◌}
 use native.Mathlib.Nat.{add-zero}
 use Rattle.automaton.specs.Stored.{word}
-use borrow.Author.Rules.{rules}
 use Rattle.automaton.proofs.raw.header_word.Goals as goal
 
 pub returns : goal.returns

@@ -1,6 +1,5 @@
 -- `automaton::raw::rule_word` meets its contract: a rule's numbers stand from its place on. Assumes nothing.
 use Rattle.automaton.specs.Stored.{rule_word}
-use borrow.Author.Rules.{rules}
 use Rattle.automaton.proofs.raw.rule_word.Goals as goal
 
 pub returns : goal.returns

@@ -1,6 +1,5 @@
 -- `automaton::raw::tags_at` meets its contract: a byte or a number, as the form has it. Assumes nothing.
 use Rattle.automaton.specs.Stored.{tags_at}
-use borrow.Author.Rules.{rules}
 use Rattle.automaton.proofs.raw.tags_at.Goals as goal
 
 pub returns-in-Narrow : goal.returns-in-Narrow

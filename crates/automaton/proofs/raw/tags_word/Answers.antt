@@ -1,6 +1,5 @@
 -- `automaton::raw::tags_word` meets its contract: the offset is the header's, and the width the form's. Assumes nothing.
 use Rattle.automaton.specs.Stored.{tags_of}
-use borrow.Author.Rules.{rules}
 use Rattle.automaton.proofs.raw.tags_word.Goals as goal
 
 pub returns : goal.returns

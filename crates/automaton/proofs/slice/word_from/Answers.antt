@@ -1,5 +1,4 @@
 -- `automaton::slice::word_from` meets its contract: the test tells whether both bytes stand in the slice. Assumes nothing.
-use borrow.Author.Rules.{rules}
 use Rattle.automaton.proofs.slice.word_from.Goals as goal
 
 pub returns-then-from-rest : goal.returns-then-from-rest

@@ -3,7 +3,6 @@ use native.Mathlib.Omega.{arith}
 use Prim.Native.Nat.{◌+◌, ◌≤◌}
 use lib.ListN.{length}
 use Rattle.automaton.proofs.Words.{number_last, number_past}
-use borrow.Author.Rules.{rules}
 use Rattle.automaton.proofs.slice.word_outside.Goals as goal
 
 pub returns-then-at-s : goal.returns-then-at-s

@@ -1,7 +1,4 @@
-use Prim.Native.Nat.{◌-◌}
-use Rattle.model.proofs.Below.{Passed, loops}
-use Rattle.automaton.specs.Stored.{rule_count}
-use Rattle.automaton.specs.Check.{ascends_at}
+use Rattle.model.proofs.Below.{loops}
 use Rattle.automaton.proofs.tests.ascending.Goals as goal
 
 pub steps-n-requires : goal.steps-n-requires

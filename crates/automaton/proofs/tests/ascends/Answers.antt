@@ -1,7 +1,5 @@
-use Prim.Native.Nat.{◌+◌, ◌-◌}
-use Rattle.model.specs.Limits.{max_children}
-use Rattle.automaton.specs.Check.{key_word, ascends_at}
-use Rattle.automaton.proofs.Loops.{Level, levels}
+use Rattle.automaton.specs.Check.{ascends_at}
+use Rattle.automaton.proofs.Loops.{levels}
 use Rattle.automaton.proofs.tests.ascends.Goals as goal
 
 pub overflow_add-n : goal.overflow_add-n

@@ -1,8 +1,8 @@
 -- `automaton::tests::ascends` meets its contract: the rules agree at every place before the loop's index. Assumes nothing.
 use Prim.Native.Nat.{◌+◌, ◌-◌}
 use Rattle.model.specs.Limits.{max_children}
-use Rattle.automaton.specs.Check.{key_word, ascends_at}
-use Rattle.automaton.proofs.Loops.{Level, levels}
+use Rattle.automaton.specs.Check.{key_word}
+use Rattle.automaton.proofs.Loops.{Level}
 use Rattle.automaton.proofs.tests.ascends.Given as goal
 
 abbrev pub invariant-loop-k : goal.invariant-loop-k

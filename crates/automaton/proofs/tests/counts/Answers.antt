@@ -1,6 +1,5 @@
 -- `automaton::tests::counts` meets its contract: each comparison is the definition's. Assumes nothing.
 use Rattle.automaton.specs.Check.{counts_ok}
-use borrow.Author.Rules.{rules}
 use Rattle.automaton.proofs.tests.counts.Goals as goal
 
 pub returns : goal.returns

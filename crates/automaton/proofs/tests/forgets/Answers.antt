@@ -1,6 +1,5 @@
 -- `automaton::tests::forgets` meets its contract: the comparison is the definition's. Assumes nothing.
 use Rattle.automaton.specs.Check.{forget_ok}
-use borrow.Author.Rules.{rules}
 use Rattle.automaton.proofs.tests.forgets.Goals as goal
 
 pub returns : goal.returns

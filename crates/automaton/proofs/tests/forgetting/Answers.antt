@@ -1,7 +1,4 @@
-use Prim.Native.Nat.{◌-◌}
-use Rattle.model.proofs.Below.{Passed, loops}
-use Rattle.automaton.specs.Stored.{rule_count}
-use Rattle.automaton.specs.Check.{forget_ok}
+use Rattle.model.proofs.Below.{loops}
 use Rattle.automaton.proofs.Passes.{bound_is}
 use Rattle.automaton.proofs.tests.forgetting.Goals as goal
 

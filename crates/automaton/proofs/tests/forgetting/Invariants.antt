@@ -1,9 +1,8 @@
 -- `automaton::tests::forgetting` meets its contract: the loop has passed every rule before its index. Assumes nothing.
 use Prim.Native.Nat.{◌-◌}
-use Rattle.model.proofs.Below.{Passed, loops}
+use Rattle.model.proofs.Below.{Passed}
 use Rattle.automaton.specs.Stored.{rule_count}
 use Rattle.automaton.specs.Check.{forget_ok}
-use Rattle.automaton.proofs.Passes.{bound_is}
 use Rattle.automaton.proofs.tests.forgetting.Given as goal
 
 abbrev pub invariant-loop-i : goal.invariant-loop-i

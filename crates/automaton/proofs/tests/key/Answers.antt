@@ -1,7 +1,6 @@
 -- `automaton::tests::key` meets its contract: the tests are the definition's. Assumes nothing.
 use borrow.Author.Tests.{eq-eqb, ne_eqb, le-leb, lt-leb}
 use Rattle.automaton.specs.Check.{key_word}
-use borrow.Author.Rules.{rules}
 use Rattle.automaton.proofs.tests.key.Goals as goal
 
 pub returns-then-k-eq0 : goal.returns-then-k-eq0

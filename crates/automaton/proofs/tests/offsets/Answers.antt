@@ -1,6 +1,5 @@
 -- `automaton::tests::offsets` meets its contract: each comparison is the definition's. Assumes nothing.
 use Rattle.automaton.specs.Check.{offsets_ok}
-use borrow.Author.Rules.{rules}
 use Rattle.automaton.proofs.tests.offsets.Goals as goal
 
 pub returns : goal.returns

@@ -1,6 +1,5 @@
 -- `automaton::tests::place` meets its contract: the test is the definition's. Assumes nothing.
 use Rattle.automaton.proofs.Passes.{places}
-use borrow.Author.Rules.{rules}
 use Rattle.automaton.proofs.tests.place.Goals as goal
 
 pub returns-then-k-n : goal.returns-then-k-n

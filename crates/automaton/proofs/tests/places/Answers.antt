@@ -1,7 +1,4 @@
-use Prim.Native.Nat.{◌-◌}
-use Rattle.model.specs.Limits.{max_children}
-use Rattle.model.proofs.Below.{Passed, loops}
-use Rattle.automaton.specs.Check.{place_ok}
+use Rattle.model.proofs.Below.{loops}
 use Rattle.automaton.proofs.tests.places.Goals as goal
 
 pub loop-k-init : goal.loop-k-init

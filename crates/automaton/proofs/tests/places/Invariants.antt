@@ -1,7 +1,7 @@
 -- `automaton::tests::places` meets its contract: the loop has passed every place before its index. Assumes nothing.
 use Prim.Native.Nat.{◌-◌}
 use Rattle.model.specs.Limits.{max_children}
-use Rattle.model.proofs.Below.{Passed, loops}
+use Rattle.model.proofs.Below.{Passed}
 use Rattle.automaton.specs.Check.{place_ok}
 use Rattle.automaton.proofs.tests.places.Given as goal
 

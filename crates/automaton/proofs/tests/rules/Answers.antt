@@ -1,7 +1,4 @@
-use Prim.Native.Nat.{◌-◌}
-use Rattle.model.proofs.Below.{Passed, loops}
-use Rattle.automaton.specs.Stored.{rule_count}
-use Rattle.automaton.specs.Check.{rule_ok}
+use Rattle.model.proofs.Below.{loops}
 use Rattle.automaton.proofs.tests.rules.Goals as goal
 
 pub header_word-n-requires : goal.header_word-n-requires

@@ -1,6 +1,6 @@
 -- `automaton::tests::rules` meets its contract: the loop has passed every rule before its index. Assumes nothing.
 use Prim.Native.Nat.{◌-◌}
-use Rattle.model.proofs.Below.{Passed, loops}
+use Rattle.model.proofs.Below.{Passed}
 use Rattle.automaton.specs.Stored.{rule_count}
 use Rattle.automaton.specs.Check.{rule_ok}
 use Rattle.automaton.proofs.tests.rules.Given as goal

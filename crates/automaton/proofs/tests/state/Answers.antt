@@ -1,6 +1,5 @@
 -- `automaton::tests::state` meets its contract: each comparison is the definition's. Assumes nothing.
 use Rattle.automaton.specs.Check.{state_ok}
-use borrow.Author.Rules.{rules}
 use Rattle.automaton.proofs.tests.state.Goals as goal
 
 pub returns : goal.returns

@@ -1,7 +1,4 @@
-use Prim.Native.Nat.{◌-◌}
-use Rattle.model.proofs.Below.{Passed, loops}
-use Rattle.automaton.specs.Stored.{state_count}
-use Rattle.automaton.specs.Check.{state_ok}
+use Rattle.model.proofs.Below.{loops}
 use Rattle.automaton.proofs.Passes.{bound_is}
 use Rattle.automaton.proofs.tests.states.Goals as goal
 

@@ -1,9 +1,8 @@
 -- `automaton::tests::states` meets its contract: the loop has passed every state before its index. Assumes nothing.
 use Prim.Native.Nat.{◌-◌}
-use Rattle.model.proofs.Below.{Passed, loops}
+use Rattle.model.proofs.Below.{Passed}
 use Rattle.automaton.specs.Stored.{state_count}
 use Rattle.automaton.specs.Check.{state_ok}
-use Rattle.automaton.proofs.Passes.{bound_is}
 use Rattle.automaton.proofs.tests.states.Given as goal
 
 abbrev pub invariant-loop-i : goal.invariant-loop-i

@@ -1,6 +1,5 @@
 -- `automaton::tests::symbol` meets its contract: the comparison is the definition's. Assumes nothing.
 use Rattle.automaton.specs.Check.{symbol_ok}
-use borrow.Author.Rules.{rules}
 use Rattle.automaton.proofs.tests.symbol.Goals as goal
 
 pub returns : goal.returns

@@ -1,6 +1,6 @@
 -- `automaton::tests::symbols` meets its contract: the loop has passed every symbol before its index. Assumes nothing.
 use Prim.Native.Nat.{◌-◌}
-use Rattle.model.proofs.Below.{Passed, loops}
+use Rattle.model.proofs.Below.{Passed}
 use Rattle.automaton.specs.Stored.{symbol_count}
 use Rattle.automaton.specs.Check.{symbol_ok}
 use Rattle.automaton.proofs.tests.symbols.Given as goal

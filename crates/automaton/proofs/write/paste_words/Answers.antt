@@ -1,7 +1,6 @@
-use Prim.Native.Nat.{◌-◌}
 use native.Mathlib.Omega.{arith}
-use lib.ListN.{length, length-set}
-use Rattle.automaton.proofs.Put.{Pasted, pastes}
+use lib.ListN.{length-set}
+use Rattle.automaton.proofs.Put.{pastes}
 use Rattle.automaton.proofs.write.paste_words.Goals as goal
 
 pub loop-i-init : goal.loop-i-init

@@ -1,8 +1,7 @@
 -- `automaton::write::paste_words` meets its contract: the loop has put every number before its index. Assumes nothing.
 use Prim.Native.Nat.{◌-◌}
-use native.Mathlib.Omega.{arith}
-use lib.ListN.{length, length-set}
-use Rattle.automaton.proofs.Put.{Pasted, pastes}
+use lib.ListN.{length}
+use Rattle.automaton.proofs.Put.{Pasted}
 use Rattle.automaton.proofs.write.paste_words.Given as goal
 
 abbrev pub invariant-loop-i : goal.invariant-loop-i

@@ -1,6 +1,5 @@
 -- `automaton::write::put_header` meets its contract: a header is its numbers in their order. Assumes nothing.
 use Rattle.automaton.proofs.Words.{header_words}
-use borrow.Author.Rules.{rules}
 use Rattle.automaton.proofs.write.put_header.Goals as goal
 
 pub returns : goal.returns

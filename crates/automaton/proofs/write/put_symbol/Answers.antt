@@ -6,7 +6,6 @@ use mathlib.Core.Path.{refl}
 use lib.Seq.{sets-eq}
 use Rattle.automaton.specs.Encode.{encode_symbol}
 use Rattle.automaton.proofs.Put.{put_done, put_stays}
-use borrow.Author.Rules.{rules}
 use Rattle.automaton.proofs.write.put_symbol.Goals as goal
 
 pub returns-then-at-out : goal.returns-then-at-out

@@ -1,8 +1,7 @@
 -- At the loop's head i of them are copied. Assumes nothing.
 use Prim.Native.Nat.{◌-◌}
-use native.Mathlib.Omega.{arith}
 use lib.ListN.{length}
-use Rattle.base.proofs.Copying.{Copied, copied_none, not_copied, copying}
+use Rattle.base.proofs.Copying.{Copied}
 use Rattle.base.proofs.space.put.Given as goal
 
 abbrev pub invariant-loop-i : goal.invariant-loop-i

@@ -1,7 +1,5 @@
-use Prim.Native.Nat.{◌-◌}
 use native.Mathlib.Omega.{arith}
-use lib.ListN.{length}
-use Rattle.base.proofs.Copying.{Copied, copied_none, not_copied, copying}
+use Rattle.base.proofs.Copying.{copied_none, not_copied, copying}
 use Rattle.base.proofs.space.put_cells.Goals as goal
 
 pub returns-then-cells-out : goal.returns-then-cells-out

@@ -1,5 +1,4 @@
 -- Past the end the definition's default stands. Assumes nothing.
-use borrow.Author.Rules.{rules}
 use Rattle.base.proofs.Bytes.{past}
 use Rattle.base.proofs.text.byte_at.Goals as goal
 

@@ -1,7 +1,6 @@
 -- Past the end the definition's default stands. Assumes nothing.
 use Prim.Native.Nat.{◌+◌}
 use native.Mathlib.Omega.{arith}
-use borrow.Author.Rules.{rules}
 use Rattle.base.proofs.Bytes.{past}
 use Rattle.base.proofs.text.byte_behind.Goals as goal
 

@@ -1,11 +1,7 @@
-use Prim.Native.Nat.{◌+◌, ◌-◌}
 use mathlib.Core.Path.{sym, ◌∙◌}
-use borrow.Author.Rules.{rules}
 use borrow.Author.Tests.{eq-eqb, ne_eqb}
-use lib.Dec.{eqb}
-use lib.ListN.{length, get_or}
-use Rattle.base.specs.Text.{byte_at, word_bytes}
-use Rattle.base.proofs.Leading.{Led, led_none, led_more, led_stop, led_all}
+use Rattle.base.specs.Text.{word_bytes}
+use Rattle.base.proofs.Leading.{led_none, led_more, led_stop, led_all}
 use Rattle.base.proofs.text.word_bytes.Goals as goal
 
 pub loop-n-init : goal.loop-n-init

@@ -1,12 +1,9 @@
 -- At the loop's head the first n bytes of the word stand there. Assumes nothing.
 use Prim.Native.Nat.{◌+◌, ◌-◌}
-use mathlib.Core.Path.{sym, ◌∙◌}
-use borrow.Author.Rules.{rules}
-use borrow.Author.Tests.{eq-eqb, ne_eqb}
 use lib.Dec.{eqb}
 use lib.ListN.{length, get_or}
-use Rattle.base.specs.Text.{byte_at, word_bytes}
-use Rattle.base.proofs.Leading.{Led, led_none, led_more, led_stop, led_all}
+use Rattle.base.specs.Text.{byte_at}
+use Rattle.base.proofs.Leading.{Led}
 use Rattle.base.proofs.text.word_bytes.Given as goal
 
 abbrev pub invariant-loop-n : goal.invariant-loop-n

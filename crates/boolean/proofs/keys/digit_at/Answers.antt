@@ -1,5 +1,4 @@
 -- `boolean::keys::digit_at` meets its contract: a shift is a division. Assumes nothing.
-use borrow.Author.Rules.{rules}
 use Rattle.boolean.specs.Key.{digit_at}
 use mathlib.Core.Path.{refl}
 use Rattle.boolean.proofs.keys.digit_at.Goals as goal

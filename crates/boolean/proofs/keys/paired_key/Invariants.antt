@@ -1,13 +1,9 @@
 -- `boolean::keys::paired_key` meets its contract: the loop has pushed the places before its index. Assumes nothing.
-use borrow.Author.Rules.{rules}
-use native.Mathlib.Nat.{add-mod-mod}
-use native.Mathlib.Omega.{arith}
-use mathlib.Core.Path.{◌≡◌, ap, sym, subst, ◌∙◌}
-use Prim.Native.Nat.{ℕ, ◌+◌, ◌-◌, ◌*◌, ◌%◌, ◌^◌, ◌<◌}
+use Prim.Native.Nat.{◌-◌}
 use lib.ListN.{get_or}
 use Rattle.model.specs.Limits.{max_children}
-use Rattle.boolean.specs.Key.{digit_width, mask_width, pushed, paired_place}
-use Rattle.boolean.proofs.Packing.{Pushing, pushing_none, pushing_more, pushing_all, product_low, numbers, number_at}
+use Rattle.boolean.specs.Key.{paired_place}
+use Rattle.boolean.proofs.Packing.{Pushing, numbers}
 use Rattle.boolean.proofs.keys.paired_key.Given as goal
 
 abbrev pub invariant-loop-k : goal.invariant-loop-k

@@ -1,6 +1,5 @@
 -- `boolean::keys::place_of` meets its contract. Assumes nothing.
 use borrow.Author.Tests.{lt-ltb, le-ltb}
-use borrow.Author.Rules.{rules}
 use Rattle.boolean.specs.Key.{place_at}
 use Rattle.boolean.proofs.keys.place_of.Goals as goal
 

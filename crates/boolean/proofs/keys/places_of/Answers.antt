@@ -1,7 +1,4 @@
-use Prim.Native.Nat.{◌-◌}
-use Rattle.model.specs.Limits.{max_children}
-use Rattle.automaton.proofs.Loops.{Filled, fills}
-use Rattle.boolean.specs.Key.{place_at}
+use Rattle.automaton.proofs.Loops.{fills}
 use Rattle.boolean.proofs.keys.places_of.Goals as goal
 
 pub loop-k-init : goal.loop-k-init

@@ -1,7 +1,7 @@
 -- `boolean::keys::places_of` meets its contract: the loop has filled every place before its index. Assumes nothing.
 use Prim.Native.Nat.{◌-◌}
 use Rattle.model.specs.Limits.{max_children}
-use Rattle.automaton.proofs.Loops.{Filled, fills}
+use Rattle.automaton.proofs.Loops.{Filled}
 use Rattle.boolean.specs.Key.{place_at}
 use Rattle.boolean.proofs.keys.places_of.Given as goal
 

@@ -1,12 +1,9 @@
-use borrow.Author.Rules.{rules}
 use native.Mathlib.Nat.{mod-mod}
 use native.Mathlib.Omega.{arith}
 use mathlib.Core.Path.{◌≡◌, ap, sym, subst, ◌∙◌}
-use Prim.Native.Nat.{ℕ, ◌+◌, ◌-◌, ◌*◌, ◌%◌, ◌^◌, ◌<◌}
-use lib.ListN.{get_or}
-use Rattle.model.specs.Limits.{max_children}
+use Prim.Native.Nat.{ℕ, ◌+◌, ◌*◌, ◌%◌, ◌^◌, ◌<◌}
 use Rattle.boolean.specs.Key.{digit_width, mask_width, pushed, shifted_place}
-use Rattle.boolean.proofs.Packing.{Pushing, pushing_none, pushing_more, pushing_all, numbers, number_at}
+use Rattle.boolean.proofs.Packing.{pushing_none, pushing_more, pushing_all, number_at}
 use Rattle.boolean.proofs.keys.shifted_key.Goals as goal
 
 pub loop-k-init : goal.loop-k-init

@@ -1,15 +1,14 @@
-use mathlib.Core.Path.{◌≡◌, refl}
+use mathlib.Core.Path.{refl}
 use mathlib.Core.List.{map}
-use Prim.Native.Nat.{◌-◌, ◌<◌}
+use Prim.Native.Nat.{◌<◌}
 use native.Mathlib.Omega.{arith}
-use borrow.Author.Rules.{rules}
 use lib.ListN.{length, length-map}
 use Rattle.model.specs.Boolean.{shift_rule}
 use Rattle.automaton.specs.Stored.{decode}
 use Rattle.automaton.proofs.Sound.{sound_decode}
 use Rattle.boolean.specs.Key.{packed}
 use Rattle.automaton.proofs.Laying.{laid_length}
-use Rattle.boolean.proofs.Laying.{Filling, filling_none, filling_front, filling_all, laid_all}
+use Rattle.boolean.proofs.Laying.{filling_none, filling_front, filling_all, laid_all}
 use Rattle.boolean.proofs.Results.{shifted_key_at}
 use Rattle.boolean.proofs.keys.shifted_keys.Goals as goal
 

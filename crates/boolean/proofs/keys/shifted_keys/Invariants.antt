@@ -1,17 +1,12 @@
 -- `boolean::keys::shifted_keys` meets its contract: the loop has put the keys of the rules before its index. Assumes nothing.
-use mathlib.Core.Path.{◌≡◌, refl}
+use mathlib.Core.Path.{◌≡◌}
 use mathlib.Core.List.{map}
-use Prim.Native.Nat.{◌-◌, ◌<◌}
-use native.Mathlib.Omega.{arith}
-use borrow.Author.Rules.{rules}
-use lib.ListN.{length, length-map}
+use Prim.Native.Nat.{◌-◌}
+use lib.ListN.{length}
 use Rattle.model.specs.Boolean.{shift_rule}
 use Rattle.automaton.specs.Stored.{decode}
-use Rattle.automaton.proofs.Sound.{sound_decode}
 use Rattle.boolean.specs.Key.{packed}
-use Rattle.automaton.proofs.Laying.{laid_length}
-use Rattle.boolean.proofs.Laying.{Filling, filling_none, filling_front, filling_all, laid_all}
-use Rattle.boolean.proofs.Results.{shifted_key_at}
+use Rattle.boolean.proofs.Laying.{Filling}
 use Rattle.boolean.proofs.keys.shifted_keys.Given as goal
 
 abbrev pub invariant-loop-i : goal.invariant-loop-i

@@ -1,6 +1,5 @@
 -- `boolean::keys::shifted_place` meets its contract. Assumes nothing.
 use borrow.Author.Tests.{lt-ltb, le-ltb}
-use borrow.Author.Rules.{rules}
 use mathlib.Core.Path.{ap}
 use Prim.Native.Nat.{◌+◌}
 use Rattle.boolean.specs.Key.{shifted_place}

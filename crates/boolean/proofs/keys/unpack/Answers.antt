@@ -1,7 +1,6 @@
 -- `boolean::keys::unpack` meets its contract: what it reads off the key is the rule. Assumes nothing.
 use mathlib.Core.Path.{◌∙◌, ap, refl}
 use Prim.Native.Nat.{ℕ}
-use borrow.Author.Rules.{rules}
 use Rattle.model.specs.Automaton.{arity_of}
 use Rattle.automaton.specs.Stored.{decode}
 use Rattle.boolean.proofs.Packing.{unpacked_places}

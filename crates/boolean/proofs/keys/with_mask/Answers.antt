@@ -1,6 +1,5 @@
 -- `boolean::keys::with_mask` meets its contract. Assumes nothing.
 use mathlib.Core.Path.{refl}
-use borrow.Author.Rules.{rules}
 use Rattle.boolean.specs.Key.{masked}
 use Rattle.boolean.proofs.keys.with_mask.Goals as goal
 

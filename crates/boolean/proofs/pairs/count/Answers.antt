@@ -1,13 +1,11 @@
-use mathlib.Core.Path.{◌≡◌, subst}
-use Prim.Native.Nat.{ℕ, ◌-◌}
+use mathlib.Core.Path.{subst}
+use Prim.Native.Nat.{ℕ}
 use native.Mathlib.Omega.{arith}
-use borrow.Author.Rules.{rules}
-use lib.ListN.{length}
 use Rattle.automaton.specs.Stored.{decode}
 use Rattle.automaton.proofs.Sound.{sound_decode}
 use Rattle.automaton.proofs.Known.{known_symbol}
 use Rattle.boolean.specs.Ready.{Window}
-use Rattle.boolean.proofs.Windows.{Counted, window_up, counted_none, counted_more, counted_all}
+use Rattle.boolean.proofs.Windows.{window_up, counted_none, counted_more, counted_all}
 use Rattle.boolean.proofs.pairs.count.Goals as goal
 
 pub loop-i-init : goal.loop-i-init

@@ -1,14 +1,9 @@
 -- `boolean::pairs::count` meets its contract: the loop has counted the pairs of the rules before its index. Assumes nothing.
-use mathlib.Core.Path.{◌≡◌, subst}
-use Prim.Native.Nat.{ℕ, ◌-◌}
-use native.Mathlib.Omega.{arith}
-use borrow.Author.Rules.{rules}
+use mathlib.Core.Path.{◌≡◌}
+use Prim.Native.Nat.{◌-◌}
 use lib.ListN.{length}
 use Rattle.automaton.specs.Stored.{decode}
-use Rattle.automaton.proofs.Sound.{sound_decode}
-use Rattle.automaton.proofs.Known.{known_symbol}
-use Rattle.boolean.specs.Ready.{Window}
-use Rattle.boolean.proofs.Windows.{Counted, window_up, counted_none, counted_more, counted_all}
+use Rattle.boolean.proofs.Windows.{Counted}
 use Rattle.boolean.proofs.pairs.count.Given as goal
 
 abbrev pub invariant-loop-i : goal.invariant-loop-i

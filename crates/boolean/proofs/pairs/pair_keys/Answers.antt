@@ -1,8 +1,6 @@
-use mathlib.Core.Path.{◌≡◌, ap, subst}
-use mathlib.Core.List.{map}
-use Prim.Native.Nat.{◌-◌, ◌<◌}
+use mathlib.Core.Path.{ap, subst}
+use Prim.Native.Nat.{◌<◌}
 use native.Mathlib.Omega.{arith}
-use borrow.Author.Rules.{rules}
 use lib.ListN.{length, length-map}
 use Rattle.model.specs.Boolean.{pair_rules}
 use Rattle.model.specs.Written.{no_rule, rule_at}
@@ -12,7 +10,7 @@ use Rattle.boolean.specs.Key.{packed}
 use Rattle.automaton.specs.Laid.{Laid}
 use Rattle.boolean.specs.Ready.{row}
 use Rattle.boolean.proofs.Concat.{map_concat_map}
-use Rattle.automaton.proofs.Laying.{Parts, parts_none, parts_more, parts_room, parts_all, laid_length}
+use Rattle.automaton.proofs.Laying.{parts_none, parts_more, parts_room, parts_all, laid_length}
 use Rattle.boolean.proofs.pairs.pair_keys.Goals as goal
 
 pub loop-i-init : goal.loop-i-init

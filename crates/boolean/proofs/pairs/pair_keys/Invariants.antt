@@ -1,19 +1,12 @@
 -- `boolean::pairs::pair_keys` meets its contract: the loop has put the keys of the pairs of the rules before its index. Assumes nothing.
-use mathlib.Core.Path.{◌≡◌, ap, subst}
+use mathlib.Core.Path.{◌≡◌}
 use mathlib.Core.List.{map}
-use Prim.Native.Nat.{◌-◌, ◌<◌}
-use native.Mathlib.Omega.{arith}
-use borrow.Author.Rules.{rules}
-use lib.ListN.{length, length-map}
-use Rattle.model.specs.Boolean.{pair_rules}
-use Rattle.model.specs.Written.{no_rule, rule_at}
-use Rattle.model.proofs.SoundProduct.{product_rules}
+use Prim.Native.Nat.{◌-◌}
+use lib.ListN.{length}
 use Rattle.automaton.specs.Stored.{decode}
 use Rattle.boolean.specs.Key.{packed}
-use Rattle.automaton.specs.Laid.{Laid}
 use Rattle.boolean.specs.Ready.{row}
-use Rattle.boolean.proofs.Concat.{map_concat_map}
-use Rattle.automaton.proofs.Laying.{Parts, parts_none, parts_more, parts_room, parts_all, laid_length}
+use Rattle.automaton.proofs.Laying.{Parts}
 use Rattle.boolean.proofs.pairs.pair_keys.Given as goal
 
 abbrev pub invariant-loop-i : goal.invariant-loop-i

@@ -2,8 +2,7 @@ use mathlib.Core.Path.{◌≡◌, sym, subst, ◌∙◌}
 use mathlib.Core.List.{map}
 use Prim.Native.Nat.{ℕ, ◌+◌, ◌-◌}
 use native.Mathlib.Omega.{arith}
-use borrow.Author.Rules.{rules}
-use lib.ListN.{length, length-map}
+use lib.ListN.{length-map}
 use Rattle.model.specs.Written.{rule_at}
 use Rattle.automaton.specs.Stored.{decode}
 use Rattle.automaton.proofs.Sound.{sound_decode}
@@ -12,7 +11,7 @@ use Rattle.boolean.specs.Key.{packed}
 use Rattle.automaton.specs.Laid.{Laid}
 use Rattle.boolean.specs.Ready.{Window, row}
 use Rattle.automaton.proofs.Laying.{laid_length}
-use Rattle.boolean.proofs.Laying.{Filling, filling_none, filling_more, filling_all}
+use Rattle.boolean.proofs.Laying.{filling_none, filling_more, filling_all}
 use Rattle.boolean.proofs.Windows.{window_up, row_length_lem}
 use Rattle.boolean.proofs.Results.{paired_key_at}
 use Rattle.boolean.proofs.pairs.row_keys.Goals as goal

@@ -1,21 +1,13 @@
 -- `boolean::pairs::row_keys` meets its contract: the loop has put the keys of the window's rules before its index. Assumes nothing.
-use mathlib.Core.Path.{◌≡◌, sym, subst, ◌∙◌}
+use mathlib.Core.Path.{◌≡◌}
 use mathlib.Core.List.{map}
-use Prim.Native.Nat.{ℕ, ◌+◌, ◌-◌}
-use native.Mathlib.Omega.{arith}
-use borrow.Author.Rules.{rules}
-use lib.ListN.{length, length-map}
+use Prim.Native.Nat.{◌-◌}
+use lib.ListN.{length}
 use Rattle.model.specs.Written.{rule_at}
 use Rattle.automaton.specs.Stored.{decode}
-use Rattle.automaton.proofs.Sound.{sound_decode}
-use Rattle.automaton.proofs.Known.{known_symbol}
 use Rattle.boolean.specs.Key.{packed}
-use Rattle.automaton.specs.Laid.{Laid}
-use Rattle.boolean.specs.Ready.{Window, row}
-use Rattle.automaton.proofs.Laying.{laid_length}
-use Rattle.boolean.proofs.Laying.{Filling, filling_none, filling_more, filling_all}
-use Rattle.boolean.proofs.Windows.{window_up, row_length_lem}
-use Rattle.boolean.proofs.Results.{paired_key_at}
+use Rattle.boolean.specs.Ready.{row}
+use Rattle.boolean.proofs.Laying.{Filling}
 use Rattle.boolean.proofs.pairs.row_keys.Given as goal
 
 abbrev pub invariant-loop-k : goal.invariant-loop-k

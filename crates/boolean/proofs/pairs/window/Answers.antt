@@ -1,5 +1,4 @@
 -- `boolean::pairs::window` meets its contract: in a sound set bisection ends at the first rule. Assumes nothing.
-use borrow.Author.Rules.{rules}
 use Rattle.automaton.proofs.Known.{known_first}
 use Rattle.boolean.proofs.pairs.window.Goals as goal
 

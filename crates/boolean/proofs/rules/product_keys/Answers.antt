@@ -1,6 +1,5 @@
 -- `boolean::rules::product_keys` meets its contract: the keys of the pairs, sorted. Assumes nothing.
 use mathlib.Core.Path.{sym, ◌∙◌}
-use borrow.Author.Rules.{rules}
 use Rattle.boolean.proofs.Keying.{pairs_count, scratch_count, product_keyed}
 use Rattle.boolean.proofs.rules.product_keys.Goals as goal
 

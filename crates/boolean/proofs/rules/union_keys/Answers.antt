@@ -1,7 +1,6 @@
 -- `boolean::rules::union_keys` meets its contract: two runs of keys one after the other, merged. Assumes nothing.
 use mathlib.Core.Path.{sym, ◌∙◌}
 use native.Mathlib.Omega.{arith}
-use borrow.Author.Rules.{rules}
 use Rattle.boolean.proofs.Keying.{firsts_room, firsts_count, seconds_end, space_room, space_count, both_room, both_count, merge_room, union_keyed}
 use Rattle.boolean.proofs.rules.union_keys.Goals as goal
 

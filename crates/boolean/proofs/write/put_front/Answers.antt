@@ -1,5 +1,4 @@
 -- `boolean::write::put_front` meets its contract: the header, then the symbols. Assumes nothing.
-use borrow.Author.Rules.{rules}
 use Rattle.automaton.specs.Stored.{decode}
 use Rattle.boolean.proofs.Writing.{front_laid}
 use Rattle.boolean.proofs.write.put_front.Goals as goal

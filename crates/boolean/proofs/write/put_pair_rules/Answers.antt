@@ -1,6 +1,5 @@
 -- `boolean::write::put_pair_rules` meets its contract: the rules of the result's keys. Assumes nothing.
 use mathlib.Core.Path.{sym}
-use borrow.Author.Rules.{rules}
 use lib.Seq.{length-take-le}
 use Rattle.boolean.proofs.Refusing.{ready_product}
 use Rattle.boolean.proofs.Writing.{rules_room, rules_laid}

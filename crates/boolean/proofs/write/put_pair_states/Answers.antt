@@ -1,16 +1,14 @@
 use mathlib.Core.Path.{◌≡◌, ap, sym, ◌∙◌}
-use Prim.Native.Nat.{ℕ, ◌-◌, ◌*◌, ◌/◌, ◌%◌, ◌^◌, ◌<◌}
+use Prim.Native.Nat.{ℕ, ◌*◌, ◌/◌, ◌%◌, ◌^◌, ◌<◌}
 use native.Mathlib.Omega.{arith}
-use borrow.Author.Rules.{rules}
 use lib.ListN.{length}
-use Rattle.model.specs.Automaton.{State, no_state, state_at, final?}
+use Rattle.model.specs.Automaton.{no_state, state_at, final?}
 use Rattle.model.specs.Boolean.{product}
 use Rattle.model.proofs.SoundProduct.{product_states}
 use Rattle.automaton.specs.Stored.{decode}
-use Rattle.automaton.specs.Encode.{encode_state}
 use Rattle.automaton.proofs.Sound.{sound_decode}
 use Rattle.automaton.proofs.Known.{known_mask}
-use Rattle.automaton.proofs.Laying.{Parts, parts_none, parts_put, parts_all, laid_length}
+use Rattle.automaton.proofs.Laying.{parts_none, parts_put, parts_all, laid_length}
 use Rattle.boolean.proofs.Stating.{pair_low, shift_whole, pair_bytes}
 use Rattle.boolean.proofs.write.put_pair_states.Goals as goal
 

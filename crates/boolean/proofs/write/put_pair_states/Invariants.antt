@@ -1,18 +1,12 @@
 -- `boolean::write::put_pair_states` meets its contract: the loop has put the states before its index. Assumes nothing.
-use mathlib.Core.Path.{◌≡◌, ap, sym, ◌∙◌}
-use Prim.Native.Nat.{ℕ, ◌-◌, ◌*◌, ◌/◌, ◌%◌, ◌^◌, ◌<◌}
-use native.Mathlib.Omega.{arith}
-use borrow.Author.Rules.{rules}
+use mathlib.Core.Path.{◌≡◌}
+use Prim.Native.Nat.{◌-◌}
 use lib.ListN.{length}
-use Rattle.model.specs.Automaton.{State, no_state, state_at, final?}
+use Rattle.model.specs.Automaton.{State}
 use Rattle.model.specs.Boolean.{product}
-use Rattle.model.proofs.SoundProduct.{product_states}
 use Rattle.automaton.specs.Stored.{decode}
 use Rattle.automaton.specs.Encode.{encode_state}
-use Rattle.automaton.proofs.Sound.{sound_decode}
-use Rattle.automaton.proofs.Known.{known_mask}
-use Rattle.automaton.proofs.Laying.{Parts, parts_none, parts_put, parts_all, laid_length}
-use Rattle.boolean.proofs.Stating.{pair_low, shift_whole, pair_bytes}
+use Rattle.automaton.proofs.Laying.{Parts}
 use Rattle.boolean.proofs.write.put_pair_states.Given as goal
 
 abbrev pub invariant-loop-i : goal.invariant-loop-i

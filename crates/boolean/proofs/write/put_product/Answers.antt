@@ -1,5 +1,4 @@
 -- `boolean::write::put_product` meets its contract: each part is put where the one before it ends. Assumes nothing.
-use borrow.Author.Rules.{rules}
 use Rattle.boolean.proofs.Writing.{product_front_room, pairs_room, product_rules_room, product_laid}
 use Rattle.boolean.proofs.write.put_product.Goals as goal
 

@@ -1,10 +1,5 @@
-use Prim.Native.Nat.{◌-◌}
-use borrow.Author.Rules.{rules}
-use lib.ListN.{length}
-use Rattle.automaton.specs.Stored.{decode}
-use Rattle.boolean.specs.Key.{encode_key}
 use Rattle.automaton.proofs.Known.{rule_bytes}
-use Rattle.automaton.proofs.Laying.{Parts, parts_none, parts_put, parts_all, laid_length}
+use Rattle.automaton.proofs.Laying.{parts_none, parts_put, parts_all, laid_length}
 use Rattle.boolean.proofs.write.put_rules.Goals as goal
 
 pub loop-i-init : goal.loop-i-init

@@ -1,11 +1,9 @@
 -- `boolean::write::put_rules` meets its contract: the loop has put the rules of the keys before its index. Assumes nothing.
 use Prim.Native.Nat.{◌-◌}
-use borrow.Author.Rules.{rules}
 use lib.ListN.{length}
 use Rattle.automaton.specs.Stored.{decode}
 use Rattle.boolean.specs.Key.{encode_key}
-use Rattle.automaton.proofs.Known.{rule_bytes}
-use Rattle.automaton.proofs.Laying.{Parts, parts_none, parts_put, parts_all, laid_length}
+use Rattle.automaton.proofs.Laying.{Parts}
 use Rattle.boolean.proofs.write.put_rules.Given as goal
 
 abbrev pub invariant-loop-i : goal.invariant-loop-i

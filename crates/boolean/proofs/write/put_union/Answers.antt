@@ -1,5 +1,4 @@
 -- `boolean::write::put_union` meets its contract: each part is put where the one before it ends. Assumes nothing.
-use borrow.Author.Rules.{rules}
 use Rattle.boolean.proofs.Writing.{union_front_room, union_rules_room, union_laid}
 use Rattle.boolean.proofs.write.put_union.Goals as goal
 

@@ -1,6 +1,5 @@
 -- `boolean::write::put_union_rules` meets its contract: the rules of the result's keys. Assumes nothing.
 use mathlib.Core.Path.{sym}
-use borrow.Author.Rules.{rules}
 use lib.Seq.{length-take-le}
 use Rattle.boolean.proofs.Refusing.{ready_union}
 use Rattle.boolean.proofs.Writing.{rules_room, rules_laid}

@@ -1,7 +1,6 @@
 -- `cidhomba::code::check_code` meets its contract: a refusal's number is added to the highest bit. Assumes nothing.
 use mathlib.Core.Path.{ap}
 use native.Mathlib.Omega.{arith}
-use borrow.Author.Rules.{rules}
 use Rattle.automaton.specs.Answer.{check_answer}
 use Rattle.cidhomba.specs.Code.{check_code}
 use Rattle.cidhomba.proofs.code.check_code.Goals as goal

@@ -1,7 +1,6 @@
 -- `cidhomba::code::judged_code` meets its contract: a refusal's number is added to the highest bit. Assumes nothing.
 use mathlib.Core.Path.{ap}
 use native.Mathlib.Omega.{arith}
-use borrow.Author.Rules.{rules}
 use Rattle.cidhomba.specs.Code.{judged_code}
 use Rattle.cidhomba.proofs.code.judged_code.Goals as goal
 

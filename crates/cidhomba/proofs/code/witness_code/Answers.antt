@@ -1,7 +1,6 @@
 -- `cidhomba::code::witness_code` meets its contract: rows and levels side by side, or a refusal's number under the highest bit. Assumes nothing.
 use mathlib.Core.Path.{ap}
 use native.Mathlib.Omega.{arith}
-use borrow.Author.Rules.{rules}
 use Rattle.emptiness.specs.Answer.{emptiness_answer}
 use Rattle.cidhomba.specs.Code.{witness_code}
 use Rattle.cidhomba.proofs.code.witness_code.Goals as goal

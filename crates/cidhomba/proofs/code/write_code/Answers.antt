@@ -1,7 +1,6 @@
 -- `cidhomba::code::write_code` meets its contract: the length, or a refusal's number added to the highest bit. Assumes nothing.
 use mathlib.Core.Path.{ap}
 use native.Mathlib.Omega.{arith}
-use borrow.Author.Rules.{rules}
 use Rattle.spelling.specs.Write.{write_answer}
 use Rattle.cidhomba.specs.Code.{count_code}
 use Rattle.cidhomba.proofs.code.write_code.Goals as goal

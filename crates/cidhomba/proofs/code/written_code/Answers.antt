@@ -1,7 +1,6 @@
 -- `cidhomba::code::written_code` meets its contract: the length, or a refusal's number added to the highest bit. Assumes nothing.
 use mathlib.Core.Path.{ap}
 use native.Mathlib.Omega.{arith}
-use borrow.Author.Rules.{rules}
 use Rattle.automaton.specs.Answer.{written_answer}
 use Rattle.cidhomba.specs.Code.{count_code}
 use Rattle.cidhomba.proofs.code.written_code.Goals as goal

@@ -1,6 +1,5 @@
 -- `console::line::put_alive` meets its contract: the text's line is put behind the height's. Assumes nothing.
 use native.Mathlib.Omega.{arith}
-use borrow.Author.Rules.{rules}
 use Rattle.console.proofs.Printing.{alive_put}
 use Rattle.console.proofs.line.put_alive.Goals as goal
 

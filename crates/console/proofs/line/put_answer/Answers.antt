@@ -1,5 +1,4 @@
 -- `console::line::put_answer` meets its contract: bytes at the front are the output. Assumes nothing.
-use borrow.Author.Rules.{rules}
 use Rattle.console.proofs.Printing.{answer_put}
 use Rattle.console.proofs.line.put_answer.Goals as goal
 

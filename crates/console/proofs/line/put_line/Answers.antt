@@ -1,6 +1,5 @@
 -- `console::line::put_line` meets its contract: the line's end is put behind the bytes. Assumes nothing.
 use native.Mathlib.Omega.{arith}
-use borrow.Author.Rules.{rules}
 use Rattle.console.proofs.Printing.{line_put}
 use Rattle.console.proofs.line.put_line.Goals as goal
 

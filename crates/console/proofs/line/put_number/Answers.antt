@@ -1,5 +1,4 @@
 -- `console::line::put_number` meets its contract: the digits are put, and the place after them comes back. Assumes nothing.
-use borrow.Author.Rules.{rules}
 use Rattle.console.proofs.Printing.{decimal_put}
 use Rattle.console.proofs.line.put_number.Goals as goal
 

@@ -1,5 +1,4 @@
 -- `console::line::put_numbered` meets its contract: the number is put behind the word. Assumes nothing.
-use borrow.Author.Rules.{rules}
 use Rattle.console.proofs.Printing.{numbered_put}
 use Rattle.console.proofs.line.put_numbered.Goals as goal
 

@@ -1,6 +1,5 @@
 -- `console::line::put_numbers` meets its contract: the place is put behind the number. Assumes nothing.
 use native.Mathlib.Omega.{arith}
-use borrow.Author.Rules.{rules}
 use Rattle.console.proofs.Printing.{numbers_put}
 use Rattle.console.proofs.line.put_numbers.Goals as goal
 

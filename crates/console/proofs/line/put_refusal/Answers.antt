@@ -1,5 +1,4 @@
 -- `console::line::put_refusal` meets its contract: the number decides on the place. Assumes nothing.
-use borrow.Author.Rules.{rules}
 use Rattle.console.proofs.Printing.{below_placed, above_placed, is_placed}
 use Rattle.console.proofs.line.put_refusal.Goals as goal
 

@@ -1,5 +1,4 @@
 -- `console::line::put_refused` meets its contract: the line is the output. Assumes nothing.
-use borrow.Author.Rules.{rules}
 use Rattle.console.proofs.Printing.{refused_put}
 use Rattle.console.proofs.line.put_refused.Goals as goal
 

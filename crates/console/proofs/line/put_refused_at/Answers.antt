@@ -1,6 +1,5 @@
 -- `console::line::put_refused_at` meets its contract: the line is the output. Assumes nothing.
 use native.Mathlib.Omega.{arith}
-use borrow.Author.Rules.{rules}
 use Rattle.console.proofs.Printing.{refused_at_put}
 use Rattle.console.proofs.line.put_refused_at.Goals as goal
 

@@ -1,7 +1,5 @@
 -- `document::builder::find_or_add` meets its contract: each answer is that of the definition at what the probe found. Assumes nothing.
 use native.Mathlib.Omega.{arith}
-use borrow.Author.Rules.{rules}
-use borrow.Author.Tests.{not-true, not-false}
 use Rattle.document.specs.Fields.{fields_row}
 use Rattle.document.proofs.Placement.{room, inside, did_known, did_crowded, did_full, did_add}
 use Rattle.document.proofs.builder.find_or_add.Goals as goal

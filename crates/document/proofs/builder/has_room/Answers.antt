@@ -1,5 +1,4 @@
 -- `document::builder::has_room` meets its contract. Assumes nothing.
-use borrow.Author.Rules.{rules}
 use Rattle.document.specs.Builder.{room_for?}
 use Rattle.document.proofs.builder.has_room.Goals as goal
 

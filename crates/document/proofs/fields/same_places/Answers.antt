@@ -1,12 +1,10 @@
-use Prim.Native.Nat.{◌-◌}
 use borrow.Author.Rules.{rules}
-use mathlib.Core.Path.{◌≡◌, sym}
-use lib.ListN.{length}
+use mathlib.Core.Path.{sym}
 use Rattle.document.specs.Rows.{places_in}
 use Rattle.document.specs.Fields.{numbers_of}
 use Rattle.document.specs.Check.{place_in}
 use Rattle.document.proofs.Numbers.{number_at, numbers_length}
-use Rattle.document.proofs.Children.{Alike, alike_none, alike_not, alike_end, alike_more, alike_all}
+use Rattle.document.proofs.Children.{alike_none, alike_not, alike_end, alike_more, alike_all}
 use Rattle.document.proofs.fields.same_places.Goals as goal
 
 pub loop-k-init : goal.loop-k-init

@@ -1,13 +1,10 @@
 -- `document::fields::same_places` meets its contract: the places passed are used and the same on both sides. Assumes nothing.
 use Prim.Native.Nat.{◌-◌}
-use borrow.Author.Rules.{rules}
-use mathlib.Core.Path.{◌≡◌, sym}
+use mathlib.Core.Path.{◌≡◌}
 use lib.ListN.{length}
 use Rattle.document.specs.Rows.{places_in}
 use Rattle.document.specs.Fields.{numbers_of}
-use Rattle.document.specs.Check.{place_in}
-use Rattle.document.proofs.Numbers.{number_at, numbers_length}
-use Rattle.document.proofs.Children.{Alike, alike_none, alike_not, alike_end, alike_more, alike_all}
+use Rattle.document.proofs.Children.{Alike}
 use Rattle.document.proofs.fields.same_places.Given as goal
 
 abbrev pub invariant-loop-k : goal.invariant-loop-k

@@ -1,6 +1,4 @@
 -- `document::fields::same_row` meets its contract: symbols, then scalars, then places. Assumes nothing.
-use borrow.Author.Rules.{rules}
-use borrow.Author.Tests.{not-true, not-false}
 use Rattle.document.specs.Rows.{row_in}
 use Rattle.document.specs.Fields.{fields_row}
 use Rattle.document.proofs.Equality.{other_symbol, other_scalar, by_children}

@@ -1,4 +1,4 @@
-use Prim.Native.Nat.{◌-◌, ◌+◌}
+use Prim.Native.Nat.{◌+◌}
 use borrow.Author.Rules.{rules}
 use mathlib.Core.Path.{◌≡◌, ◌∙◌, ap}
 use lib.ListN.{length, get_or}
@@ -7,7 +7,7 @@ use Rattle.model.specs.Lists.{tab}
 use Rattle.document.specs.Rows.{used}
 use Rattle.document.specs.Fields.{numbers_of}
 use Rattle.document.proofs.Numbers.{number_at, numbers_length, numbers_set, rows_of}
-use Rattle.document.proofs.Children.{Settled, settled_first, settled_next, settled_all}
+use Rattle.document.proofs.Children.{settled_first, settled_next, settled_all}
 use Rattle.document.proofs.fields.settled.Goals as goal
 
 pub loop-k-init : goal.loop-k-init

@@ -1,7 +1,6 @@
 -- `document::hash::add_cell` meets its contract: a byte, then the other. Assumes nothing.
 use mathlib.Core.Path.{◌∙◌, ap}
 use Prim.Native.Nat.{◌/◌}
-use borrow.Author.Rules.{rules}
 use Rattle.document.specs.Hash.{fnv_byte}
 use Rattle.document.proofs.hash.add_cell.Goals as goal
 

@@ -1,6 +1,5 @@
 -- Both halves of the payload; nothing; one cell; or the lower half. Assumes nothing.
 use native.Mathlib.Omega.{arith}
-use borrow.Author.Rules.{rules}
 use Rattle.document.proofs.Hashing.{both_hashed, no_payload, one_payload, half_payload}
 use Rattle.document.proofs.hash.add_rest.Goals as goal
 

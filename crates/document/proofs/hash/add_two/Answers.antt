@@ -1,5 +1,4 @@
 -- One cell, then the other. Assumes nothing.
-use borrow.Author.Rules.{rules}
 use Rattle.document.proofs.Hashing.{two_hashed}
 use Rattle.document.proofs.hash.add_two.Goals as goal
 

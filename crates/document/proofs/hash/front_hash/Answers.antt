@@ -1,5 +1,4 @@
 -- The symbol, two places, and one more. Assumes nothing.
-use borrow.Author.Rules.{rules}
 use Rattle.document.proofs.Hashing.{front_hashed}
 use Rattle.document.proofs.hash.front_hash.Goals as goal
 

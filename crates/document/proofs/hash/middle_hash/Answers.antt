@@ -1,6 +1,4 @@
 -- Cells whose hash is kept; or the front, a place and the kind. Assumes nothing.
-use mathlib.Core.Path.{◌≡◌}
-use borrow.Author.Rules.{rules}
 use lib.Dec.{eqb, eqb→eq}
 use Rattle.model.proofs.Members.{T_and, T_true}
 use Rattle.document.proofs.Hashing.{count_middle, rate_middle, name_middle, middle_hashed}

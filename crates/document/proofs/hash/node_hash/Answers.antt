@@ -1,6 +1,5 @@
 -- Five cells one by one; the others are zeros. Assumes nothing.
 use native.Mathlib.Omega.{arith}
-use borrow.Author.Rules.{rules}
 use Rattle.document.proofs.Hashing.{node_hashed}
 use Rattle.document.proofs.hash.node_hash.Goals as goal
 

@@ -1,6 +1,5 @@
-use Prim.Native.Nat.{◌-◌}
 use borrow.Author.Rules.{rules}
-use Rattle.document.proofs.Hashing.{Hashed, hashed_none, hashed_next, hashed_all}
+use Rattle.document.proofs.Hashing.{hashed_none, hashed_next, hashed_all}
 use Rattle.document.proofs.hash.row_hash.Goals as goal
 
 pub loop-i-init : goal.loop-i-init

@@ -1,7 +1,6 @@
 -- `document::hash::row_hash` meets its contract: what is left to hash from h on gives the row's hash. Assumes nothing.
 use Prim.Native.Nat.{◌-◌}
-use borrow.Author.Rules.{rules}
-use Rattle.document.proofs.Hashing.{Hashed, hashed_none, hashed_next, hashed_all}
+use Rattle.document.proofs.Hashing.{Hashed}
 use Rattle.document.proofs.hash.row_hash.Given as goal
 
 abbrev pub invariant-loop-i : goal.invariant-loop-i

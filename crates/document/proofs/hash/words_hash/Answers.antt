@@ -1,5 +1,4 @@
 -- The first six cells, then the rest. Assumes nothing.
-use borrow.Author.Rules.{rules}
 use Rattle.document.proofs.Hashing.{words_hashed}
 use Rattle.document.proofs.hash.words_hash.Goals as goal
 

@@ -1,8 +1,7 @@
 use mathlib.Core.Path.{refl}
 use mathlib.Core.Bool.{false}
-use Prim.Native.Nat.{◌-◌}
 use borrow.Author.Rules.{rules}
-use Rattle.document.proofs.Searching.{Searched, searched_none, searched_free, searched_more, searched_all}
+use Rattle.document.proofs.Searching.{searched_none, searched_free, searched_more, searched_all}
 use Rattle.document.proofs.index.free_slot.Goals as goal
 
 pub loop-d-init : goal.loop-d-init

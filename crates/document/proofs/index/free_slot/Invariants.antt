@@ -1,9 +1,7 @@
 -- `document::index::free_slot` meets its contract: the slots tried held rows, and none passes. Assumes nothing.
-use mathlib.Core.Path.{refl}
 use mathlib.Core.Bool.{false}
 use Prim.Native.Nat.{◌-◌}
-use borrow.Author.Rules.{rules}
-use Rattle.document.proofs.Searching.{Searched, searched_none, searched_free, searched_more, searched_all}
+use Rattle.document.proofs.Searching.{Searched}
 use Rattle.document.proofs.index.free_slot.Given as goal
 
 abbrev pub invariant-loop-d : goal.invariant-loop-d

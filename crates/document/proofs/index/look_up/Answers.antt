@@ -1,13 +1,6 @@
 use mathlib.Core.Path.{refl}
-use mathlib.Core.Bool.{Bool}
-use mathlib.Core.List.{List}
-use Prim.Native.Nat.{ℕ, ◌-◌}
 use borrow.Author.Rules.{rules}
-use Rattle.model.specs.Build.{eq_row}
-use Rattle.document.specs.declared.fields.RowFields.{RowFields}
-use Rattle.document.specs.Rows.{row_in}
-use Rattle.document.specs.Fields.{fields_row}
-use Rattle.document.proofs.Searching.{Searched, searched_none, searched_free, searched_known, searched_more, searched_all}
+use Rattle.document.proofs.Searching.{searched_none, searched_free, searched_known, searched_more, searched_all}
 use Rattle.document.proofs.index.look_up.Goals as goal
 use Rattle.document.proofs.index.look_up.Invariants.{equal?}
 

@@ -1,14 +1,12 @@
 -- `document::index::look_up` meets its contract: the slots tried held rows that differ. Assumes nothing.
-use mathlib.Core.Path.{refl}
 use mathlib.Core.Bool.{Bool}
 use mathlib.Core.List.{List}
 use Prim.Native.Nat.{ℕ, ◌-◌}
-use borrow.Author.Rules.{rules}
 use Rattle.model.specs.Build.{eq_row}
 use Rattle.document.specs.declared.fields.RowFields.{RowFields}
 use Rattle.document.specs.Rows.{row_in}
 use Rattle.document.specs.Fields.{fields_row}
-use Rattle.document.proofs.Searching.{Searched, searched_none, searched_free, searched_known, searched_more, searched_all}
+use Rattle.document.proofs.Searching.{Searched}
 use Rattle.document.proofs.index.look_up.Given as goal
 
 abbrev pub equal? : List ℕ → RowFields → ℕ → Bool

@@ -1,8 +1,7 @@
 use mathlib.Core.Path.{refl}
-use Prim.Native.Nat.{◌-◌}
 use borrow.Author.Rules.{rules}
 use Rattle.document.specs.Words.{same_words}
-use Rattle.document.proofs.Searching.{Searched, searched_none, searched_free, searched_known, searched_more, searched_all}
+use Rattle.document.proofs.Searching.{searched_none, searched_free, searched_known, searched_more, searched_all}
 use Rattle.document.proofs.index.look_up_words.Goals as goal
 
 pub loop-d-init : goal.loop-d-init

@@ -1,9 +1,7 @@
 -- `document::index::look_up_words` meets its contract: the slots tried held rows with other cells. Assumes nothing.
-use mathlib.Core.Path.{refl}
 use Prim.Native.Nat.{◌-◌}
-use borrow.Author.Rules.{rules}
 use Rattle.document.specs.Words.{same_words}
-use Rattle.document.proofs.Searching.{Searched, searched_none, searched_free, searched_known, searched_more, searched_all}
+use Rattle.document.proofs.Searching.{Searched}
 use Rattle.document.proofs.index.look_up_words.Given as goal
 
 abbrev pub invariant-loop-d : goal.invariant-loop-d

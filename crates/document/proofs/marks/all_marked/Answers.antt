@@ -1,7 +1,4 @@
-use Prim.Native.Nat.{◌-◌}
-use mathlib.Core.Bool.{false}
-use lib.ListN.{get_or}
-use Rattle.model.proofs.Below.{Passed, loops}
+use Rattle.model.proofs.Below.{loops}
 use Rattle.document.proofs.Marking.{marked_at}
 use Rattle.document.proofs.marks.all_marked.Goals as goal
 

@@ -2,8 +2,7 @@
 use Prim.Native.Nat.{◌-◌}
 use mathlib.Core.Bool.{false}
 use lib.ListN.{get_or}
-use Rattle.model.proofs.Below.{Passed, loops}
-use Rattle.document.proofs.Marking.{marked_at}
+use Rattle.model.proofs.Below.{Passed}
 use Rattle.document.proofs.marks.all_marked.Given as goal
 
 abbrev pub invariant-loop-i : goal.invariant-loop-i

@@ -1,8 +1,6 @@
-use Prim.Native.Nat.{◌-◌}
-use Rattle.model.specs.Limits.{max_children}
 use Rattle.document.specs.Fields.{numbers_of}
 use Rattle.document.proofs.Numbers.{number_at, numbers}
-use Rattle.document.proofs.Marking.{Marking, marking_more, markings}
+use Rattle.document.proofs.Marking.{marking_more, markings}
 use Rattle.document.proofs.marks.mark.Goals as goal
 
 pub loop-k-init : goal.loop-k-init

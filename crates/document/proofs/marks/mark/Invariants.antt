@@ -2,8 +2,7 @@
 use Prim.Native.Nat.{◌-◌}
 use Rattle.model.specs.Limits.{max_children}
 use Rattle.document.specs.Fields.{numbers_of}
-use Rattle.document.proofs.Numbers.{number_at, numbers}
-use Rattle.document.proofs.Marking.{Marking, marking_more, markings}
+use Rattle.document.proofs.Marking.{Marking}
 use Rattle.document.proofs.marks.mark.Given as goal
 
 abbrev pub invariant-loop-k : goal.invariant-loop-k

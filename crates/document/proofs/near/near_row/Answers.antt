@@ -1,7 +1,6 @@
 -- `document::near::near_row` meets its contract: a row near at hand is the one that the probe finds. Assumes nothing.
 use mathlib.Core.Path.{sym, ◌∙◌}
 use native.Mathlib.Omega.{arith}
-use borrow.Author.Rules.{rules}
 use lib.Dec.{ltb}
 use lib.ListN.{get_or}
 use Rattle.model.proofs.Members.{T_and, T_true}

@@ -2,8 +2,6 @@
 use mathlib.Core.Path.{sym, ap, ◌∙◌}
 use Prim.Native.Nat.{◌%◌}
 use native.Mathlib.Omega.{arith}
-use borrow.Author.Rules.{rules}
-use borrow.Author.Tests.{not-true, not-false}
 use Rattle.document.specs.Words.{words_cells, same_words}
 use Rattle.document.proofs.Probing.{slot_inside}
 use Rattle.document.proofs.Placement.{room, did_known, did_crowded, did_full, did_add}

@@ -1,5 +1,4 @@
 -- `document::rows::fields_at` meets its contract. Assumes nothing.
-use borrow.Author.Rules.{rules}
 use Rattle.document.specs.Fields.{fields_in}
 use Rattle.document.proofs.rows.fields_at.Goals as goal
 

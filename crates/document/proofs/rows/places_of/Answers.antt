@@ -1,5 +1,4 @@
 -- `document::rows::places_of` meets its contract, place by place. Assumes nothing.
-use borrow.Author.Rules.{rules}
 use Rattle.document.proofs.rows.places_of.Goals as goal
 
 pub returns : goal.returns

@@ -1,5 +1,4 @@
 -- `document::rows::put_row` meets its contract. Assumes nothing.
-use borrow.Author.Rules.{rules}
 use Rattle.document.proofs.rows.put_row.Goals as goal
 
 pub returns : goal.returns

@@ -1,5 +1,4 @@
 -- `document::scalar::bits_of` meets its contract: a float that differs from itself is a NaN, and any other has bits of its own. Assumes nothing.
-use borrow.Author.Rules.{rules}
 use Rattle.document.proofs.Rates.{equals_itself, nan_bits_lem}
 use Rattle.document.proofs.scalar.bits_of.Goals as goal
 

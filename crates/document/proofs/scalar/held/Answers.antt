@@ -1,6 +1,5 @@
 -- `document::scalar::held` meets its contract, variant by variant. Assumes nothing.
 use mathlib.Core.Path.{refl}
-use borrow.Author.Rules.{rules}
 use Rattle.document.proofs.Scalars.{held_as}
 use Rattle.document.proofs.scalar.held.Goals as goal
 

@@ -1,5 +1,4 @@
 -- `document::scalar::payload` meets its contract. Assumes nothing.
-use borrow.Author.Rules.{rules}
 use Rattle.document.proofs.scalar.payload.Goals as goal
 
 pub returns-in-Rate : goal.returns-in-Rate

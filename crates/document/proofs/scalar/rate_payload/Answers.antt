@@ -1,7 +1,6 @@
 -- `document::scalar::rate_payload` meets its contract. Assumes nothing.
 use mathlib.Core.Path.{sym, ◌∙◌}
 use native.Mathlib.Omega.{arith}
-use borrow.Author.Rules.{rules}
 use Rattle.document.proofs.Rates.{payload_row_rate, kind_row_rate}
 use Rattle.document.proofs.scalar.rate_payload.Goals as goal
 

@@ -1,6 +1,5 @@
 -- `document::scalar::row_rate` meets its contract. Assumes nothing.
 use mathlib.Core.Path.{ap, ◌∙◌}
-use borrow.Author.Rules.{rules}
 use Rattle.document.specs.Scalars.{rate_of}
 use Rattle.document.proofs.scalar.row_rate.Goals as goal
 

@@ -1,7 +1,4 @@
-use Prim.Native.Nat.{◌-◌}
-use Rattle.model.proofs.Below.{Passed, loops}
-use Rattle.automaton.specs.Stored.{decode}
-use Rattle.document.specs.Check.{row_count, children?}
+use Rattle.model.proofs.Below.{loops}
 use Rattle.document.proofs.tests.all_children_fit.Goals as goal
 
 pub loop-i-init : goal.loop-i-init

@@ -1,5 +1,4 @@
-use Prim.Native.Nat.{◌-◌}
-use Rattle.document.proofs.Entering.{Entered, entering}
+use Rattle.document.proofs.Entering.{entering}
 use Rattle.document.proofs.tests.all_distinct.Goals as goal
 
 pub loop-j-init : goal.loop-j-init

@@ -1,6 +1,6 @@
 -- `document::tests::all_distinct` meets its contract: the rows below j equal no earlier one, and the slots index them. Assumes nothing.
 use Prim.Native.Nat.{◌-◌}
-use Rattle.document.proofs.Entering.{Entered, entering}
+use Rattle.document.proofs.Entering.{Entered}
 use Rattle.document.proofs.tests.all_distinct.Given as goal
 
 abbrev pub invariant-loop-j : goal.invariant-loop-j

@@ -1,6 +1,6 @@
 -- `document::tests::all_scalars_fit` meets its contract. Assumes nothing.
 use Prim.Native.Nat.{◌-◌}
-use Rattle.model.proofs.Below.{Passed, loops}
+use Rattle.model.proofs.Below.{Passed}
 use Rattle.automaton.specs.Stored.{decode}
 use Rattle.document.specs.Check.{row_count, scalar_fits?}
 use Rattle.document.proofs.tests.all_scalars_fit.Given as goal

@@ -1,8 +1,5 @@
-use Prim.Native.Nat.{◌-◌}
-use Rattle.model.specs.Limits.{max_rows}
-use Rattle.document.specs.Rows.{places_in}
 use Rattle.document.proofs.Numbers.{numbers}
-use Rattle.document.proofs.Marking.{MarkedBelow, markings, rows_marked}
+use Rattle.document.proofs.Marking.{markings, rows_marked}
 use Rattle.document.proofs.tests.all_used.Goals as goal
 
 pub loop-j-init : goal.loop-j-init

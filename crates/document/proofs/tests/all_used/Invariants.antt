@@ -2,8 +2,7 @@
 use Prim.Native.Nat.{◌-◌}
 use Rattle.model.specs.Limits.{max_rows}
 use Rattle.document.specs.Rows.{places_in}
-use Rattle.document.proofs.Numbers.{numbers}
-use Rattle.document.proofs.Marking.{MarkedBelow, markings, rows_marked}
+use Rattle.document.proofs.Marking.{MarkedBelow}
 use Rattle.document.proofs.tests.all_used.Given as goal
 
 abbrev pub invariant-loop-j : goal.invariant-loop-j

@@ -1,5 +1,4 @@
 -- `document::tests::child_fits` meets its contract. Assumes nothing.
-use borrow.Author.Rules.{rules}
 use Rattle.document.specs.Check.{child?}
 use Rattle.document.proofs.tests.child_fits.Goals as goal
 

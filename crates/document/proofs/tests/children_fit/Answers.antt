@@ -1,5 +1,4 @@
 -- `document::tests::children_fit` meets its contract. Assumes nothing.
-use borrow.Author.Rules.{rules}
 use Rattle.document.specs.Check.{children?}
 use Rattle.document.proofs.tests.children_fit.Goals as goal
 

@@ -1,5 +1,4 @@
 -- `document::tests::counted` meets its contract. Assumes nothing.
-use borrow.Author.Rules.{rules}
 use Rattle.document.specs.Check.{counted?}
 use Rattle.document.proofs.tests.counted.Goals as goal
 

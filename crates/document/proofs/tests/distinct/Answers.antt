@@ -1,5 +1,4 @@
 -- `document::tests::distinct` meets its contract. Assumes nothing.
-use borrow.Author.Rules.{rules}
 use Rattle.automaton.proofs.Verdict.{verdicts}
 use Rattle.document.specs.Check.{distinct_check_of}
 use Rattle.document.proofs.tests.distinct.Goals as goal

@@ -1,5 +1,4 @@
 -- `document::tests::fits_arity` meets its contract. Assumes nothing.
-use borrow.Author.Rules.{rules}
 use borrow.Author.Tests.{eq-eqb, ne_eqb}
 use Rattle.document.proofs.tests.fits_arity.Goals as goal
 

@@ -1,5 +1,4 @@
 -- `document::tests::form` meets its contract: each test is the definition's, in its order. Assumes nothing.
-use borrow.Author.Rules.{rules}
 use borrow.Author.Tests.{not-false}
 use Rattle.automaton.proofs.Verdict.{verdicts}
 use Rattle.document.specs.Check.{form_check_of}

@@ -1,7 +1,4 @@
-use mathlib.Core.Path.{◌≡◌}
-use Prim.Native.Nat.{◌-◌}
-use Rattle.model.specs.Limits.{max_children}
-use Rattle.document.proofs.Heights.{Rising, rising}
+use Rattle.document.proofs.Heights.{rising}
 use Rattle.document.proofs.tests.highest_child.Goals as goal
 
 pub loop-k-init : goal.loop-k-init

@@ -2,7 +2,7 @@
 use mathlib.Core.Path.{◌≡◌}
 use Prim.Native.Nat.{◌-◌}
 use Rattle.model.specs.Limits.{max_children}
-use Rattle.document.proofs.Heights.{Rising, rising}
+use Rattle.document.proofs.Heights.{Rising}
 use Rattle.document.proofs.tests.highest_child.Given as goal
 
 abbrev pub invariant-loop-k : goal.invariant-loop-k

@@ -1,6 +1,4 @@
-use Prim.Native.Nat.{◌-◌, ◌≤◌}
-use Rattle.document.specs.Rows.{decode_rows}
-use Rattle.document.proofs.Heights.{HeightsBelow, rising}
+use Rattle.document.proofs.Heights.{rising}
 use Rattle.document.proofs.tests.levels_of.Goals as goal
 
 pub loop-i-init : goal.loop-i-init

@@ -1,7 +1,7 @@
 -- `document::tests::levels_of` meets its contract: each row's height is one more than its highest child's. Assumes nothing.
 use Prim.Native.Nat.{◌-◌, ◌≤◌}
 use Rattle.document.specs.Rows.{decode_rows}
-use Rattle.document.proofs.Heights.{HeightsBelow, rising}
+use Rattle.document.proofs.Heights.{HeightsBelow}
 use Rattle.document.proofs.tests.levels_of.Given as goal
 
 abbrev pub invariant-loop-i : goal.invariant-loop-i

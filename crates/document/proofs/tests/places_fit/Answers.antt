@@ -1,7 +1,4 @@
-use Prim.Native.Nat.{◌-◌}
-use Rattle.model.specs.Limits.{max_children}
-use Rattle.model.proofs.Below.{Passed, loops}
-use Rattle.document.specs.Check.{child?}
+use Rattle.model.proofs.Below.{loops}
 use Rattle.document.proofs.tests.places_fit.Goals as goal
 
 pub loop-k-init : goal.loop-k-init

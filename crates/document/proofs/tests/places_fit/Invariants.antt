@@ -1,7 +1,7 @@
 -- `document::tests::places_fit` meets its contract. Assumes nothing.
 use Prim.Native.Nat.{◌-◌}
 use Rattle.model.specs.Limits.{max_children}
-use Rattle.model.proofs.Below.{Passed, loops}
+use Rattle.model.proofs.Below.{Passed}
 use Rattle.document.specs.Check.{child?}
 use Rattle.document.proofs.tests.places_fit.Given as goal
 

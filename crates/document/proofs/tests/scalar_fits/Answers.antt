@@ -1,5 +1,4 @@
 -- `document::tests::scalar_fits` meets its contract. Assumes nothing.
-use borrow.Author.Rules.{rules}
 use Rattle.document.specs.Check.{scalar_fits?}
 use Rattle.document.proofs.tests.scalar_fits.Goals as goal
 

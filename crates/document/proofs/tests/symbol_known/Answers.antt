@@ -1,5 +1,4 @@
 -- `document::tests::symbol_known` meets its contract. Assumes nothing.
-use borrow.Author.Rules.{rules}
 use Rattle.document.specs.Check.{known?}
 use Rattle.document.proofs.tests.symbol_known.Goals as goal
 

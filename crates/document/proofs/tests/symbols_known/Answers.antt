@@ -1,7 +1,4 @@
-use Prim.Native.Nat.{◌-◌}
-use Rattle.model.proofs.Below.{Passed, loops}
-use Rattle.automaton.specs.Stored.{decode}
-use Rattle.document.specs.Check.{row_count, known?}
+use Rattle.model.proofs.Below.{loops}
 use Rattle.document.proofs.tests.symbols_known.Goals as goal
 
 pub loop-i-init : goal.loop-i-init

@@ -1,6 +1,6 @@
 -- `document::tests::symbols_known` meets its contract. Assumes nothing.
 use Prim.Native.Nat.{◌-◌}
-use Rattle.model.proofs.Below.{Passed, loops}
+use Rattle.model.proofs.Below.{Passed}
 use Rattle.automaton.specs.Stored.{decode}
 use Rattle.document.specs.Check.{row_count, known?}
 use Rattle.document.proofs.tests.symbols_known.Given as goal

@@ -1,5 +1,4 @@
 -- `document::tests::table` meets its contract: each test is the definition's, in its order. Assumes nothing.
-use borrow.Author.Rules.{rules}
 use Rattle.document.specs.Check.{table_check_of}
 use Rattle.document.proofs.Verdicts.{tables}
 use Rattle.document.proofs.tests.table.Goals as goal

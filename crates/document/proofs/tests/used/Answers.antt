@@ -1,5 +1,4 @@
 -- `document::tests::used` meets its contract. Assumes nothing.
-use borrow.Author.Rules.{rules}
 use Rattle.automaton.proofs.Verdict.{verdicts}
 use Rattle.document.specs.Check.{used_check_of}
 use Rattle.document.proofs.tests.used.Goals as goal

@@ -1,6 +1,5 @@
 -- The four cells at the place. Assumes nothing.
 use mathlib.Core.Path.{◌∙◌}
-use borrow.Author.Rules.{rules}
 use Rattle.document.proofs.WordCells.{cells_four}
 use Rattle.document.proofs.words.four.Goals as goal
 

@@ -1,7 +1,6 @@
 -- One cell, and the other times 2^16. Assumes nothing.
 use mathlib.Core.Path.{◌∙◌}
 use native.Mathlib.Omega.{arith}
-use borrow.Author.Rules.{rules}
 use Rattle.document.proofs.WordCells.{split_pair}
 use Rattle.document.proofs.words.pair.Goals as goal
 

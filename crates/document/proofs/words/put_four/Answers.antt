@@ -1,5 +1,4 @@
 -- Two cells, then two. Assumes nothing.
-use borrow.Author.Rules.{rules}
 use Rattle.document.proofs.WordCells.{put_pairs}
 use Rattle.document.proofs.words.put_four.Goals as goal
 

@@ -1,6 +1,5 @@
 -- One cell, then the other. Assumes nothing.
 use native.Mathlib.Omega.{arith}
-use borrow.Author.Rules.{rules}
 use lib.ListN.{length-set}
 use Rattle.document.proofs.WordCells.{put_pair}
 use Rattle.document.proofs.words.put_two.Goals as goal

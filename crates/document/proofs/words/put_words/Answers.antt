@@ -2,7 +2,6 @@
 use mathlib.Core.Path.{ap, ◌∙◌}
 use native.Mathlib.Omega.{arith}
 use Prim.Native.Nat.{◌*◌}
-use borrow.Author.Rules.{rules}
 use Rattle.model.specs.Space.{put_at}
 use Rattle.document.specs.Rows.{row_cells}
 use Rattle.document.specs.Words.{words_cells}

@@ -1,6 +1,5 @@
 -- The two cells at the place. Assumes nothing.
 use mathlib.Core.Path.{◌∙◌}
-use borrow.Author.Rules.{rules}
 use Rattle.document.proofs.WordCells.{cells_two}
 use Rattle.document.proofs.words.two.Goals as goal
 

@@ -1,6 +1,5 @@
 -- Two cells, and two more above them. Assumes nothing.
 use mathlib.Core.Path.{◌∙◌}
-use borrow.Author.Rules.{rules}
 use Rattle.document.proofs.WordCells.{split_join}
 use Rattle.document.proofs.words.word.Goals as goal
 

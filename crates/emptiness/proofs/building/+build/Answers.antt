@@ -1,9 +1,6 @@
-use mathlib.Core.Path.{◌≡◌, refl}
-use Prim.Native.Nat.{ℕ, ◌<◌, ◌-◌}
+use mathlib.Core.Path.{refl}
 use borrow.Author.Rules.{rules}
-use lib.ListN.{length}
-use Rattle.automaton.specs.Stored.{decode}
-use Rattle.emptiness.proofs.Tabling.{Loops, loops_more}
+use Rattle.emptiness.proofs.Tabling.{loops_more}
 use Rattle.emptiness.proofs.Rooted.{building}
 use Rattle.emptiness.proofs.building.+build.Goals as goal
 

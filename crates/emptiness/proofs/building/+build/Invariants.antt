@@ -1,11 +1,9 @@
 -- `emptiness::building::build` meets its contract: the measure is the number of levels left. Assumes nothing.
-use mathlib.Core.Path.{◌≡◌, refl}
-use Prim.Native.Nat.{ℕ, ◌<◌, ◌-◌}
-use borrow.Author.Rules.{rules}
+use mathlib.Core.Path.{◌≡◌}
+use Prim.Native.Nat.{◌-◌}
 use lib.ListN.{length}
 use Rattle.automaton.specs.Stored.{decode}
-use Rattle.emptiness.proofs.Tabling.{Loops, loops_more}
-use Rattle.emptiness.proofs.Rooted.{building}
+use Rattle.emptiness.proofs.Tabling.{Loops}
 use Rattle.emptiness.proofs.building.+build.Given as goal
 
 abbrev pub decreases-build : goal.decreases-build

@@ -1,5 +1,4 @@
 -- `emptiness::building::fields_of` meets its contract. Assumes nothing.
-use borrow.Author.Rules.{rules}
 use Rattle.emptiness.proofs.Puts.{puts}
 use Rattle.emptiness.proofs.building.fields_of.Goals as goal
 

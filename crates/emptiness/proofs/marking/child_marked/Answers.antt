@@ -1,5 +1,4 @@
 -- `emptiness::marking::child_marked` meets its contract. Assumes nothing.
-use borrow.Author.Rules.{rules}
 use Rattle.emptiness.proofs.Marks.{marked_at}
 use Rattle.emptiness.proofs.marking.child_marked.Goals as goal
 

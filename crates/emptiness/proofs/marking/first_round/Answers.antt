@@ -1,8 +1,3 @@
-use Prim.Native.Nat.{◌≤◌, ◌-◌}
-use lib.ListN.{replicate}
-use Rattle.model.specs.Limits.{max_states}
-use Rattle.automaton.specs.Stored.{decode}
-use Rattle.emptiness.specs.Marking.{early?, Tried}
 use Rattle.emptiness.proofs.Marks.{rounding}
 use Rattle.emptiness.proofs.marking.first_round.Goals as goal
 

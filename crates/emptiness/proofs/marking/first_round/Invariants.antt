@@ -4,7 +4,6 @@ use lib.ListN.{replicate}
 use Rattle.model.specs.Limits.{max_states}
 use Rattle.automaton.specs.Stored.{decode}
 use Rattle.emptiness.specs.Marking.{early?, Tried}
-use Rattle.emptiness.proofs.Marks.{rounding}
 use Rattle.emptiness.proofs.marking.first_round.Given as goal
 
 abbrev pub invariant-loop-i : goal.invariant-loop-i

@@ -1,7 +1,6 @@
 -- `emptiness::marking::is_marked` meets its contract. Assumes nothing.
 use mathlib.Core.Path.{ap}
 use mathlib.Core.Bool.{not}
-use borrow.Author.Rules.{rules}
 use lib.Dec.{eqb}
 use Rattle.emptiness.specs.Marking.{marked?}
 use Rattle.emptiness.proofs.marking.is_marked.Goals as goal

@@ -1,6 +1,3 @@
-use Prim.Native.Nat.{◌≤◌, ◌-◌}
-use Rattle.automaton.specs.Stored.{decode}
-use Rattle.emptiness.specs.Marking.{LowestAdded}
 use Rattle.emptiness.proofs.Marks.{lows}
 use Rattle.emptiness.proofs.marking.lowest_final.Goals as goal
 

@@ -2,7 +2,6 @@
 use Prim.Native.Nat.{◌≤◌, ◌-◌}
 use Rattle.automaton.specs.Stored.{decode}
 use Rattle.emptiness.specs.Marking.{LowestAdded}
-use Rattle.emptiness.proofs.Marks.{lows}
 use Rattle.emptiness.proofs.marking.lowest_final.Given as goal
 
 abbrev pub invariant-loop-x : goal.invariant-loop-x

@@ -1,9 +1,7 @@
-use Prim.Native.Nat.{◌≤◌, ◌-◌}
 use borrow.Author.Rules.{rules}
-use Rattle.automaton.specs.Stored.{decode}
 use Rattle.automaton.proofs.Sound.{sound_decode}
 use Rattle.emptiness.proofs.Links.{linked_none}
-use Rattle.emptiness.proofs.Turns.{Turn, turn_start, turn_more, marks_live, marks_same, marks_end}
+use Rattle.emptiness.proofs.Turns.{turn_start, turn_more, marks_live, marks_same, marks_end}
 use Rattle.emptiness.proofs.marking.mark.Goals as goal
 
 pub link-requires : goal.link-requires

@@ -1,10 +1,7 @@
 -- `emptiness::marking::mark` meets its contract: before each turn of the loop no final state was marked in an earlier round. Assumes nothing.
 use Prim.Native.Nat.{◌≤◌, ◌-◌}
-use borrow.Author.Rules.{rules}
 use Rattle.automaton.specs.Stored.{decode}
-use Rattle.automaton.proofs.Sound.{sound_decode}
-use Rattle.emptiness.proofs.Links.{linked_none}
-use Rattle.emptiness.proofs.Turns.{Turn, turn_start, turn_more, marks_live, marks_same, marks_end}
+use Rattle.emptiness.proofs.Turns.{Turn}
 use Rattle.emptiness.proofs.marking.mark.Given as goal
 
 abbrev pub invariant-loop-n : goal.invariant-loop-n

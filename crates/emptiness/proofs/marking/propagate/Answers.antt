@@ -1,7 +1,6 @@
 use mathlib.Core.Path.{refl}
 use borrow.Author.Rules.{rules}
-use Rattle.automaton.specs.Stored.{decode}
-use Rattle.emptiness.proofs.Links.{Follows, follows_less, rule_in_lem, following}
+use Rattle.emptiness.proofs.Links.{follows_less, rule_in_lem, following}
 use Rattle.emptiness.proofs.marking.propagate.Goals as goal
 
 pub returns-then-q-ge-MAX_STATES : goal.returns-then-q-ge-MAX_STATES

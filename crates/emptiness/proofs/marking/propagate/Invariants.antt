@@ -1,8 +1,6 @@
 -- `emptiness::marking::propagate` meets its contract: the places from the loop's number on were met, and the numbers fall. Assumes nothing.
-use mathlib.Core.Path.{refl}
-use borrow.Author.Rules.{rules}
 use Rattle.automaton.specs.Stored.{decode}
-use Rattle.emptiness.proofs.Links.{Follows, follows_less, rule_in_lem, following}
+use Rattle.emptiness.proofs.Links.{Follows}
 use Rattle.emptiness.proofs.marking.propagate.Given as goal
 
 abbrev pub invariant-loop-at : goal.invariant-loop-at

@@ -1,10 +1,4 @@
-use Prim.Native.Nat.{◌-◌}
 use borrow.Author.Rules.{rules}
-use lib.ListN.{length}
-use Rattle.model.specs.Written.{rule_at}
-use Rattle.model.proofs.Below.{Passed}
-use Rattle.automaton.specs.Stored.{decode}
-use Rattle.emptiness.specs.Marking.{child_marked?}
 use Rattle.emptiness.proofs.Marks.{child_few, readying}
 use Rattle.emptiness.proofs.marking.ready.Goals as goal
 

@@ -1,12 +1,10 @@
 -- `emptiness::marking::ready` meets its contract: every child before the loop's index is marked. Assumes nothing.
 use Prim.Native.Nat.{◌-◌}
-use borrow.Author.Rules.{rules}
 use lib.ListN.{length}
 use Rattle.model.specs.Written.{rule_at}
 use Rattle.model.proofs.Below.{Passed}
 use Rattle.automaton.specs.Stored.{decode}
 use Rattle.emptiness.specs.Marking.{child_marked?}
-use Rattle.emptiness.proofs.Marks.{child_few, readying}
 use Rattle.emptiness.proofs.marking.ready.Given as goal
 
 abbrev pub invariant-loop-k : goal.invariant-loop-k

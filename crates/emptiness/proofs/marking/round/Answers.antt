@@ -1,6 +1,3 @@
-use Prim.Native.Nat.{◌≤◌, ◌-◌}
-use Rattle.automaton.specs.Stored.{decode}
-use Rattle.emptiness.specs.Marking.{Propagated}
 use Rattle.emptiness.proofs.Marks.{propagating}
 use Rattle.emptiness.proofs.marking.round.Goals as goal
 

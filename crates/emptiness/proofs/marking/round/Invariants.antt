@@ -2,7 +2,6 @@
 use Prim.Native.Nat.{◌≤◌, ◌-◌}
 use Rattle.automaton.specs.Stored.{decode}
 use Rattle.emptiness.specs.Marking.{Propagated}
-use Rattle.emptiness.proofs.Marks.{propagating}
 use Rattle.emptiness.proofs.marking.round.Given as goal
 
 abbrev pub invariant-loop-x : goal.invariant-loop-x

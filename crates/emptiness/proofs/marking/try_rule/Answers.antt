@@ -1,6 +1,5 @@
 -- `emptiness::marking::try_rule` meets its contract: each way out is one law of trying. Assumes nothing.
 use borrow.Author.Rules.{rules}
-use borrow.Author.Tests.{not-true, not-false}
 use Rattle.emptiness.proofs.Marks.{marking, rule_small}
 use Rattle.emptiness.proofs.Tries.{try_marked, try_later, try_unready, try_lower, try_new, try_full}
 use Rattle.emptiness.proofs.marking.try_rule.Goals as goal

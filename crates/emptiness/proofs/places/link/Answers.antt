@@ -1,8 +1,4 @@
-use mathlib.Core.Path.{◌≡◌}
-use Prim.Native.Nat.{◌≤◌, ◌*◌, ◌-◌}
 use borrow.Author.Rules.{rules}
-use Rattle.automaton.specs.Stored.{decode}
-use Rattle.emptiness.specs.Places.{Linked}
 use Rattle.emptiness.proofs.Links.{linked_all, few_places, place_small}
 use Rattle.emptiness.proofs.places.link.Goals as goal
 

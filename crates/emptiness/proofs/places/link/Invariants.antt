@@ -1,10 +1,8 @@
 -- `emptiness::places::link` meets its contract: the places before the loop's index are in their lists. Assumes nothing.
 use mathlib.Core.Path.{◌≡◌}
 use Prim.Native.Nat.{◌≤◌, ◌*◌, ◌-◌}
-use borrow.Author.Rules.{rules}
 use Rattle.automaton.specs.Stored.{decode}
 use Rattle.emptiness.specs.Places.{Linked}
-use Rattle.emptiness.proofs.Links.{linked_all, few_places, place_small}
 use Rattle.emptiness.proofs.places.link.Given as goal
 
 abbrev pub invariant-loop-p : goal.invariant-loop-p

@@ -1,5 +1,4 @@
 -- `emptiness::places::link_place` meets its contract: a place that names no state changes nothing, another is put before its list. Assumes nothing.
-use borrow.Author.Rules.{rules}
 use Rattle.emptiness.proofs.Links.{linking}
 use Rattle.emptiness.proofs.places.link_place.Goals as goal
 

@@ -1,6 +1,4 @@
-use Prim.Native.Nat.{◌-◌}
-use Rattle.automaton.specs.Stored.{decode}
-use Rattle.emptiness.proofs.Shared.{Looked, looking}
+use Rattle.emptiness.proofs.Shared.{looking}
 use Rattle.emptiness.proofs.tags.all_apart.Goals as goal
 
 pub loop-q-init : goal.loop-q-init

@@ -1,5 +1,4 @@
 -- `membership::chains::class_at` meets its contract. Assumes nothing.
-use borrow.Author.Rules.{rules}
 use Rattle.membership.proofs.States.{class_read}
 use Rattle.membership.proofs.chains.class_at.Goals as goal
 

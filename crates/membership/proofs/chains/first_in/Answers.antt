@@ -1,6 +1,5 @@
 -- `membership::chains::first_in` meets its contract. Assumes nothing.
 use native.Mathlib.Omega.{arith}
-use borrow.Author.Rules.{rules}
 use Rattle.membership.specs.Chains.{class_in}
 use Rattle.membership.proofs.States.{head_of}
 use Rattle.membership.proofs.chains.first_in.Goals as goal

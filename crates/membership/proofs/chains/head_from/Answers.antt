@@ -1,5 +1,4 @@
 -- `membership::chains::head_from` meets its contract. Assumes nothing.
-use borrow.Author.Rules.{rules}
 use lib.ListN.{get_or}
 use Rattle.membership.specs.Chains.{class_in}
 use Rattle.membership.proofs.States.{head_before, head_after, head_other, head_is}

@@ -1,5 +1,4 @@
 -- `membership::chains::next_in` meets its contract. Assumes nothing.
-use borrow.Author.Rules.{rules}
 use Rattle.membership.specs.Chains.{class_in}
 use Rattle.membership.proofs.States.{next_scan, next_link}
 use Rattle.membership.proofs.chains.next_in.Goals as goal

@@ -1,8 +1,7 @@
 use Prim.Native.Nat.{◌-◌}
 use native.Mathlib.Omega.{arith}
-use borrow.Author.Rules.{rules}
 use Rattle.membership.specs.Chains.{class_in}
-use Rattle.membership.proofs.States.{Threading, opening_few, thread_none, thread_more, thread_all, head_of}
+use Rattle.membership.proofs.States.{opening_few, thread_none, thread_more, thread_all, head_of}
 use Rattle.membership.proofs.chains.open_window.Goals as goal
 
 pub returns-then-high-low : goal.returns-then-high-low

@@ -1,9 +1,6 @@
 -- `membership::chains::open_window` meets its contract. Assumes nothing.
-use Prim.Native.Nat.{◌-◌}
-use native.Mathlib.Omega.{arith}
-use borrow.Author.Rules.{rules}
 use Rattle.membership.specs.Chains.{class_in}
-use Rattle.membership.proofs.States.{Threading, opening_few, thread_none, thread_more, thread_all, head_of}
+use Rattle.membership.proofs.States.{Threading}
 use Rattle.membership.proofs.chains.open_window.Given as goal
 
 abbrev pub invariant-loop-j : goal.invariant-loop-j

@@ -1,5 +1,3 @@
-use Prim.Native.Nat.{◌-◌, ◌≤◌}
-use Rattle.membership.specs.Chains.{class_in, FirstWith}
 use Rattle.membership.proofs.States.{scans}
 use Rattle.membership.proofs.chains.scan.Goals as goal
 

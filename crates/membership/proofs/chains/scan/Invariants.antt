@@ -1,7 +1,6 @@
 -- `membership::chains::scan` meets its contract. Assumes nothing.
 use Prim.Native.Nat.{◌-◌, ◌≤◌}
 use Rattle.membership.specs.Chains.{class_in, FirstWith}
-use Rattle.membership.proofs.States.{scans}
 use Rattle.membership.proofs.chains.scan.Given as goal
 
 abbrev pub invariant-loop-j : goal.invariant-loop-j

@@ -1,5 +1,4 @@
 -- `membership::entries::choosable` meets its contract. Assumes nothing.
-use borrow.Author.Rules.{rules}
 use Rattle.membership.proofs.Reading.{cells}
 use Rattle.membership.proofs.entries.choosable.Goals as goal
 

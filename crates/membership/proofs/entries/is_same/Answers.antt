@@ -1,5 +1,4 @@
 -- `membership::entries::is_same` meets its contract. Assumes nothing.
-use borrow.Author.Rules.{rules}
 use Rattle.membership.proofs.Reading.{cells}
 use Rattle.membership.proofs.entries.is_same.Goals as goal
 

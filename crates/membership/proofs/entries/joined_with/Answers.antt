@@ -1,5 +1,4 @@
 -- `membership::entries::joined_with` meets its contract. Assumes nothing.
-use borrow.Author.Rules.{rules}
 use Rattle.membership.proofs.Reading.{choice_joined}
 use Rattle.membership.proofs.entries.joined_with.Goals as goal
 

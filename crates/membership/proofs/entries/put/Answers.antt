@@ -1,7 +1,6 @@
 -- `membership::entries::put` meets its contract. Assumes nothing.
 use native.Mathlib.Omega.{arith}
-use borrow.Author.Rules.{rules}
-use lib.ListN.{length, length-set}
+use lib.ListN.{length-set}
 use Rattle.membership.proofs.Storing.{stored}
 use Rattle.membership.proofs.entries.put.Goals as goal
 

@@ -1,7 +1,4 @@
-use borrow.Author.Rules.{rules}
-use Rattle.model.specs.Annotation.{annotation}
-use Rattle.membership.specs.Cells.{memory_of}
-use Rattle.membership.proofs.Chain.{Walking, walks}
+use Rattle.membership.proofs.Chain.{walks}
 use Rattle.membership.proofs.index.is_known.Goals as goal
 
 pub loop-i-init : goal.loop-i-init

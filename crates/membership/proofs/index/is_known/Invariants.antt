@@ -1,8 +1,7 @@
 -- `membership::index::is_known` meets its contract. Assumes nothing.
-use borrow.Author.Rules.{rules}
 use Rattle.model.specs.Annotation.{annotation}
 use Rattle.membership.specs.Cells.{memory_of}
-use Rattle.membership.proofs.Chain.{Walking, walks}
+use Rattle.membership.proofs.Chain.{Walking}
 use Rattle.membership.proofs.index.is_known.Given as goal
 
 abbrev pub invariant-loop-i : goal.invariant-loop-i

@@ -1,6 +1,5 @@
 -- `membership::index::link` meets its contract. Assumes nothing.
 use native.Mathlib.Omega.{arith}
-use borrow.Author.Rules.{rules}
 use Rattle.membership.proofs.Chain.{linked}
 use Rattle.membership.proofs.index.link.Goals as goal
 

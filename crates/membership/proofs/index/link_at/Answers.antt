@@ -1,5 +1,4 @@
 -- `membership::index::link_at` meets its contract. Assumes nothing.
-use borrow.Author.Rules.{rules}
 use Rattle.membership.proofs.Chain.{links}
 use Rattle.membership.proofs.index.link_at.Goals as goal
 

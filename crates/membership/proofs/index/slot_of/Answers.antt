@@ -1,5 +1,4 @@
-use Prim.Native.Nat.{◌-◌}
-use Rattle.membership.proofs.Hashing.{Mixing, hashes}
+use Rattle.membership.proofs.Hashing.{hashes}
 use Rattle.membership.proofs.index.slot_of.Goals as goal
 
 pub size-requires : goal.size-requires

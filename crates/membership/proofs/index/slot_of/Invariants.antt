@@ -1,6 +1,6 @@
 -- `membership::index::slot_of` meets its contract. Assumes nothing.
 use Prim.Native.Nat.{◌-◌}
-use Rattle.membership.proofs.Hashing.{Mixing, hashes}
+use Rattle.membership.proofs.Hashing.{Mixing}
 use Rattle.membership.proofs.index.slot_of.Given as goal
 
 abbrev pub invariant-loop-k : goal.invariant-loop-k

@@ -1,5 +1,4 @@
-use Prim.Native.Nat.{◌-◌}
-use Rattle.membership.proofs.Places.{Testing, agree_at, tests}
+use Rattle.membership.proofs.Places.{tests}
 use Rattle.membership.proofs.memory.agree.Goals as goal
 
 pub loop-k-init : goal.loop-k-init

@@ -1,6 +1,6 @@
 -- `membership::memory::agree` meets its contract. Assumes nothing.
 use Prim.Native.Nat.{◌-◌}
-use Rattle.membership.proofs.Places.{Testing, agree_at, tests}
+use Rattle.membership.proofs.Places.{Testing, agree_at}
 use Rattle.membership.proofs.memory.agree.Given as goal
 
 abbrev pub invariant-loop-k : goal.invariant-loop-k

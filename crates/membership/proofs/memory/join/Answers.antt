@@ -1,5 +1,4 @@
-use Prim.Native.Nat.{◌-◌}
-use Rattle.membership.proofs.Places.{Joining, joins}
+use Rattle.membership.proofs.Places.{joins}
 use Rattle.membership.proofs.memory.join.Goals as goal
 
 pub loop-k-init : goal.loop-k-init

@@ -1,6 +1,6 @@
 -- `membership::memory::join` meets its contract. Assumes nothing.
 use Prim.Native.Nat.{◌-◌}
-use Rattle.membership.proofs.Places.{Joining, joins}
+use Rattle.membership.proofs.Places.{Joining}
 use Rattle.membership.proofs.memory.join.Given as goal
 
 abbrev pub invariant-loop-k : goal.invariant-loop-k

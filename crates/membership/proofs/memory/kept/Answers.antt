@@ -1,5 +1,4 @@
-use Prim.Native.Nat.{◌-◌}
-use Rattle.membership.proofs.Own.{Masking, kept_at, kept_all, nothing_dropped, masks}
+use Rattle.membership.proofs.Own.{kept_all, nothing_dropped, masks}
 use Rattle.membership.proofs.Rowing.{zeros}
 use Rattle.membership.proofs.memory.kept.Goals as goal
 

@@ -1,7 +1,6 @@
 -- `membership::memory::kept` meets its contract. Assumes nothing.
 use Prim.Native.Nat.{◌-◌}
-use Rattle.membership.proofs.Own.{Masking, kept_at, kept_all, nothing_dropped, masks}
-use Rattle.membership.proofs.Rowing.{zeros}
+use Rattle.membership.proofs.Own.{Masking, kept_at}
 use Rattle.membership.proofs.memory.kept.Given as goal
 
 abbrev pub invariant-loop-k : goal.invariant-loop-k

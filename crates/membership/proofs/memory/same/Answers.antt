@@ -1,5 +1,4 @@
-use Prim.Native.Nat.{◌-◌}
-use Rattle.membership.proofs.Places.{Testing, same_at, tests}
+use Rattle.membership.proofs.Places.{tests}
 use Rattle.membership.proofs.memory.same.Goals as goal
 
 pub loop-k-init : goal.loop-k-init

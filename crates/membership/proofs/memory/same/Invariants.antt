@@ -1,6 +1,6 @@
 -- `membership::memory::same` meets its contract. Assumes nothing.
 use Prim.Native.Nat.{◌-◌}
-use Rattle.membership.proofs.Places.{Testing, same_at, tests}
+use Rattle.membership.proofs.Places.{Testing, same_at}
 use Rattle.membership.proofs.memory.same.Given as goal
 
 abbrev pub invariant-loop-k : goal.invariant-loop-k

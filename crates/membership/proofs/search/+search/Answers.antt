@@ -1,10 +1,8 @@
 use mathlib.Core.Path.{◌∙◌}
-use Prim.Native.Nat.{ℕ, ◌<◌, ◌-◌}
 use native.Mathlib.Omega.{arith}
-use borrow.Author.Rules.{rules}
 use Rattle.membership.specs.Chains.{class_in}
 use Rattle.membership.specs.Search.{tags_in}
-use Rattle.membership.proofs.Searching.{none_left, tried_already, start, next_ready, in_place, in_work, choice_short, more_short, class_known, skip, again, full, all, Choosing, choosing, choosing_next, class_start, first_needs, next_needs, next_windows}
+use Rattle.membership.proofs.Searching.{none_left, tried_already, start, next_ready, in_place, in_work, choice_short, more_short, class_known, skip, again, full, all, choosing, choosing_next, class_start, first_needs, next_needs, next_windows}
 use Rattle.membership.proofs.search.+search.Goals as goal
 
 pub shape_of-work-then-left-eq0 : goal.shape_of-work-then-left-eq0

@@ -1,11 +1,6 @@
 -- `membership::search::search` meets its contract: the measure is the number of places left. Assumes nothing.
-use mathlib.Core.Path.{◌∙◌}
-use Prim.Native.Nat.{ℕ, ◌<◌, ◌-◌}
-use native.Mathlib.Omega.{arith}
-use borrow.Author.Rules.{rules}
-use Rattle.membership.specs.Chains.{class_in}
-use Rattle.membership.specs.Search.{tags_in}
-use Rattle.membership.proofs.Searching.{none_left, tried_already, start, next_ready, in_place, in_work, choice_short, more_short, class_known, skip, again, full, all, Choosing, choosing, choosing_next, class_start, first_needs, next_needs, next_windows}
+use Prim.Native.Nat.{◌-◌}
+use Rattle.membership.proofs.Searching.{Choosing}
 use Rattle.membership.proofs.search.+search.Given as goal
 
 abbrev pub decreases-search : goal.decreases-search

@@ -1,5 +1,4 @@
 -- `membership::search::add` meets its contract. Assumes nothing.
-use borrow.Author.Rules.{rules}
 use Rattle.membership.specs.Cells.{memory_of}
 use Rattle.membership.specs.Search.{tags_in, room_in, row_asked, rule_asked, target_asked}
 use Rattle.membership.proofs.Storing.{entry, add_new_lem, adding}

@@ -1,5 +1,4 @@
 -- `membership::search::finish` meets its contract. Assumes nothing.
-use borrow.Author.Rules.{rules}
 use Rattle.membership.specs.Search.{tags_in}
 use Rattle.membership.proofs.Storing.{joined_short, finishing}
 use Rattle.membership.proofs.search.finish.Goals as goal

@@ -1,5 +1,4 @@
 -- `membership::search::leave` meets its contract. Assumes nothing.
-use borrow.Author.Rules.{rules}
 use Rattle.membership.proofs.Storing.{leaves}
 use Rattle.membership.proofs.search.leave.Goals as goal
 

@@ -1,7 +1,6 @@
 use mathlib.Core.Path.{refl, sym, ◌∙◌, subst}
-use Prim.Native.Nat.{ℕ, suc, ◌-◌, ◌<◌, ◌≤◌}
+use Prim.Native.Nat.{ℕ, suc, ◌<◌, ◌≤◌}
 use native.Mathlib.Omega.{arith}
-use borrow.Author.Rules.{rules}
 use lib.ListN.{length, set, length-replicate}
 use Rattle.automaton.specs.Stored.{decode}
 use Rattle.document.specs.Rows.{decode_rows}
@@ -11,7 +10,7 @@ use Rattle.membership.specs.Listing.{entries_below}
 use Rattle.membership.specs.Plan.{RulesRead, Starts, Before}
 use Rattle.membership.specs.Tried.{Fresh}
 use Rattle.membership.proofs.Rowing.{few_rules}
-use Rattle.membership.proofs.Annotating.{Annotating, fresh_zeros, annotating_start, room_small, row_before, row_starts, annotating_more, annotating_full, annotating_all}
+use Rattle.membership.proofs.Annotating.{fresh_zeros, annotating_start, room_small, row_before, row_starts, annotating_more, annotating_full, annotating_all}
 use Rattle.membership.proofs.table.annotate.Goals as goal
 
 pub read_rules-requires : goal.read_rules-requires

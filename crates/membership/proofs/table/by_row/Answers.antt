@@ -1,10 +1,9 @@
 use mathlib.Core.Path.{ap, ◌∙◌}
-use Prim.Native.Nat.{◌+◌, ◌-◌}
+use Prim.Native.Nat.{◌+◌}
 use native.Mathlib.Omega.{arith}
-use borrow.Author.Rules.{rules}
 use Rattle.automaton.specs.Stored.{decode}
 use Rattle.membership.proofs.FirstRules.{first_at}
-use Rattle.membership.proofs.Rowing.{Rowing, separate_of, few_rules, width_small, symbol_small, rowing_start, next_ready, next_windows, few_here, rowing_more, rowing_full, rowing_all}
+use Rattle.membership.proofs.Rowing.{separate_of, few_rules, width_small, symbol_small, rowing_start, next_ready, next_windows, few_here, rowing_more, rowing_full, rowing_all}
 use Rattle.membership.proofs.table.by_row.Goals as goal
 
 pub plan_for-plan-requires : goal.plan_for-plan-requires

@@ -1,11 +1,6 @@
 -- `membership::table::by_row` meets its contract. Assumes nothing.
-use mathlib.Core.Path.{ap, ◌∙◌}
-use Prim.Native.Nat.{◌+◌, ◌-◌}
-use native.Mathlib.Omega.{arith}
-use borrow.Author.Rules.{rules}
-use Rattle.automaton.specs.Stored.{decode}
-use Rattle.membership.proofs.FirstRules.{first_at}
-use Rattle.membership.proofs.Rowing.{Rowing, separate_of, few_rules, width_small, symbol_small, rowing_start, next_ready, next_windows, few_here, rowing_more, rowing_full, rowing_all}
+use Prim.Native.Nat.{◌-◌}
+use Rattle.membership.proofs.Rowing.{Rowing}
 use Rattle.membership.proofs.table.by_row.Given as goal
 
 abbrev pub invariant-loop-r : goal.invariant-loop-r

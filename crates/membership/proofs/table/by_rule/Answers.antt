@@ -1,6 +1,5 @@
 -- `membership::table::by_rule` meets its contract. Assumes nothing.
 use native.Mathlib.Omega.{arith}
-use borrow.Author.Rules.{rules}
 use Rattle.membership.proofs.Ruling.{rule_tried, rule_after, rule_made, alike_whole}
 use Rattle.membership.proofs.table.by_rule.Goals as goal
 

@@ -1,7 +1,6 @@
-use Prim.Native.Nat.{◌-◌}
 use Rattle.automaton.specs.Stored.{decode}
 use Rattle.automaton.proofs.Known.{known_first}
-use Rattle.membership.proofs.FirstRules.{Ruling, ruling_more, ruling_all, rulings}
+use Rattle.membership.proofs.FirstRules.{ruling_more, ruling_all, rulings}
 use Rattle.membership.proofs.table.first_rules.Goals as goal
 
 pub loop-f-init : goal.loop-f-init

@@ -1,8 +1,7 @@
 -- `membership::table::first_rules` meets its contract. Assumes nothing.
 use Prim.Native.Nat.{◌-◌}
 use Rattle.automaton.specs.Stored.{decode}
-use Rattle.automaton.proofs.Known.{known_first}
-use Rattle.membership.proofs.FirstRules.{Ruling, ruling_more, ruling_all, rulings}
+use Rattle.membership.proofs.FirstRules.{Ruling}
 use Rattle.membership.proofs.table.first_rules.Given as goal
 
 abbrev pub invariant-loop-f : goal.invariant-loop-f

@@ -1,5 +1,4 @@
-use Prim.Native.Nat.{◌-◌}
-use Rattle.membership.proofs.Windowing.{Opens, opens}
+use Rattle.membership.proofs.Windowing.{opens}
 use Rattle.membership.proofs.table.open_windows.Goals as goal
 
 pub bounds-plan-1 : goal.bounds-plan-1

@@ -1,6 +1,6 @@
 -- `membership::table::open_windows` meets its contract. Assumes nothing.
 use Prim.Native.Nat.{◌-◌}
-use Rattle.membership.proofs.Windowing.{Opens, opens}
+use Rattle.membership.proofs.Windowing.{Opens}
 use Rattle.membership.proofs.table.open_windows.Given as goal
 
 abbrev pub invariant-loop-p : goal.invariant-loop-p

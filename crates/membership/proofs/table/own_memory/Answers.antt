@@ -1,5 +1,4 @@
-use Prim.Native.Nat.{◌-◌}
-use Rattle.membership.proofs.Own.{Masking, own_at, own_nothing, masking_all, masks}
+use Rattle.membership.proofs.Own.{own_at, own_nothing, masking_all, masks}
 use Rattle.membership.proofs.Rowing.{zeros}
 use Rattle.membership.proofs.table.own_memory.Goals as goal
 

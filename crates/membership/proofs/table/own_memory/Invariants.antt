@@ -1,7 +1,6 @@
 -- `membership::table::own_memory` meets its contract. Assumes nothing.
 use Prim.Native.Nat.{◌-◌}
-use Rattle.membership.proofs.Own.{Masking, own_at, own_nothing, masking_all, masks}
-use Rattle.membership.proofs.Rowing.{zeros}
+use Rattle.membership.proofs.Own.{Masking, own_at}
 use Rattle.membership.proofs.table.own_memory.Given as goal
 
 abbrev pub invariant-loop-k : goal.invariant-loop-k

@@ -1,7 +1,6 @@
 use mathlib.Core.Path.{ap, ◌∙◌}
-use Prim.Native.Nat.{◌-◌}
 use Rattle.document.specs.Check.{place_in}
-use Rattle.membership.proofs.Own.{Planning, planning_more, planning}
+use Rattle.membership.proofs.Own.{planning_more, planning}
 use Rattle.membership.proofs.table.plan_for.Goals as goal
 
 pub bounds-out-0 : goal.bounds-out-0

@@ -1,8 +1,6 @@
 -- `membership::table::plan_for` meets its contract. Assumes nothing.
-use mathlib.Core.Path.{ap, ◌∙◌}
 use Prim.Native.Nat.{◌-◌}
-use Rattle.document.specs.Check.{place_in}
-use Rattle.membership.proofs.Own.{Planning, planning_more, planning}
+use Rattle.membership.proofs.Own.{Planning}
 use Rattle.membership.proofs.table.plan_for.Given as goal
 
 abbrev pub invariant-loop-p : goal.invariant-loop-p

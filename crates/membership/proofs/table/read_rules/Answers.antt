@@ -1,8 +1,6 @@
-use Prim.Native.Nat.{◌-◌}
 use native.Mathlib.Omega.{arith}
-use borrow.Author.Rules.{rules}
 use Rattle.automaton.specs.Stored.{decode}
-use Rattle.membership.proofs.Rules.{Reading, reading_none, reading_more, reading_all}
+use Rattle.membership.proofs.Rules.{reading_none, reading_more, reading_all}
 use Rattle.membership.proofs.table.read_rules.Goals as goal
 
 pub loop-r-init : goal.loop-r-init

@@ -1,9 +1,7 @@
 -- `membership::table::read_rules` meets its contract. Assumes nothing.
 use Prim.Native.Nat.{◌-◌}
-use native.Mathlib.Omega.{arith}
-use borrow.Author.Rules.{rules}
 use Rattle.automaton.specs.Stored.{decode}
-use Rattle.membership.proofs.Rules.{Reading, reading_none, reading_more, reading_all}
+use Rattle.membership.proofs.Rules.{Reading}
 use Rattle.membership.proofs.table.read_rules.Given as goal
 
 abbrev pub invariant-loop-r : goal.invariant-loop-r

@@ -1,6 +1,5 @@
 -- `membership::table::start_at` meets its contract. Assumes nothing.
 use mathlib.Core.Path.{◌∙◌}
-use borrow.Author.Rules.{rules}
 use Rattle.membership.proofs.table.start_at.Goals as goal
 
 pub returns : goal.returns

@@ -1,7 +1,6 @@
 -- `membership::table::target_tags` meets its contract. Assumes nothing.
 use mathlib.Core.Path.{ap}
 use Prim.Native.Nat.{◌+◌, ◌*◌}
-use borrow.Author.Rules.{rules}
 use lib.ListN.{get_or}
 use Rattle.membership.proofs.table.target_tags.Goals as goal
 

@@ -1,7 +1,4 @@
-use Prim.Native.Nat.{◌-◌}
-use Rattle.automaton.specs.Stored.{decode}
-use Rattle.membership.specs.Trace.{accepting_in}
-use Rattle.membership.proofs.Marks.{Seeking, seeks}
+use Rattle.membership.proofs.Marks.{seeks}
 use Rattle.membership.proofs.trace.first_accepting.Goals as goal
 
 pub loop-j-init : goal.loop-j-init

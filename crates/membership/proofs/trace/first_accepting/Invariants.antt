@@ -2,7 +2,7 @@
 use Prim.Native.Nat.{◌-◌}
 use Rattle.automaton.specs.Stored.{decode}
 use Rattle.membership.specs.Trace.{accepting_in}
-use Rattle.membership.proofs.Marks.{Seeking, seeks}
+use Rattle.membership.proofs.Marks.{Seeking}
 use Rattle.membership.proofs.trace.first_accepting.Given as goal
 
 abbrev pub invariant-loop-j : goal.invariant-loop-j

@@ -1,6 +1,4 @@
-use Prim.Native.Nat.{◌-◌}
-use Rattle.automaton.proofs.Loops.{Filled, fills}
-use Rattle.membership.specs.Trace.{number_at}
+use Rattle.automaton.proofs.Loops.{fills}
 use Rattle.membership.proofs.trace.places_of.Goals as goal
 
 pub loop-p-init : goal.loop-p-init

@@ -1,6 +1,6 @@
 -- `membership::trace::places_of` meets its contract. Assumes nothing.
 use Prim.Native.Nat.{◌-◌}
-use Rattle.automaton.proofs.Loops.{Filled, fills}
+use Rattle.automaton.proofs.Loops.{Filled}
 use Rattle.membership.specs.Trace.{number_at}
 use Rattle.membership.proofs.trace.places_of.Given as goal
 

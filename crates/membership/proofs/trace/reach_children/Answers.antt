@@ -1,5 +1,4 @@
-use Prim.Native.Nat.{◌-◌}
-use Rattle.membership.proofs.Marks.{Reaching, reaching_more, reaching_skip, reaches}
+use Rattle.membership.proofs.Marks.{reaching_more, reaching_skip, reaches}
 use Rattle.membership.proofs.trace.reach_children.Goals as goal
 
 pub loop-p-init : goal.loop-p-init

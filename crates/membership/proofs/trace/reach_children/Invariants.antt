@@ -1,6 +1,6 @@
 -- `membership::trace::reach_children` meets its contract. Assumes nothing.
 use Prim.Native.Nat.{◌-◌}
-use Rattle.membership.proofs.Marks.{Reaching, reaching_more, reaching_skip, reaches}
+use Rattle.membership.proofs.Marks.{Reaching}
 use Rattle.membership.proofs.trace.reach_children.Given as goal
 
 abbrev pub invariant-loop-p : goal.invariant-loop-p

@@ -1,7 +1,6 @@
 use mathlib.Core.Path.{◌∙◌}
 use native.Mathlib.Omega.{arith}
-use borrow.Author.Rules.{rules}
-use Rattle.membership.proofs.Marks.{Tracing, tracing_start, tracing_more, tracing_skip, tracing_all}
+use Rattle.membership.proofs.Marks.{tracing_start, tracing_more, tracing_skip, tracing_all}
 use Rattle.membership.proofs.trace.trace.Goals as goal
 
 pub reach-requires : goal.reach-requires

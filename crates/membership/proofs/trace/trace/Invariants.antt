@@ -1,8 +1,5 @@
 -- `membership::trace::trace` meets its contract. Assumes nothing.
-use mathlib.Core.Path.{◌∙◌}
-use native.Mathlib.Omega.{arith}
-use borrow.Author.Rules.{rules}
-use Rattle.membership.proofs.Marks.{Tracing, tracing_start, tracing_more, tracing_skip, tracing_all}
+use Rattle.membership.proofs.Marks.{Tracing}
 use Rattle.membership.proofs.trace.trace.Given as goal
 
 abbrev pub invariant-loop-i : goal.invariant-loop-i

@@ -1,5 +1,4 @@
-use Prim.Native.Nat.{◌-◌}
-use Rattle.membership.proofs.Marks.{Unmarking, unmarks}
+use Rattle.membership.proofs.Marks.{unmarks}
 use Rattle.membership.proofs.trace.unmark.Goals as goal
 
 pub loop-j-init : goal.loop-j-init

@@ -1,6 +1,6 @@
 -- `membership::trace::unmark` meets its contract. Assumes nothing.
 use Prim.Native.Nat.{◌-◌}
-use Rattle.membership.proofs.Marks.{Unmarking, unmarks}
+use Rattle.membership.proofs.Marks.{Unmarking}
 use Rattle.membership.proofs.trace.unmark.Given as goal
 
 abbrev pub invariant-loop-j : goal.invariant-loop-j

@@ -1,7 +1,5 @@
 -- `membership::tried::hash` meets its contract. Assumes nothing.
 use Prim.Native.Nat.{◌-◌, ◌<◌, ◌≤◌}
-use native.Mathlib.Nat.{mod-lt}
-use borrow.Author.Rules.{rules}
 use Rattle.membership.proofs.tried.hash.Given as goal
 
 abbrev pub invariant-loop-k : goal.invariant-loop-k

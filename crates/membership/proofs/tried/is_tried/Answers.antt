@@ -1,5 +1,4 @@
 -- `membership::tried::is_tried` meets its contract. Assumes nothing.
-use borrow.Author.Rules.{rules}
 use native.Mathlib.Omega.{arith}
 use Rattle.membership.proofs.Slots.{failed, stands}
 use Rattle.membership.proofs.tried.is_tried.Goals as goal

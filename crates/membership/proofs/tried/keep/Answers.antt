@@ -1,5 +1,4 @@
 -- `membership::tried::keep` meets its contract. Assumes nothing.
-use borrow.Author.Rules.{rules}
 use native.Mathlib.Omega.{arith}
 use lib.ListN.{length-set}
 use Rattle.membership.proofs.Slots.{kept_none, kept_new}

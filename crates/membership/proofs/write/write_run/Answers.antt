@@ -1,6 +1,5 @@
 -- `membership::write::write_run` meets its contract: nothing is written where no annotation is accepting, else the run of the first. Assumes nothing.
 use mathlib.Core.Path.{refl}
-use borrow.Author.Rules.{rules}
 use Rattle.automaton.specs.Stored.{decode}
 use Rattle.automaton.proofs.Sound.{sound_decode}
 use Rattle.document.specs.Rows.{decode_rows}

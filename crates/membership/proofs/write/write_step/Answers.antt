@@ -1,6 +1,5 @@
 -- `membership::write::write_step` meets its contract. Assumes nothing.
 use mathlib.Core.Path.{refl}
-use borrow.Author.Rules.{rules}
 use Rattle.runs.specs.Fields.{step_numbers}
 use Rattle.membership.proofs.Writing.{step_put}
 use Rattle.membership.proofs.write.write_step.Goals as goal

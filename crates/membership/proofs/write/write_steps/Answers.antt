@@ -1,5 +1,4 @@
-use Prim.Native.Nat.{◌+◌, ◌-◌}
-use Rattle.membership.proofs.Writing.{Writing, writes}
+use Rattle.membership.proofs.Writing.{writes}
 use Rattle.membership.proofs.write.write_steps.Goals as goal
 
 pub loop-j-init : goal.loop-j-init

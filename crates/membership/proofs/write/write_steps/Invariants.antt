@@ -1,6 +1,6 @@
 -- `membership::write::write_steps` meets its contract. Assumes nothing.
 use Prim.Native.Nat.{◌+◌, ◌-◌}
-use Rattle.membership.proofs.Writing.{Writing, writes}
+use Rattle.membership.proofs.Writing.{Writing}
 use Rattle.membership.proofs.write.write_steps.Given as goal
 
 abbrev pub invariant-loop-j : goal.invariant-loop-j

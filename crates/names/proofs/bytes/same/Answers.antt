@@ -1,6 +1,4 @@
-use Prim.Native.Nat.{◌-◌}
-use lib.ListN.{length}
-use Rattle.names.proofs.Strings.{Agree, comparing}
+use Rattle.names.proofs.Strings.{comparing}
 use Rattle.names.proofs.bytes.same.Goals as goal
 
 pub returns-then-a-b : goal.returns-then-a-b

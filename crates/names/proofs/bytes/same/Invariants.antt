@@ -1,7 +1,7 @@
 -- At the loop's head what is left to compare decides. Assumes nothing.
 use Prim.Native.Nat.{◌-◌}
 use lib.ListN.{length}
-use Rattle.names.proofs.Strings.{Agree, comparing}
+use Rattle.names.proofs.Strings.{Agree}
 use Rattle.names.proofs.bytes.same.Given as goal
 
 abbrev pub invariant-loop-i : goal.invariant-loop-i

@@ -1,7 +1,4 @@
-use Prim.Native.Nat.{◌-◌}
-use lib.ListN.{length, get_or}
-use Rattle.model.proofs.Below.{Passed, loops}
-use Rattle.names.specs.Names.{name_byte?}
+use Rattle.model.proofs.Below.{loops}
 use Rattle.names.proofs.lines.all_in_name.Goals as goal
 
 pub loop-i-init : goal.loop-i-init

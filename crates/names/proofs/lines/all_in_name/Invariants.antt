@@ -1,7 +1,7 @@
 -- A loop that tests every index. Assumes nothing.
 use Prim.Native.Nat.{◌-◌}
 use lib.ListN.{length, get_or}
-use Rattle.model.proofs.Below.{Passed, loops}
+use Rattle.model.proofs.Below.{Passed}
 use Rattle.names.specs.Names.{name_byte?}
 use Rattle.names.proofs.lines.all_in_name.Given as goal
 

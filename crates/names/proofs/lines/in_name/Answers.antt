@@ -1,5 +1,4 @@
 -- Either class. Assumes nothing.
-use borrow.Author.Rules.{rules}
 use Rattle.names.specs.Names.{name_byte?}
 use Rattle.names.proofs.lines.in_name.Goals as goal
 

@@ -1,6 +1,5 @@
 -- One test of the definition after the other. Assumes nothing.
 use native.Mathlib.Omega.{arith}
-use borrow.Author.Rules.{rules}
 use Rattle.names.proofs.Naming.{long_no_name, naming}
 use Rattle.names.proofs.lines.is_name.Goals as goal
 

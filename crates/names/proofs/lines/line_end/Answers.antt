@@ -1,7 +1,5 @@
 use borrow.Author.Rules.{rules}
-use Prim.Native.Nat.{◌-◌, ◌≤◌}
-use lib.ListN.{length}
-use Rattle.names.proofs.Scan.{Scanned, scan_stop, scan_more, scan_end, scanning}
+use Rattle.names.proofs.Scan.{scan_stop, scan_more, scan_end, scanning}
 use Rattle.names.proofs.lines.line_end.Goals as goal
 
 pub loop-i-init : goal.loop-i-init

@@ -1,8 +1,7 @@
 -- At the loop's head the line that starts at a has come to i. Assumes nothing.
-use borrow.Author.Rules.{rules}
 use Prim.Native.Nat.{◌-◌, ◌≤◌}
 use lib.ListN.{length}
-use Rattle.names.proofs.Scan.{Scanned, scan_stop, scan_more, scan_end, scanning}
+use Rattle.names.proofs.Scan.{Scanned}
 use Rattle.names.proofs.lines.line_end.Given as goal
 
 abbrev pub invariant-loop-i : goal.invariant-loop-i

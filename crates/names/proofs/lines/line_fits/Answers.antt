@@ -1,5 +1,4 @@
 -- Empty, or a name. Assumes nothing.
-use borrow.Author.Rules.{rules}
 use Rattle.names.proofs.Naming.{naming}
 use Rattle.names.proofs.lines.line_fits.Goals as goal
 

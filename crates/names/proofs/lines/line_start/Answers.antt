@@ -1,7 +1,5 @@
-use Prim.Native.Nat.{◌-◌, ◌≤◌}
 use mathlib.Core.Path.{◌≡◌, subst}
 use native.Mathlib.Omega.{arith}
-use borrow.Author.Rules.{rules}
 use Rattle.names.specs.Places.{Starts}
 use Rattle.names.proofs.Scan.{starts_first, starts_late}
 use Rattle.names.proofs.lines.line_start.Goals as goal

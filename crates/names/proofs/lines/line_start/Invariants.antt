@@ -1,10 +1,6 @@
 -- At the loop's head line k starts at a; behind the last line nothing starts. Assumes nothing.
 use Prim.Native.Nat.{◌-◌, ◌≤◌}
-use mathlib.Core.Path.{◌≡◌, subst}
-use native.Mathlib.Omega.{arith}
-use borrow.Author.Rules.{rules}
 use Rattle.names.specs.Places.{Starts}
-use Rattle.names.proofs.Scan.{starts_first, starts_late}
 use Rattle.names.proofs.lines.line_start.Given as goal
 
 abbrev pub invariant-loop-k : goal.invariant-loop-k

@@ -1,6 +1,4 @@
-use Prim.Native.Nat.{◌-◌}
-use Rattle.model.specs.Limits.{max_symbols}
-use Rattle.names.proofs.Listed.{LinesPassed, listing}
+use Rattle.names.proofs.Listed.{listing}
 use Rattle.names.proofs.lines.list_fits.Goals as goal
 
 pub loop-a-init : goal.loop-a-init

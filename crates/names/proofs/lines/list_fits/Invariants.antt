@@ -1,7 +1,7 @@
 -- At the loop's head k lines are passed and the next starts at a. Assumes nothing.
 use Prim.Native.Nat.{◌-◌}
 use Rattle.model.specs.Limits.{max_symbols}
-use Rattle.names.proofs.Listed.{LinesPassed, listing}
+use Rattle.names.proofs.Listed.{LinesPassed}
 use Rattle.names.proofs.lines.list_fits.Given as goal
 
 abbrev pub invariant-loop-a : goal.invariant-loop-a

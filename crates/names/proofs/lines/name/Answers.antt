@@ -1,5 +1,4 @@
 -- A line with bytes is taken from the first list, else the line of the second. Assumes nothing.
-use borrow.Author.Rules.{rules}
 use Rattle.names.proofs.Scan.{scanning}
 use Rattle.names.proofs.lines.name.Goals as goal
 

@@ -1,4 +1,4 @@
-use Rattle.names.proofs.Trim.{Trimming, trimming}
+use Rattle.names.proofs.Trim.{trimming}
 use Rattle.names.proofs.lines.trim.Goals as goal
 
 pub loop-e-init : goal.loop-e-init

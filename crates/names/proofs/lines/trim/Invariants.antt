@@ -1,5 +1,5 @@
 -- At the loop's head what is behind e is cut off. Assumes nothing.
-use Rattle.names.proofs.Trim.{Trimming, trimming}
+use Rattle.names.proofs.Trim.{Trimming}
 use Rattle.names.proofs.lines.trim.Given as goal
 
 abbrev pub invariant-loop-e : goal.invariant-loop-e

@@ -1,7 +1,6 @@
 -- The byte there, which is below 256. Assumes nothing.
 use mathlib.Core.Path.{refl, sym}
 use native.Mathlib.Omega.{arith}
-use borrow.Author.Rules.{rules}
 use lib.ListN.{get_or-eq_default}
 use Rattle.names.proofs.table.byte_at.Goals as goal
 

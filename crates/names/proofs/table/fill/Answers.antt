@@ -1,8 +1,6 @@
-use Prim.Native.Nat.{◌-◌}
 use mathlib.Core.Path.{◌∙◌}
-use Rattle.model.specs.Limits.{max_symbols}
 use Rattle.names.proofs.Scan.{name_from}
-use Rattle.names.proofs.Cells.{Filled, filled_more, cells}
+use Rattle.names.proofs.Cells.{filled_more, cells}
 use Rattle.names.proofs.table.fill.Goals as goal
 
 pub loop-i-init : goal.loop-i-init

@@ -1,9 +1,7 @@
 -- At the loop's head i cells are written and the lines i start at a and b, so that symbol 0 of what is left is symbol i. Assumes nothing.
 use Prim.Native.Nat.{◌-◌}
-use mathlib.Core.Path.{◌∙◌}
 use Rattle.model.specs.Limits.{max_symbols}
-use Rattle.names.proofs.Scan.{name_from}
-use Rattle.names.proofs.Cells.{Filled, filled_more, cells}
+use Rattle.names.proofs.Cells.{Filled}
 use Rattle.names.proofs.table.fill.Given as goal
 
 abbrev pub invariant-loop-i : goal.invariant-loop-i

@@ -1,11 +1,9 @@
-use Prim.Native.Nat.{◌-◌}
 use mathlib.Core.Path.{◌≡◌}
 use mathlib.Core.Bool.{true, false}
-use borrow.Author.Rules.{rules}
 use Rattle.model.specs.Lists.{eq_list}
 use Rattle.names.specs.Names.{find_in}
 use Rattle.names.specs.Table.{name_in}
-use Rattle.names.proofs.First.{Unfound, found_at, unfound_more, finding}
+use Rattle.names.proofs.First.{found_at, unfound_more, finding}
 use Rattle.names.proofs.table.find.Goals as goal
 
 pub loop-i-init : goal.loop-i-init

@@ -1,12 +1,8 @@
 -- At the loop's head no symbol below i has the name. Assumes nothing.
 use Prim.Native.Nat.{◌-◌}
-use mathlib.Core.Path.{◌≡◌}
-use mathlib.Core.Bool.{true, false}
-use borrow.Author.Rules.{rules}
 use Rattle.model.specs.Lists.{eq_list}
-use Rattle.names.specs.Names.{find_in}
 use Rattle.names.specs.Table.{name_in}
-use Rattle.names.proofs.First.{Unfound, found_at, unfound_more, finding}
+use Rattle.names.proofs.First.{Unfound}
 use Rattle.names.proofs.table.find.Given as goal
 
 abbrev pub invariant-loop-i : goal.invariant-loop-i

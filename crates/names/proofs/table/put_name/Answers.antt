@@ -1,5 +1,4 @@
 -- The name in the cell, put. Assumes nothing.
-use borrow.Author.Rules.{rules}
 use Rattle.names.proofs.table.put_name.Goals as goal
 
 pub returns : goal.returns

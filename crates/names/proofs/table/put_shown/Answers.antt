@@ -2,7 +2,6 @@
 use mathlib.Core.Path.{◌∙◌}
 use mathlib.Core.List.{[], ◌∷◌}
 use native.Mathlib.Omega.{arith}
-use borrow.Author.Rules.{rules}
 use Rattle.names.proofs.Cells.{number_put, one_digit, two_digits, cells}
 use Rattle.names.proofs.table.put_shown.Goals as goal
 

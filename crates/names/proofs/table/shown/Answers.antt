@@ -2,7 +2,6 @@
 use mathlib.Core.Path.{ap, ◌∙◌}
 use Prim.Native.Nat.{◌+◌, ◌*◌}
 use lib.ListN.{take, drop}
-use borrow.Author.Rules.{rules}
 use Rattle.names.specs.Table.{name_in, cell_bytes}
 use Rattle.names.proofs.Cells.{clipped}
 use Rattle.names.proofs.table.shown.Goals as goal

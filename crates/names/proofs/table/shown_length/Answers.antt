@@ -1,6 +1,5 @@
 -- The length of the part. Assumes nothing.
 use mathlib.Core.Path.{ap}
-use borrow.Author.Rules.{rules}
 use lib.ListN.{length}
 use Rattle.names.proofs.table.shown_length.Goals as goal
 

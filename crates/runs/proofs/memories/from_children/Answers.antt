@@ -1,8 +1,5 @@
-use mathlib.Core.Path.{◌≡◌}
-use Prim.Native.Nat.{◌-◌}
 use native.Mathlib.Omega.{arith}
-use Rattle.model.specs.Limits.{max_children}
-use Rattle.runs.proofs.Joining.{Joining, joined_stop, joined_all_lem, joining}
+use Rattle.runs.proofs.Joining.{joined_stop, joined_all_lem, joining}
 use Rattle.runs.proofs.memories.from_children.Goals as goal
 
 pub loop-k-init : goal.loop-k-init

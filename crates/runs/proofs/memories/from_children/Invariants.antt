@@ -1,9 +1,8 @@
 -- `runs::memories::from_children` meets its contract: the invariant says what the places from k on still add. Assumes nothing.
 use mathlib.Core.Path.{◌≡◌}
 use Prim.Native.Nat.{◌-◌}
-use native.Mathlib.Omega.{arith}
 use Rattle.model.specs.Limits.{max_children}
-use Rattle.runs.proofs.Joining.{Joining, joined_stop, joined_all_lem, joining}
+use Rattle.runs.proofs.Joining.{Joining}
 use Rattle.runs.proofs.memories.from_children.Given as goal
 
 abbrev pub invariant-loop-k : goal.invariant-loop-k

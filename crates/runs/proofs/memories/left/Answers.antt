@@ -1,5 +1,4 @@
 -- `runs::memories::left` meets its contract. Assumes nothing.
-use borrow.Author.Rules.{rules}
 use Rattle.runs.proofs.memories.left.Goals as goal
 
 pub returns : goal.returns

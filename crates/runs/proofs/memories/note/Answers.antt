@@ -1,8 +1,4 @@
-use Prim.Native.Nat.{◌-◌}
-use lib.ListN.{length}
-use Rattle.automaton.specs.Stored.{decode}
-use Rattle.runs.specs.Steps.{decode_steps}
-use Rattle.runs.proofs.ByTag.{Noting, noting_more, noting}
+use Rattle.runs.proofs.ByTag.{noting_more, noting}
 use Rattle.runs.proofs.memories.note.Goals as goal
 
 pub loop-i-init : goal.loop-i-init

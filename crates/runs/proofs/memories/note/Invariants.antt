@@ -3,7 +3,7 @@ use Prim.Native.Nat.{◌-◌}
 use lib.ListN.{length}
 use Rattle.automaton.specs.Stored.{decode}
 use Rattle.runs.specs.Steps.{decode_steps}
-use Rattle.runs.proofs.ByTag.{Noting, noting_more, noting}
+use Rattle.runs.proofs.ByTag.{Noting}
 use Rattle.runs.proofs.memories.note.Given as goal
 
 abbrev pub invariant-loop-i : goal.invariant-loop-i

@@ -1,6 +1,5 @@
 -- `runs::memories::one_row` meets its contract: the tests of all tags are the test of all steps. Assumes nothing.
 use mathlib.Core.Path.{sym, ◌∙◌}
-use borrow.Author.Rules.{rules}
 use Rattle.runs.proofs.ByTag.{by_tags, no_tags}
 use Rattle.runs.proofs.memories.one_row.Goals as goal
 

@@ -1,6 +1,5 @@
 -- `runs::memories::own` meets its contract. Assumes nothing.
 use native.Mathlib.Numerals.{add-one}
-use borrow.Author.Rules.{rules}
 use Rattle.runs.proofs.Joining.{with_tag, places}
 use Rattle.runs.proofs.memories.own.Goals as goal
 

@@ -1,8 +1,7 @@
 use mathlib.Core.Path.{refl}
-use Prim.Native.Nat.{◌-◌}
 use borrow.Author.Tests.{not-true, not-false}
 use Rattle.runs.specs.Steps.{decode_steps}
-use Rattle.runs.proofs.ByTag.{Tracking, Stepped, stepped, tracking_more, clashed, tracking}
+use Rattle.runs.proofs.ByTag.{Stepped, stepped, tracking_more, clashed, tracking}
 use Rattle.runs.proofs.memories.tag_clear.Goals as goal
 
 pub loop-i-init : goal.loop-i-init

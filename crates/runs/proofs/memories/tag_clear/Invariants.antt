@@ -1,9 +1,7 @@
 -- `runs::memories::tag_clear` meets its contract: the cells of the steps passed are the places in their memories. Assumes nothing.
-use mathlib.Core.Path.{refl}
 use Prim.Native.Nat.{◌-◌}
-use borrow.Author.Tests.{not-true, not-false}
 use Rattle.runs.specs.Steps.{decode_steps}
-use Rattle.runs.proofs.ByTag.{Tracking, Stepped, stepped, tracking_more, clashed, tracking}
+use Rattle.runs.proofs.ByTag.{Tracking}
 use Rattle.runs.proofs.memories.tag_clear.Given as goal
 
 abbrev pub invariant-loop-i : goal.invariant-loop-i

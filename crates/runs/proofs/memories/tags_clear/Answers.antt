@@ -1,7 +1,4 @@
-use Prim.Native.Nat.{◌-◌}
-use Rattle.automaton.specs.Stored.{decode}
-use Rattle.runs.specs.Steps.{decode_steps}
-use Rattle.runs.proofs.ByTag.{Clearing, clearing}
+use Rattle.runs.proofs.ByTag.{clearing}
 use Rattle.runs.proofs.memories.tags_clear.Goals as goal
 
 pub slice_bounds-note-end : goal.slice_bounds-note-end

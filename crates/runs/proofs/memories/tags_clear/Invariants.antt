@@ -2,7 +2,7 @@
 use Prim.Native.Nat.{◌-◌}
 use Rattle.automaton.specs.Stored.{decode}
 use Rattle.runs.specs.Steps.{decode_steps}
-use Rattle.runs.proofs.ByTag.{Clearing, clearing}
+use Rattle.runs.proofs.ByTag.{Clearing}
 use Rattle.runs.proofs.memories.tags_clear.Given as goal
 
 abbrev pub invariant-loop-k : goal.invariant-loop-k

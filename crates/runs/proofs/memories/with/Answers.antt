@@ -1,5 +1,4 @@
 -- `runs::memories::with` meets its contract. Assumes nothing.
-use borrow.Author.Rules.{rules}
 use Rattle.runs.proofs.memories.with.Goals as goal
 
 pub returns : goal.returns

@@ -1,7 +1,6 @@
 -- `runs::steps::target` meets its contract: the target of the step's rule. Assumes nothing.
 use mathlib.Core.Path.{ap, ◌∙◌}
 use Prim.Native.Nat.{ℕ}
-use borrow.Author.Rules.{rules}
 use Rattle.model.specs.Written.{rule_at}
 use Rattle.automaton.specs.Stored.{decode}
 use Rattle.runs.proofs.steps.target.Goals as goal

@@ -1,10 +1,4 @@
-use Prim.Native.Nat.{◌-◌}
-use lib.ListN.{length}
-use Rattle.model.specs.WrittenTest.{step_fits?}
-use Rattle.model.proofs.Below.{Passed, loops}
-use Rattle.automaton.specs.Stored.{decode}
-use Rattle.document.specs.Rows.{decode_rows}
-use Rattle.runs.specs.Steps.{place_in, decode_steps}
+use Rattle.model.proofs.Below.{loops}
 use Rattle.runs.proofs.Verdict.{ready_known}
 use Rattle.runs.proofs.tests.all_fit.Goals as goal
 

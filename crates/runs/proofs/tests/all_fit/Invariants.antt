@@ -2,11 +2,10 @@
 use Prim.Native.Nat.{◌-◌}
 use lib.ListN.{length}
 use Rattle.model.specs.WrittenTest.{step_fits?}
-use Rattle.model.proofs.Below.{Passed, loops}
+use Rattle.model.proofs.Below.{Passed}
 use Rattle.automaton.specs.Stored.{decode}
 use Rattle.document.specs.Rows.{decode_rows}
 use Rattle.runs.specs.Steps.{place_in, decode_steps}
-use Rattle.runs.proofs.Verdict.{ready_known}
 use Rattle.runs.proofs.tests.all_fit.Given as goal
 
 abbrev pub invariant-loop-i : goal.invariant-loop-i

@@ -1,10 +1,4 @@
-use Prim.Native.Nat.{◌-◌}
-use lib.ListN.{length}
-use Rattle.model.specs.WrittenTest.{known?}
-use Rattle.model.proofs.Below.{Passed, loops}
-use Rattle.automaton.specs.Stored.{decode}
-use Rattle.document.specs.Rows.{decode_rows}
-use Rattle.runs.specs.Steps.{decode_steps}
+use Rattle.model.proofs.Below.{loops}
 use Rattle.runs.proofs.tests.all_known.Goals as goal
 
 pub loop-i-init : goal.loop-i-init

@@ -2,7 +2,7 @@
 use Prim.Native.Nat.{◌-◌}
 use lib.ListN.{length}
 use Rattle.model.specs.WrittenTest.{known?}
-use Rattle.model.proofs.Below.{Passed, loops}
+use Rattle.model.proofs.Below.{Passed}
 use Rattle.automaton.specs.Stored.{decode}
 use Rattle.document.specs.Rows.{decode_rows}
 use Rattle.runs.specs.Steps.{decode_steps}

@@ -1,7 +1,4 @@
-use Prim.Native.Nat.{◌-◌}
-use Rattle.model.specs.Limits.{max_steps}
-use Rattle.document.proofs.Marking.{MarkedBelow, markings}
-use Rattle.runs.specs.Steps.{places_in}
+use Rattle.document.proofs.Marking.{markings}
 use Rattle.runs.proofs.Marks.{step_marks}
 use Rattle.runs.proofs.tests.all_used.Goals as goal
 

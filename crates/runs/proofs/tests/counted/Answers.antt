@@ -1,5 +1,4 @@
 -- `runs::tests::counted` meets its contract. Assumes nothing.
-use borrow.Author.Rules.{rules}
 use Rattle.runs.specs.Check.{counted?}
 use Rattle.runs.proofs.tests.counted.Goals as goal
 

@@ -1,6 +1,4 @@
-use Prim.Native.Nat.{◌-◌}
-use Rattle.model.specs.Limits.{max_children}
-use Rattle.document.proofs.Marking.{Marking, marking_more, markings}
+use Rattle.document.proofs.Marking.{marking_more, markings}
 use Rattle.runs.specs.Fields.{step_numbers}
 use Rattle.runs.proofs.Marks.{number_at, step_marks}
 use Rattle.runs.proofs.tests.mark.Goals as goal

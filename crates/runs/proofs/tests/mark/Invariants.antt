@@ -1,9 +1,8 @@
 -- `runs::tests::mark` meets its contract: the invariant says what the places from k on still add. Assumes nothing.
 use Prim.Native.Nat.{◌-◌}
 use Rattle.model.specs.Limits.{max_children}
-use Rattle.document.proofs.Marking.{Marking, marking_more, markings}
+use Rattle.document.proofs.Marking.{Marking}
 use Rattle.runs.specs.Fields.{step_numbers}
-use Rattle.runs.proofs.Marks.{number_at, step_marks}
 use Rattle.runs.proofs.tests.mark.Given as goal
 
 abbrev pub invariant-loop-k : goal.invariant-loop-k

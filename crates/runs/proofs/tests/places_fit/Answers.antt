@@ -1,10 +1,4 @@
-use Prim.Native.Nat.{◌-◌}
-use Rattle.model.specs.Limits.{max_children}
-use Rattle.model.specs.WrittenTest.{place_fits?}
-use Rattle.model.proofs.Below.{Passed, loops}
-use Rattle.automaton.specs.Stored.{decode}
-use Rattle.document.specs.Rows.{decode_rows}
-use Rattle.runs.specs.Steps.{place_in, decode_steps}
+use Rattle.model.proofs.Below.{loops}
 use Rattle.runs.proofs.tests.places_fit.Goals as goal
 
 pub loop-k-init : goal.loop-k-init

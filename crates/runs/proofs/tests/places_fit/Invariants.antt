@@ -2,7 +2,7 @@
 use Prim.Native.Nat.{◌-◌}
 use Rattle.model.specs.Limits.{max_children}
 use Rattle.model.specs.WrittenTest.{place_fits?}
-use Rattle.model.proofs.Below.{Passed, loops}
+use Rattle.model.proofs.Below.{Passed}
 use Rattle.automaton.specs.Stored.{decode}
 use Rattle.document.specs.Rows.{decode_rows}
 use Rattle.runs.specs.Steps.{place_in, decode_steps}

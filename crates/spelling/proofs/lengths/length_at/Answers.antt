@@ -1,7 +1,6 @@
 -- `spelling::lengths::length_at` meets its contract: past the end a length is 0. Assumes nothing.
 use mathlib.Core.Path.{refl}
 use native.Mathlib.Omega.{arith}
-use borrow.Author.Rules.{rules}
 use Rattle.document.proofs.Places.{past}
 use Rattle.spelling.proofs.lengths.length_at.Goals as goal
 

@@ -1,7 +1,5 @@
-use Prim.Native.Nat.{◌-◌, ◌≤◌}
 use native.Mathlib.Omega.{arith}
-use Rattle.model.specs.Limits.{max_children}
-use Rattle.spelling.proofs.Summing.{Summed, summed_end, summed_over, summed_more, place_in_use, summing}
+use Rattle.spelling.proofs.Summing.{summed_end, summed_over, summed_more, place_in_use, summing}
 use Rattle.spelling.proofs.lengths.list_length.Goals as goal
 
 pub loop-i-init : goal.loop-i-init

@@ -1,8 +1,7 @@
 -- `spelling::lengths::list_length` meets its contract: the sum so far, with what the places from k on add, is the whole. Assumes nothing.
 use Prim.Native.Nat.{◌-◌, ◌≤◌}
-use native.Mathlib.Omega.{arith}
 use Rattle.model.specs.Limits.{max_children}
-use Rattle.spelling.proofs.Summing.{Summed, summed_end, summed_over, summed_more, place_in_use, summing}
+use Rattle.spelling.proofs.Summing.{Summed}
 use Rattle.spelling.proofs.lengths.list_length.Given as goal
 
 abbrev pub invariant-loop-i : goal.invariant-loop-i

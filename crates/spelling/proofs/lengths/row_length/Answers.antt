@@ -1,6 +1,5 @@
 -- `spelling::lengths::row_length` meets its contract: the first place tells whether there are children. Assumes nothing.
 use mathlib.Core.Path.{refl, ap, ◌∙◌}
-use borrow.Author.Rules.{rules}
 use lib.ListN.{length}
 use Rattle.names.specs.Table.{name_in}
 use Rattle.spelling.proofs.Summing.{leaf_length, list_length_lem}

@@ -1,5 +1,4 @@
 -- `spelling::lengths::sum` meets its contract: each number is held against what the ones before it leave. Assumes nothing.
-use borrow.Author.Rules.{rules}
 use native.Mathlib.Omega.{arith}
 use Rattle.spelling.proofs.Summing.{fits, over}
 use Rattle.spelling.proofs.lengths.sum.Goals as goal

@@ -1,10 +1,6 @@
-use mathlib.Core.Path.{◌≡◌, refl}
-use Prim.Native.Nat.{◌-◌, ◌≤◌}
+use mathlib.Core.Path.{refl}
 use native.Mathlib.Omega.{arith}
-use borrow.Author.Rules.{rules}
-use Rattle.names.specs.Table.{name_in}
-use Rattle.document.specs.Check.{row_count}
-use Rattle.spelling.proofs.Summing.{Lengths, lengths_none, lengths_over, lengths_more, lengths_all}
+use Rattle.spelling.proofs.Summing.{lengths_none, lengths_over, lengths_more, lengths_all}
 use Rattle.spelling.proofs.Texts.{few_rows, some_rows, sound_scalar}
 use Rattle.spelling.proofs.lengths.text_length.Goals as goal
 

@@ -1,12 +1,9 @@
 -- `spelling::lengths::text_length` meets its contract: the lengths of the rows passed are known, and all fit. Assumes nothing.
-use mathlib.Core.Path.{◌≡◌, refl}
+use mathlib.Core.Path.{◌≡◌}
 use Prim.Native.Nat.{◌-◌, ◌≤◌}
-use native.Mathlib.Omega.{arith}
-use borrow.Author.Rules.{rules}
 use Rattle.names.specs.Table.{name_in}
 use Rattle.document.specs.Check.{row_count}
-use Rattle.spelling.proofs.Summing.{Lengths, lengths_none, lengths_over, lengths_more, lengths_all}
-use Rattle.spelling.proofs.Texts.{few_rows, some_rows, sound_scalar}
+use Rattle.spelling.proofs.Summing.{Lengths}
 use Rattle.spelling.proofs.lengths.text_length.Given as goal
 
 abbrev pub invariant-loop-i : goal.invariant-loop-i

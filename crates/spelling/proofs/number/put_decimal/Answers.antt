@@ -1,6 +1,5 @@
 -- `spelling::number::put_decimal` meets its contract: the piece holds the digits. Assumes nothing.
 use native.Mathlib.Omega.{arith}
-use borrow.Author.Rules.{rules}
 use Rattle.spelling.proofs.Pieces.{text_put}
 use Rattle.spelling.proofs.number.put_decimal.Goals as goal
 

@@ -1,7 +1,6 @@
 -- `spelling::piece::before` meets its contract: the byte is set in front of the text. Assumes nothing.
 use mathlib.Core.Path.{refl}
 use Prim.Native.Nat.{◌-◌}
-use borrow.Author.Rules.{rules}
 use Rattle.spelling.proofs.Pieces.{byte_before}
 use Rattle.spelling.proofs.piece.before.Goals as goal
 

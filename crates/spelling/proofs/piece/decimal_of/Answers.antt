@@ -1,5 +1,5 @@
 use native.Mathlib.Omega.{arith}
-use Rattle.spelling.proofs.Pieces.{Digits, digits_room, digits_all, digits}
+use Rattle.spelling.proofs.Pieces.{digits_room, digits_all, digits}
 use Rattle.spelling.proofs.piece.decimal_of.Goals as goal
 
 pub nothing-p-requires : goal.nothing-p-requires

@@ -1,6 +1,5 @@
 -- `spelling::piece::decimal_of` meets its contract: the digits to come stand before those that the piece holds. Assumes nothing.
-use native.Mathlib.Omega.{arith}
-use Rattle.spelling.proofs.Pieces.{Digits, digits_room, digits_all, digits}
+use Rattle.spelling.proofs.Pieces.{Digits}
 use Rattle.spelling.proofs.piece.decimal_of.Given as goal
 
 abbrev pub invariant-loop-rest : goal.invariant-loop-rest

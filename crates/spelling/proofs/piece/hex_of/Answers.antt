@@ -1,5 +1,4 @@
-use Prim.Native.Nat.{◌≤◌}
-use Rattle.spelling.proofs.Pieces.{Hex, hexes}
+use Rattle.spelling.proofs.Pieces.{hexes}
 use Rattle.spelling.proofs.piece.hex_of.Goals as goal
 
 pub nothing-p-requires : goal.nothing-p-requires

@@ -1,6 +1,6 @@
 -- `spelling::piece::hex_of` meets its contract: the digits to come stand before those that the piece holds. Assumes nothing.
 use Prim.Native.Nat.{◌≤◌}
-use Rattle.spelling.proofs.Pieces.{Hex, hexes}
+use Rattle.spelling.proofs.Pieces.{Hex}
 use Rattle.spelling.proofs.piece.hex_of.Given as goal
 
 abbrev pub invariant-loop-left : goal.invariant-loop-left

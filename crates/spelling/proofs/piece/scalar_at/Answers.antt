@@ -1,5 +1,4 @@
 -- `spelling::piece::scalar_at` meets its contract: the text is that of the row's kind and payload. Assumes nothing.
-use borrow.Author.Rules.{rules}
 use Rattle.spelling.proofs.piece.scalar_at.Goals as goal
 
 pub returns : goal.returns

@@ -1,5 +1,4 @@
 -- `spelling::piece::scalar_text` meets its contract, kind by kind. Assumes nothing.
-use borrow.Author.Rules.{rules}
 use Rattle.spelling.proofs.Pieces.{bare_holds, flag_holds, count_holds, rate_holds, name_holds, hex_start}
 use Rattle.spelling.proofs.piece.scalar_text.Goals as goal
 

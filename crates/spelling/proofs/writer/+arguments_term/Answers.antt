@@ -1,14 +1,9 @@
-use Prim.Native.Nat.{ℕ, ◌+◌, ◌-◌, ◌*◌, ◌<◌, ◌≤◌}
-use mathlib.Core.Path.{◌≡◌, refl}
+use mathlib.Core.Path.{refl}
 use native.Mathlib.Omega.{arith}
 use borrow.Author.Rules.{rules}
-use lib.ListN.{length}
-use Rattle.model.specs.Limits.{max_children}
-use Rattle.names.specs.Table.{name_in}
-use Rattle.spelling.specs.Rows.{row_text}
 use Rattle.spelling.proofs.Summing.{place_in_use}
 use Rattle.spelling.proofs.Texts.{sound_scalar}
-use Rattle.spelling.proofs.Putting.{name_room, leaf_room, leaf_wrote, children_room, children_wrote, Listing, list_none, list_end_room, list_end, list_room, list_below, list_fits, list_more}
+use Rattle.spelling.proofs.Putting.{name_room, leaf_room, leaf_wrote, children_room, children_wrote, list_none, list_end_room, list_end, list_room, list_below, list_fits, list_more}
 use Rattle.spelling.proofs.writer.+arguments_term.Goals as goal
 
 pub arguments-loop-i-init : goal.arguments-loop-i-init

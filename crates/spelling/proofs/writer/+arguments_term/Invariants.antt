@@ -1,16 +1,12 @@
 -- Row numbers fall: a term's list is that of its row, and the terms of a list are lower rows. At the head of the list writer's loop the text so far stands before what is still to be written.
 -- Assumes nothing.
-use Prim.Native.Nat.{ℕ, ◌+◌, ◌-◌, ◌*◌, ◌<◌, ◌≤◌}
-use mathlib.Core.Path.{◌≡◌, refl}
-use native.Mathlib.Omega.{arith}
-use borrow.Author.Rules.{rules}
+use Prim.Native.Nat.{◌+◌, ◌-◌, ◌*◌, ◌≤◌}
+use mathlib.Core.Path.{◌≡◌}
 use lib.ListN.{length}
 use Rattle.model.specs.Limits.{max_children}
 use Rattle.names.specs.Table.{name_in}
 use Rattle.spelling.specs.Rows.{row_text}
-use Rattle.spelling.proofs.Summing.{place_in_use}
-use Rattle.spelling.proofs.Texts.{sound_scalar}
-use Rattle.spelling.proofs.Putting.{name_room, leaf_room, leaf_wrote, children_room, children_wrote, Listing, list_none, list_end_room, list_end, list_room, list_below, list_fits, list_more}
+use Rattle.spelling.proofs.Putting.{Listing}
 use Rattle.spelling.proofs.writer.+arguments_term.Given as goal
 
 abbrev pub decreases-arguments : goal.decreases-arguments

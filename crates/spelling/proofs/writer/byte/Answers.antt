@@ -1,5 +1,4 @@
 -- `spelling::writer::byte` meets its contract. Assumes nothing.
-use borrow.Author.Rules.{rules}
 use Rattle.spelling.proofs.Putting.{one_byte}
 use Rattle.spelling.proofs.writer.byte.Goals as goal
 

@@ -1,6 +1,5 @@
 -- `spelling::writer::scalar` meets its contract: the piece's text is put. Assumes nothing.
 use native.Mathlib.Omega.{arith}
-use borrow.Author.Rules.{rules}
 use Rattle.spelling.proofs.Putting.{piece_wrote}
 use Rattle.spelling.proofs.writer.scalar.Goals as goal
 

@@ -1,20 +1,16 @@
-use Prim.Native.Nat.{ℕ, ◌+◌, ◌-◌, ◌*◌, ◌<◌}
 use mathlib.Core.Path.{◌≡◌, refl, sym, ap, ◌∙◌}
 use mathlib.Core.Bool.{true}
 use native.Mathlib.Omega.{arith}
 use borrow.Author.Rules.{rules}
-use borrow.Author.Tests.{not-true, not-false}
-use lib.ListN.{length, get_or}
-use Rattle.document.specs.Rows.{rows_below}
-use Rattle.document.specs.declared.scalar.Scalar.TheVariants.{Bare}
+use lib.ListN.{get_or}
 use Rattle.names.specs.Names.{letter?, find_in}
 use Rattle.names.specs.Table.{name_in}
-use Rattle.term.specs.Grammar.{after_args, read_term}
+use Rattle.term.specs.Grammar.{after_args}
 use Rattle.term.specs.State.{setting_of, named_of}
 use Rattle.base.proofs.Bytes.{byte_inside}
 use Rattle.term.proofs.Ending.{says_by}
 use Rattle.term.proofs.Reading.{no_letter, too_deep, term_unnamed, term_leaf, term_args}
-use Rattle.term.proofs.Listing.{Listing, list_start, list_refused, list_ready, list_ahead, list_held, list_last, list_other, list_more, says_bare}
+use Rattle.term.proofs.Listing.{list_start, list_refused, list_ready, list_ahead, list_held, list_last, list_other, list_more, says_bare}
 use Rattle.term.proofs.Meaning.{term_ahead, term_ends}
 use Rattle.term.proofs.reader.+arguments_term.Goals as goal
 

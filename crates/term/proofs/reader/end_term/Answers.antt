@@ -1,6 +1,5 @@
 -- By the number of children, then by what the builder answered. Assumes nothing.
 use mathlib.Core.Path.{◌∙◌}
-use borrow.Author.Rules.{rules}
 use Rattle.automaton.proofs.Sound.{sound_decode}
 use Rattle.term.proofs.Ending.{end_wrong, end_known, end_added, end_full}
 use Rattle.term.proofs.reader.end_term.Goals as goal

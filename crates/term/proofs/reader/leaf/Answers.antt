@@ -1,6 +1,5 @@
 -- A scalar and the term's end, or a fault. Assumes nothing.
 use mathlib.Core.Path.{refl}
-use borrow.Author.Rules.{rules}
 use Rattle.term.proofs.Ending.{says_by}
 use Rattle.term.proofs.Listing.{says_childless}
 use Rattle.term.proofs.Reading.{leaf_scalar, leaf_fault}

@@ -2,7 +2,6 @@
 use Prim.Native.Nat.{◌+◌, ◌≤◌}
 use lib.ListN.{length}
 use native.Mathlib.Omega.{arith}
-use borrow.Author.Rules.{rules}
 use Rattle.names.specs.Names.{find_in}
 use Rattle.names.specs.Table.{name_in}
 use Rattle.term.specs.Scan.{name_bytes}

@@ -1,7 +1,6 @@
 -- A digit is 48 to 57. Assumes nothing.
 use mathlib.Core.Path.{refl}
 use native.Mathlib.Omega.{arith}
-use borrow.Author.Rules.{rules}
 use Rattle.term.proofs.Bytes.{digit_range}
 use Rattle.term.proofs.scan.digit_value.Goals as goal
 

@@ -1,14 +1,10 @@
-use Prim.Native.Nat.{◌+◌, ◌-◌}
 use mathlib.Core.Path.{◌≡◌, sym, ◌∙◌}
 use mathlib.Core.Bool.{true}
-use lib.ListN.{length}
 use native.Mathlib.Omega.{arith}
-use borrow.Author.Rules.{rules}
-use borrow.Author.Tests.{not-true, not-false}
 use Rattle.names.specs.Names.{digit?}
 use Rattle.term.specs.Scan.{byte_at}
 use Rattle.base.proofs.Tenths.{tenth_fits, tenth_past}
-use Rattle.term.proofs.Numbers.{Digits, digits_none, digits_end, digits_stop, digits_past, digits_more}
+use Rattle.term.proofs.Numbers.{digits_none, digits_end, digits_stop, digits_past, digits_more}
 use Rattle.term.proofs.scan.digits.Goals as goal
 
 pub loop-i-init : goal.loop-i-init

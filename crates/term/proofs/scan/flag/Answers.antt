@@ -1,6 +1,5 @@
 -- The word is whole, or it breaks off. Assumes nothing.
 use native.Mathlib.Omega.{arith}
-use borrow.Author.Rules.{rules}
 use Rattle.base.proofs.Words.{word_whole, word_broken, word_short}
 use Rattle.term.proofs.scan.flag.Goals as goal
 

@@ -1,7 +1,6 @@
 -- A digit, else a to f. Assumes nothing.
 use mathlib.Core.Path.{sym, ◌∙◌}
 use native.Mathlib.Omega.{arith}
-use borrow.Author.Rules.{rules}
 use Rattle.term.proofs.Bytes.{low_hex, high_hex}
 use Rattle.term.proofs.scan.hex_value.Goals as goal
 

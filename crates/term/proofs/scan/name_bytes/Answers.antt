@@ -1,12 +1,8 @@
-use Prim.Native.Nat.{◌+◌, ◌-◌}
-use mathlib.Core.Path.{◌≡◌}
 use native.Mathlib.Omega.{arith}
-use borrow.Author.Rules.{rules}
-use borrow.Author.Tests.{not-true, not-false}
 use Rattle.names.specs.Names.{name_byte?}
-use Rattle.term.specs.Scan.{byte_at, name_bytes}
+use Rattle.term.specs.Scan.{name_bytes}
 use Rattle.term.proofs.Bytes.{name_inside}
-use Rattle.base.proofs.Leading.{Led, led_none, led_more, led_stop, led_all}
+use Rattle.base.proofs.Leading.{led_none, led_more, led_stop, led_all}
 use Rattle.term.proofs.scan.name_bytes.Goals as goal
 
 pub loop-n-init : goal.loop-n-init

@@ -1,13 +1,9 @@
 -- At the loop's head the first n bytes are a name's. Assumes nothing.
 use Prim.Native.Nat.{◌+◌, ◌-◌}
 use mathlib.Core.Path.{◌≡◌}
-use native.Mathlib.Omega.{arith}
-use borrow.Author.Rules.{rules}
-use borrow.Author.Tests.{not-true, not-false}
 use Rattle.names.specs.Names.{name_byte?}
-use Rattle.term.specs.Scan.{byte_at, name_bytes}
-use Rattle.term.proofs.Bytes.{name_inside}
-use Rattle.base.proofs.Leading.{Led, led_none, led_more, led_stop, led_all}
+use Rattle.term.specs.Scan.{byte_at}
+use Rattle.base.proofs.Leading.{Led}
 use Rattle.term.proofs.scan.name_bytes.Given as goal
 
 abbrev pub invariant-loop-n : goal.invariant-loop-n

@@ -4,8 +4,6 @@ use mathlib.Core.Path.{◌≡◌, sym, ap, ◌∙◌}
 use mathlib.Core.Bool.{true}
 use lib.ListN.{length}
 use native.Mathlib.Omega.{arith}
-use borrow.Author.Rules.{rules}
-use borrow.Author.Tests.{not-true, not-false}
 use Rattle.names.specs.Names.{digit?}
 use Rattle.term.proofs.Bytes.{digit_inside}
 use Rattle.term.proofs.Scalars.{number_none, number_digits, number_more, number_zero}

@@ -2,7 +2,6 @@
 use Prim.Native.Nat.{◌^◌}
 use mathlib.Core.Path.{sym, ap, ◌∙◌}
 use native.Mathlib.Omega.{arith}
-use borrow.Author.Rules.{rules}
 use Rattle.term.specs.Answer.{number_of}
 use Rattle.base.proofs.Got.{read_is}
 use Rattle.term.proofs.Scalars.{NumberFrom, hex_below, rate_number, rate_fault}

@@ -1,7 +1,6 @@
 -- Each way through the definition. Assumes nothing.
 use mathlib.Core.Path.{sym, ◌∙◌}
 use native.Mathlib.Omega.{arith}
-use borrow.Author.Rules.{rules}
 use Rattle.base.proofs.Bytes.{byte_inside}
 use Rattle.term.proofs.Scalars.{scalar_value, scalar_rate, scalar_name, scalar_bare}
 use Rattle.term.proofs.scan.scalar_at.Goals as goal

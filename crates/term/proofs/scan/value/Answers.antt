@@ -1,7 +1,6 @@
 -- Each way through the definition. Assumes nothing.
 use mathlib.Core.Path.{sym, ◌∙◌}
 use native.Mathlib.Omega.{arith}
-use borrow.Author.Rules.{rules}
 use Rattle.base.proofs.Bytes.{byte_inside}
 use Rattle.term.proofs.Scalars.{value_true, value_false, value_count, kind_number, kind_fault}
 use Rattle.term.proofs.scan.value.Goals as goal
