@@ -7,6 +7,7 @@ A name is the repository's own if an .antt file of specs/ or a file of lemmas de
 Its dashes become underscores, and so does each hump in it. Names that begin in upper case (types, facts, modules) stay, and so do the goals in
 a function's Proof.antt, which the check names. A file that imports a name of the same spelling from a library keeps it there.
 A lemma that would be called as a definition gets `_lem` behind its name.
+Names that a file gives to what it imports are turned in that file.
 Turned are .antt and .rt files, must-fail edits, and what stands in back quotes in the pages.
 """
 import collections
@@ -77,6 +78,9 @@ def borrowed(text):
     return found
 
 
+ALIAS = re.compile(r" as ([a-z][^\s(){}.;,]*)(?=[,}])")
+
+
 def main(argv):
     check = "--check" in argv
     files = {p: read(p) for p in texts("crates", (".antt", ".rt", ".edit"))}
@@ -112,6 +116,9 @@ def main(argv):
             return table.get(name, name)
 
         new = WORD.sub(word, t)
+        # names that a file gives to what it imports
+        given = {it: snake(it) for it in ALIAS.findall(new) if snake(it) != it}
+        new = WORD.sub(lambda m: given.get(m[0], m[0]), new)
         if new != t:
             changed += 1
             if not check:

@@ -35,7 +35,7 @@ use Rattle.boolean.specs.Combine.{result_form, combine_check_of}
 use Rattle.boolean.specs.Answer.{combined_of, combined_space}
 use Rattle.boolean.proofs.Meaning.{union_stored, product_stored}
 use Rattle.emptiness.specs.Answer.{witness_check_of, emptiness_of}
-use Rattle.emptiness.specs.Answer.{space_after as witnessSpace}
+use Rattle.emptiness.specs.Answer.{space_after as witness_space}
 use Rattle.term.specs.Read.{Reading, rows_read, refused_at, read_of}
 use Rattle.spelling.specs.Write.{write_of}
 use Rattle.console.specs.Output.{max_input, text_space, live_lines, sample_lines, sample_output, rows_line, read_line, judged_line, judge_output}
@@ -105,7 +105,7 @@ module _ (s s' : List ℕ) (m : SameSet s s') where
   unfolding witness_check_of
   same_emptiness space = rw (m.checked, m.decoded)
 
-  pub same_witness : (cells : List ℕ) → witnessSpace s cells ≡ witnessSpace s' cells
+  pub same_witness : (cells : List ℕ) → witness_space s cells ≡ witness_space s' cells
   unfolding witness_check_of
   same_witness cells = rw (m.checked, m.decoded)
 

@@ -5,7 +5,7 @@ use Rattle.model.specs.Refusal.{Answer, gives, refuses}
 use Rattle.membership.specs.declared.Judged.{Judged}
 use Rattle.membership.specs.Judge.{Judging}
 use Rattle.term.specs.Read.{Reading, rows_read, refused_at}
-use Rattle.jsonrows.specs.Read.{Reading as JsonReading, rows_read as jsonRows, refused_at as jsonRefused}
+use Rattle.jsonrows.specs.Read.{Reading as JsonReading, rows_read as json_rows, refused_at as json_refused}
 
 -- a refusal: the highest bit, the place cut at 2^55 - 1, and the number in the lowest byte
 abbrev pub refusal_code : ℕ → ℕ → ℕ
@@ -39,8 +39,8 @@ read_code (refused_at n p) = refusal_code n p
 
 -- the same of a JSON text
 abbrev pub json_code : JsonReading ℕ → ℕ
-json_code (jsonRows n) = n
-json_code (jsonRefused n p) = refusal_code n p
+json_code (json_rows n) = n
+json_code (json_refused n p) = refusal_code n p
 
 -- a judging: 0 for no, the number of steps for a yes, which is never 0; its refusals have no place
 abbrev pub judged_code : Judged → ℕ

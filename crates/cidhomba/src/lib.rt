@@ -13,13 +13,13 @@ ghost use Rattle.runs.specs.Check.{check_run_of};
 ghost use Rattle.boolean.specs.Answer.{combined_of, combined_space};
 ghost use Rattle.forms.specs.Move.{moved_of, moved_space};
 ghost use Rattle.emptiness.specs.Answer.{emptiness_of};
-ghost use Rattle.emptiness.specs.Answer.{space_after as witnessSpace};
+ghost use Rattle.emptiness.specs.Answer.{space_after as witness_space};
 ghost use Rattle.term.specs.Read.{reading_map, read_of};
-ghost use Rattle.term.specs.Read.{space_after as readSpace};
-ghost use Rattle.jsonrows.specs.Read.{reading_map as jsonMap, read_of as jsonOf};
-ghost use Rattle.jsonrows.specs.Answer.{space_after as jsonSpace};
+ghost use Rattle.term.specs.Read.{space_after as read_space};
+ghost use Rattle.jsonrows.specs.Read.{reading_map as json_map, read_of as json_of};
+ghost use Rattle.jsonrows.specs.Answer.{space_after as json_space};
 ghost use Rattle.spelling.specs.Write.{write_of};
-ghost use Rattle.spelling.specs.Write.{space_after as writeSpace};
+ghost use Rattle.spelling.specs.Write.{space_after as write_space};
 ghost use Rattle.cidhomba.specs.Code.{check_code, JudgingCode, count_code, witness_code, read_code, json_code};
 
 use code::{check_code, judged_code, refusal_code, witness_code, write_code, written_code};
@@ -121,7 +121,7 @@ pub extern "C" fn cidhomba_narrow_rules(set: &[u8], out: &mut [u8]) -> u64
 #[unsafe(no_mangle)]
 pub extern "C" fn cidhomba_witness(set: &[u8], rows: &mut [u16]) -> u64
     ensures answer { result ≡ witness_code (emptiness_of set.now (length rows.old)) }
-    ensures space { rows.new ≡ witnessSpace set.now rows.old }
+    ensures space { rows.new ≡ witness_space set.now rows.old }
 {
     witness_code(emptiness::witness(set, rows))
 }
@@ -136,7 +136,7 @@ pub extern "C" fn cidhomba_read_term<'a>(
     rows: &mut [u16],
 ) -> u64
     ensures answer { result ≡ read_code (reading_map length (read_of set.now site.now built_in.now text.now (length rows.old))) }
-    ensures space { rows.new ≡ readSpace (read_of set.now site.now built_in.now text.now (length rows.old)) rows.old }
+    ensures space { rows.new ≡ read_space (read_of set.now site.now built_in.now text.now (length rows.old)) rows.old }
 {
     match term::read(set, site, built_in, text, rows) {
         TermRead::Rows(n) => n as u64,
@@ -147,8 +147,8 @@ pub extern "C" fn cidhomba_read_term<'a>(
 // The number of rows written, or the refusal of the key list or of the text.
 #[unsafe(no_mangle)]
 pub extern "C" fn cidhomba_read_json(keys: &[u8], text: &[u8], rows: &mut [u16]) -> u64
-    ensures answer { result ≡ json_code (jsonMap length (jsonOf keys.now text.now (length rows.old))) }
-    ensures space { rows.new ≡ jsonSpace (jsonOf keys.now text.now (length rows.old)) rows.old }
+    ensures answer { result ≡ json_code (json_map length (json_of keys.now text.now (length rows.old))) }
+    ensures space { rows.new ≡ json_space (json_of keys.now text.now (length rows.old)) rows.old }
 {
     match jsonrows::read(keys, text, rows) {
         JsonRead::Rows(n) => n as u64,
@@ -166,7 +166,7 @@ pub extern "C" fn cidhomba_write_term<'a>(
     text: &mut [u8],
 ) -> u64
     ensures answer { result ≡ count_code (answer_map length (write_of set.now site.now built_in.now rows.now (length text.old))) }
-    ensures space { text.new ≡ writeSpace (write_of set.now site.now built_in.now rows.now (length text.old)) text.old }
+    ensures space { text.new ≡ write_space (write_of set.now site.now built_in.now rows.now (length text.old)) text.old }
 {
     write_code(spelling::write(set, site, built_in, rows, text))
 }

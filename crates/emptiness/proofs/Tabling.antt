@@ -1,6 +1,6 @@
 -- Adding the tree of a state to the table, by the rule that marks it: the state is known already, or its children are added and then its own row. Assumes nothing.
 use mathlib.Core.Path.{◌≡◌, refl, sym, ap, ◌∙◌, subst}
-use mathlib.Core.List.Memᴰ.{cases_cons as in-cons}
+use mathlib.Core.List.Memᴰ.{cases_cons as in_cons}
 use mathlib.Core.List.Memᴰ.{not-nil}
 use mathlib.Core.List.{List, [], ◌∷◌, map, Memᴰ as In}
 use mathlib.Core.Logic.{⊎_elim}
@@ -70,7 +70,7 @@ map_trees M f g (c ∷ cs) ts e h =
 
 pub map_in : (f : ℕ → ℕ) (cs : List ℕ) (P : ℕ → Type 0) → ((k : ℕ) → k < length cs → P (f (get_or cs k unused))) → (j : ℕ) → In j (map f cs) → P j
 map_in f [] P h j m = absurd (not-nil m)
-map_in f (c ∷ cs) P h j m = ⊎_elim (λ e. subst P (sym e) (h 0 (omega arith))) (map_in f cs P (λ k l. h (suc k) (omega arith)) j) (in-cons m)
+map_in f (c ∷ cs) P h j m = ⊎_elim (λ e. subst P (sym e) (h 0 (omega arith))) (map_in f cs P (λ k l. h (suc k) (omega arith)) j) (in_cons m)
 
 module _ {A : Automaton} {N : ℕ} {base cells slots memo : List ℕ} {n : ℕ} (T : Tabled A N base cells slots memo n) where
   pub rows_long : length (rows_below cells n) ≡ n

@@ -8,7 +8,7 @@ mod building; // building.rt: the witness's rows
 
 ghost use Rattle.std.specs.Prelude.{◌≡◌, ◌*◌, ◌≤◌, length};
 ghost use Rattle.model.specs.Refusal.{gives};
-ghost use Rattle.model.specs.Witness.{witness as witnessOf};
+ghost use Rattle.model.specs.Witness.{witness as witness_of};
 ghost use Rattle.automaton.specs.Stored.{decode};
 ghost use Rattle.automaton.specs.Check.{check_of};
 ghost use Rattle.document.specs.Rows.{row_cells};
@@ -49,8 +49,8 @@ fn sample_check(set: &[u8], states: u16, space: usize) -> u16
 // Dead, or live with the rows written to the front of the space.
 fn find(set: &[u8], states: u16, rules: u16, rows: &mut [u16]) -> Emptiness
     requires { (check_of set.now ≡ 0) × (states ≡ length (decode set.now).states) × (rules ≡ length (decode set.now).rules) × (states * row_cells ≤ length rows.old) }
-    ensures result_value { emptiness_answer result ≡ gives (shape_of (witnessOf (decode set.now))) }
-    ensures space { rows.new ≡ space_of 0 (witnessOf (decode set.now)) rows.old }
+    ensures answer { emptiness_answer result ≡ gives (shape_of (witness_of (decode set.now))) }
+    ensures space { rows.new ≡ space_of 0 (witness_of (decode set.now)) rows.old }
 {
     let m = mark(set, states, rules);
     let q = m.state;
@@ -69,7 +69,7 @@ fn find(set: &[u8], states: u16, rules: u16, rows: &mut [u16]) -> Emptiness
 
 // Whether a set lets in no document, or the lowest that it lets in, as rows at the front of the space.
 pub fn witness(set: &[u8], rows: &mut [u16]) -> Emptiness
-    ensures result_value { emptiness_answer result ≡ emptiness_of set.now (length rows.old) }
+    ensures answer { emptiness_answer result ≡ emptiness_of set.now (length rows.old) }
     ensures space { rows.new ≡ space_after set.now rows.old }
 {
     match automaton::check(set) {

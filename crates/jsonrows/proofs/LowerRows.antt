@@ -3,7 +3,7 @@ use mathlib.Core.Path.{◌≡◌, refl, sym, subst, ◌∙◌}
 use mathlib.Core.Logic.{⊎_elim}
 use mathlib.Core.Bool.{Bool, true, false, cond, ◌||◌}
 use mathlib.Core.List.Memᴰ
-use mathlib.Core.List.Memᴰ.{cases_cons as in-cons}
+use mathlib.Core.List.Memᴰ.{cases_cons as in_cons}
 use mathlib.Core.List.Memᴰ.{head as here}
 use mathlib.Core.List.Memᴰ.{not-nil}
 use mathlib.Core.List.{List, [], ◌∷◌, ◌++◌, Memᴰ as In}
@@ -37,7 +37,7 @@ module _ (used : ℕ) where
   Below js = (j : ℕ) → In j js → j < used
 
   below_more : {k : ℕ} {js : List ℕ} → k < used → Below js → Below (k ∷ js)
-  below_more l h j m = ⊎_elim (λ e. subst (◌< used) (sym e) l) (h j) (in-cons m)
+  below_more l h j m = ⊎_elim (λ e. subst (◌< used) (sym e) l) (h j) (in_cons m)
 
   below_none : Below []
   below_none j m = absurd (not-nil m)

@@ -2,7 +2,7 @@
 use mathlib.Core.Path.{◌≡◌, refl, sym, ap, subst, ◌∙◌}
 use mathlib.Core.Bool.{Bool, true, false, ◌||◌, cond}
 use mathlib.Core.Logic.{⊎_elim}
-use mathlib.Core.List.Memᴰ.{cases_cons as in-cons}
+use mathlib.Core.List.Memᴰ.{cases_cons as in_cons}
 use mathlib.Core.List.Memᴰ.{head as here}
 use mathlib.Core.List.Memᴰ.{tail as there}
 use mathlib.Core.List.{List, [], ◌∷◌, ◌++◌, Memᴰ as In}
@@ -134,7 +134,7 @@ module _ {keys : List (List ℕ)} {t starts pending : List ℕ} {texts hi : ℕ}
               any_append (eq_list x) seen key
               ∙ (λ i. eq_list x (sym is i) || (s.are x ∙ any_same (λ e. eq_list x (entry_key keys t starts e)) (λ e. eq_list x (entry_key keys t more e)) (entries pending (lo + 1) hi) (λ e n. ap (eq_list x) (sym (entry_kept keys t starts more texts few same e (s.each e n))))) i)
               ∙ ap (any (λ e. eq_list x (entry_key keys t more e))) (sym with_it);
-          each = λ e n. ⊎_elim (λ q. subst (EntryOf keys t more count) (sym q) new) (λ p. entry_stays keys t starts more texts count grown same e (s.each e p)) (in-cons (subst (In e) with_it n));
+          each = λ e n. ⊎_elim (λ q. subst (EntryOf keys t more count) (sym q) new) (λ p. entry_stays keys t starts more texts count grown same e (s.each e p)) (in_cons (subst (In e) with_it n));
         }
       where
         behind : drop (lo + 1) (set pending lo entry) ≡ drop (lo + 1) pending

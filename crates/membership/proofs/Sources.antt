@@ -2,7 +2,7 @@
 use mathlib.Core.Path.{◌≡◌, refl, sym, ap, ◌∙◌, subst}
 use mathlib.Core.Logic.{⊎_elim}
 use mathlib.Core.List.Memᴰ
-use mathlib.Core.List.Memᴰ.{cases_cons as in-cons}
+use mathlib.Core.List.Memᴰ.{cases_cons as in_cons}
 use mathlib.Core.List.Memᴰ.{head as here}
 use mathlib.Core.List.Memᴰ.{not-nil}
 use mathlib.Core.List.Memᴰ.{tail as there}
@@ -30,7 +30,7 @@ use Rattle.membership.proofs.Adding.{no_entry, ext_at, ext_entries}
 
 pub in_span : (i n j : ℕ) → In j (span i n) → (i ≤ j) × (j < i + n)
 in_span i zero j h = absurd (not-nil h)
-in_span i (suc n) j h = ⊎_elim (λ e. (omega arith, omega arith)) (λ m. let (a, b) = in_span (suc i) n j m in (omega arith, omega arith)) (in-cons h)
+in_span i (suc n) j h = ⊎_elim (λ e. (omega arith, omega arith)) (λ m. let (a, b) = in_span (suc i) n j m in (omega arith, omega arith)) (in_cons h)
 
 -- annotation j stands for a child on row c in state q
 pub record Child (known : List Annotation) (j c q : ℕ) : Type 0 where

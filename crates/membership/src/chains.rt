@@ -58,7 +58,7 @@ fn head_from(
     low: usize,
     high: usize,
 ) -> usize
-    requires at_bound { (at < 1024) × (low ≤ high) × (high * 32 ≤ length work.now) }
+    requires bounds { (at < 1024) × (low ≤ high) × (high * 32 ≤ length work.now) }
     requires head_of { HeadOf (class_in work.now) c low high (get_or heads.now at 0) }
     ensures { FirstWith (class_in work.now) c low high result }
 {
@@ -118,7 +118,7 @@ pub(crate) fn first_in(
     low: usize,
     high: usize,
 ) -> usize
-    requires p_bound { (p < 4) × (c < 256) × (low ≤ high) × (high ≤ 4096) × (high * 32 ≤ length work.now) }
+    requires bounds { (p < 4) × (c < 256) × (low ≤ high) × (high ≤ 4096) × (high * 32 ≤ length work.now) }
     requires opened { Opened (class_in work.now) p low high heads.now }
     ensures { FirstWith (class_in work.now) c low high result }
 {
@@ -137,7 +137,7 @@ pub(crate) fn next_in(
     low: usize,
     high: usize,
 ) -> usize
-    requires low_le_j { (low ≤ j) × (j < high) × (high ≤ 4096) × (high * 32 ≤ length work.now) }
+    requires bounds { (low ≤ j) × (j < high) × (high ≤ 4096) × (high * 32 ≤ length work.now) }
     requires chained { Chained (class_in work.now) low high links.now × (class_in work.now j ≡ c) }
     ensures { FirstWith (class_in work.now) c (suc j) high result }
 {

@@ -58,8 +58,8 @@ pub(crate) fn is_known(
     tags: usize,
     room: usize,
 ) -> bool
-    requires tags_bound { (tags ≤ 16) × (slot < room) × (n ≤ room) × (room ≤ max_steps) × (room * 32 ≤ length work.now) }
-    requires slot_value { slot ≡ slot_of room (annotation row.0 state.0 (memory_of tags memory.now)) }
+    requires bounds { (tags ≤ 16) × (slot < room) × (n ≤ room) × (room ≤ max_steps) × (room * 32 ≤ length work.now) }
+    requires slot_is { slot ≡ slot_of room (annotation row.0 state.0 (memory_of tags memory.now)) }
     requires indexed { Indexed tags room work.now slots.now n × Short tags memory.now }
     ensures { result ≡ any (eq_annotation (annotation row.0 state.0 (memory_of tags memory.now))) (annotations_in tags work.now n) }
 {

@@ -264,7 +264,7 @@ fn by_row(
     room: usize,
     n: usize,
 ) -> usize
-    requires set_value { (check_of set.now ≡ 0) × SoundTable (decode set.now) (decode_rows rows.now) }
+    requires sound { (check_of set.now ≡ 0) × SoundTable (decode set.now) (decode_rows rows.now) }
     requires before { Before (decode set.now) (decode_rows rows.now) i.0 room tags work.old slots.old n }
     requires starts { Starts (decode set.now) (decode_rows rows.now) starts.now i.0 × FirstRules (decode set.now) firsts.now }
     requires rules_read { RulesRead (decode set.now) (length (decode set.now).rules) rules.now × Fresh i.0 0 tried.old }

@@ -41,7 +41,7 @@ fn write_step(work: &mut [u16], run: &mut [u16], j: usize, s: Step)
 
 // The annotations that are reached become steps, in ascending order.
 fn write_steps(work: &mut [u16], run: &mut [u16], root: usize) -> usize
-    requires root_lt_max_steps { (root < max_steps) × (root * 32 + 32 ≤ length work.old) × (root * 6 + 6 ≤ length run.old) }
+    requires bounds { (root < max_steps) × (root * 32 + 32 ≤ length work.old) × (root * 6 + 6 ≤ length run.old) }
     requires reached { Reached work.old root }
     ensures { StepsWritten work.old root run.old run.new result }
 {
@@ -66,9 +66,9 @@ pub(crate) fn write_run(
     n: usize,
     run: &mut [u16],
 ) -> usize
-    requires set_value { (check_of set.now ≡ 0) × SoundTable (decode set.now) (decode_rows rows.now) }
-    requires n_le_max_steps { (n ≤ max_steps) × (n * 32 ≤ length work.old) × (n * 6 ≤ length run.old) }
-    requires n_value { (annotations_in (decode set.now).tags work.old n ≡ annotations (decode set.now) (decode_rows rows.now)) × SourcedIn (decode set.now) (decode_rows rows.now) (decode set.now).tags work.old n }
+    requires sound { (check_of set.now ≡ 0) × SoundTable (decode set.now) (decode_rows rows.now) }
+    requires few { (n ≤ max_steps) × (n * 32 ≤ length work.old) × (n * 6 ≤ length run.old) }
+    requires known { (annotations_in (decode set.now).tags work.old n ≡ annotations (decode set.now) (decode_rows rows.now)) × SourcedIn (decode set.now) (decode_rows rows.now) (decode set.now).tags work.old n }
     ensures { RunWritten (decode set.now) (decode_rows rows.now) n run.old run.new result }
 {
     let last = last_row(rows);

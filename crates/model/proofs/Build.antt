@@ -3,7 +3,7 @@ use mathlib.Core.Path.{◌≡◌, refl, sym, ap, ◌∙◌, subst}
 use mathlib.Core.Logic.{◌⊎◌, inl, inr, ⊎_elim}
 use mathlib.Core.Option
 use mathlib.Core.Option.{Option, none, some, some-injective}
-use mathlib.Core.List.Memᴰ.{cases_cons as in-cons}
+use mathlib.Core.List.Memᴰ.{cases_cons as in_cons}
 use mathlib.Core.List.Memᴰ.{not-nil}
 use mathlib.Core.List.{List, [], ◌∷◌, ◌++◌, map, append_assoc, append-nil, Memᴰ as In}
 use mathlib.Core.Bool.{Bool, true, false, ◌&&◌, cond}
@@ -169,7 +169,7 @@ module _ (P : Tree → Type 0) where
               distinct = F.from.distinct;
               new = λ i a b. new' i a b (dec_lt i (length o₁.0));
             };
-        at_rows = λ j m. ⊎_elim (λ e. rw e (omega (arith, T₁.at_row, longer F.from))) (F.at_rows j) (in-cons m);
+        at_rows = λ j m. ⊎_elim (λ e. rw e (omega (arith, T₁.at_row, longer F.from))) (F.at_rows j) (in_cons m);
         forest_is = cc (kept_from F.from T₁.from.lower o₁.1 T₁.at_row, T₁.tree, F.forest_is);
       }
     where

@@ -2,7 +2,7 @@
 use mathlib.Core.Path.{◌≡◌, refl, sym, ap, ◌∙◌, subst}
 use mathlib.Core.Logic.{◌⊎◌, inl, inr, ⊎_elim}
 use mathlib.Core.List.Memᴰ
-use mathlib.Core.List.Memᴰ.{cases_cons as in-cons}
+use mathlib.Core.List.Memᴰ.{cases_cons as in_cons}
 use mathlib.Core.List.Memᴰ.{head as here}
 use mathlib.Core.List.Memᴰ.{tail as there}
 use mathlib.Core.List.{List, [], ◌∷◌, ◌++◌, Memᴰ as In}
@@ -25,10 +25,10 @@ module _ {B : Type 0} where
 
   -- a list without one of its values
   without : {y : B} {ys : List B} → In y ys → (rest : List B) × (length ys ≡ suc (length rest)) × ((z : B) → In z ys → (z ≡ y) ⊎ In z rest)
-  without (here {xs = xs} e) = (xs, refl, λ z h. ⊎_elim (λ e'. inl (e' ∙ sym e)) inr (in-cons h))
+  without (here {xs = xs} e) = (xs, refl, λ z h. ⊎_elim (λ e'. inl (e' ∙ sym e)) inr (in_cons h))
   without (there {x = x} m) =
       let (rest, e, back) = without m in
-      (x ∷ rest, ap suc e, λ z h. ⊎_elim (λ e'. inr (here e')) (λ g. ⊎_elim inl (λ g'. inr (there g')) (back z g)) (in-cons h))
+      (x ∷ rest, ap suc e, λ z h. ⊎_elim (λ e'. inr (here e')) (λ g. ⊎_elim inl (λ g'. inr (there g')) (back z g)) (in_cons h))
 
   -- THE LAW: where each number below n has a value of the list, and no two have the same, n is at most the list's length.
   pub pigeonhole : (R : ℕ → B → Type 0) (n : ℕ) (ys : List B) → ((i : ℕ) → i < n → (y : B) × In y ys × R i y) → ((i j : ℕ) (y : B) → i < n → j < n → R i y → R j y → i ≡ j) → n ≤ length ys

@@ -2,8 +2,8 @@
 use mathlib.Core.Path.{◌≡◌, refl, sym, ap, ◌∙◌, subst}
 use mathlib.Core.Logic.{◌⊎◌, inl, inr, ⊎_elim, ◌↔◌}
 use mathlib.Core.List.Memᴰ
-use mathlib.Core.List.Memᴰ.{append_cases as in-append}
-use mathlib.Core.List.Memᴰ.{cases_cons as in-cons}
+use mathlib.Core.List.Memᴰ.{append_cases as in_append}
+use mathlib.Core.List.Memᴰ.{cases_cons as in_cons}
 use mathlib.Core.List.Memᴰ.{eq_of_singleton}
 use mathlib.Core.List.Memᴰ.{head as here}
 use mathlib.Core.List.Memᴰ.{not-nil}
@@ -41,7 +41,7 @@ module _ {A B : Type 0} where
   pub in_concat_map : (f : A → List B) (xs : List A) {y : B} → In y (concat_map f xs) → (x : A) × In x xs × In y (f x)
   in_concat_map f [] h = absurd (not-nil h)
   in_concat_map f (x ∷ xs) h =
-      ⊎_elim (λ a. (x, here refl, a)) (λ b. let r = in_concat_map f xs b in (r.0, there r.1, r.2)) (in-append (f x) h)
+      ⊎_elim (λ a. (x, here refl, a)) (λ b. let r = in_concat_map f xs b in (r.0, there r.1, r.2)) (in_append (f x) h)
 
   pub concat_map_in : (f : A → List B) {x : A} {xs : List A} {y : B} → In x xs → In y (f x) → In y (concat_map f xs)
   concat_map_in f {y = y} (here e) h = Memᴰ.append_left _ (subst (λ z. In y (f z)) e h)
@@ -50,7 +50,7 @@ module _ {A B : Type 0} where
   pub in_map : (f : A → B) (xs : List A) {y : B} → In y (map f xs) → (x : A) × In x xs × (y ≡ f x)
   in_map f [] h = absurd (not-nil h)
   in_map f (x ∷ xs) h =
-      ⊎_elim (λ e. (x, here refl, e)) (λ b. let r = in_map f xs b in (r.0, there r.1, r.2)) (in-cons h)
+      ⊎_elim (λ e. (x, here refl, e)) (λ b. let r = in_map f xs b in (r.0, there r.1, r.2)) (in_cons h)
 
   pub map_in : (f : A → B) {x : A} {xs : List A} → In x xs → In (f x) (map f xs)
   map_in f (here e) = here (ap f e)
@@ -85,7 +85,7 @@ pub all_in : {A : Type 0} (f : A → Bool) (xs : List A) → T (all f xs) → {x
 all_in f [] h m = absurd (not-nil m)
 all_in f (y ∷ ys) h {x} m =
     let (one, more) = T_and (f y) (all f ys) h in
-    ⊎_elim (λ e. subst (λ z. T (f z)) (sym e) one) (λ n. all_in f ys more n) (in-cons m)
+    ⊎_elim (λ e. subst (λ z. T (f z)) (sym e) one) (λ n. all_in f ys more n) (in_cons m)
 
 pub in_all : {A : Type 0} (f : A → Bool) (xs : List A) → ((x : A) → In x xs → T (f x)) → T (all f xs)
 in_all f [] h = tt
@@ -114,7 +114,7 @@ in_add_new (a ∷ as') known {y = y} h = go (any (eq_annotation a) known) (in_ad
   where
     go : (b : Bool) → In y (cond b known (known ++ a ∷ [])) ⊎ In y as' → In y known ⊎ In y (a ∷ as')
     go true (inl g) = inl g
-    go false (inl g) = ⊎_elim inl (λ m. inr (here (eq_of_singleton m))) (in-append known g)
+    go false (inl g) = ⊎_elim inl (λ m. inr (here (eq_of_singleton m))) (in_append known g)
     go true (inr g) = inr (there g)
     go false (inr g) = inr (there g)
 
@@ -129,7 +129,7 @@ add_new_known (a ∷ as') known {y = y} h = add_new_known as' _ (go (any (eq_ann
 pub add_new_new : (as' known : List Annotation) {y : Annotation} → In y as' → In y (add_new known as')
 add_new_new [] known h = absurd (not-nil h)
 add_new_new (a ∷ as') known {y = y} h =
-    ⊎_elim (λ e. add_new_known as' _ (go (any (eq_annotation a) known) refl e)) (λ m. add_new_new as' _ m) (in-cons h)
+    ⊎_elim (λ e. add_new_known as' _ (go (any (eq_annotation a) known) refl e)) (λ m. add_new_new as' _ m) (in_cons h)
   where
     go : (b : Bool) → any (eq_annotation a) known ≡ b → y ≡ a → In y (cond b known (known ++ a ∷ []))
     go true e q = let r = in_any (eq_annotation a) known (rw e tt) in Memᴰ.cast (q ∙ eq_annotation→eq a r.0 r.2) r.1
@@ -138,7 +138,7 @@ add_new_new (a ∷ as') known {y = y} h =
 -- the memories of a row in a state
 pub in_memories : (known : List Annotation) (c q : ℕ) {m : List ℕ} → In m (memories known c q) → (a : Annotation) × In a known × (a.row ≡ c) × (a.state ≡ q) × (m ≡ a.memory)
 in_memories [] c q h = absurd (not-nil h)
-in_memories (a ∷ known) c q {m = m} h = ⊎_elim first (λ g. let r = in_memories known c q g in (r.0, there r.1, r.2, r.3, r.4)) (in-append _ h)
+in_memories (a ∷ known) c q {m = m} h = ⊎_elim first (λ g. let r = in_memories known c q g in (r.0, there r.1, r.2, r.3, r.4)) (in_append _ h)
   where
     first : In m (only (eqb a.row c && eqb a.state q) (a.memory ∷ [])) → (b : Annotation) × In b (a ∷ known) × (b.row ≡ c) × (b.state ≡ q) × (m ≡ b.memory)
     first g =

@@ -2,7 +2,7 @@
 use mathlib.Core.Path.{◌≡◌, refl, sym, ap, ◌∙◌, subst}
 use mathlib.Core.Logic.{◌⊎◌, inl, inr, ⊎_elim}
 use mathlib.Core.Bool.{Bool, true, false, ◌&&◌, cond}
-use mathlib.Core.List.Memᴰ.{cases_cons as in-cons}
+use mathlib.Core.List.Memᴰ.{cases_cons as in_cons}
 use mathlib.Core.List.Memᴰ.{eq_of_singleton}
 use mathlib.Core.List.Memᴰ.{head as here}
 use mathlib.Core.List.Memᴰ.{not-nil}
@@ -42,7 +42,7 @@ module _ {N : Type 0} (row : N → ℕ) (key : N → List ℕ) (kids : N → Lis
     where
       go : (b : Bool) → same? x k ≡ b → (In y l → (place_in l k < length l) × Same (get_or l (place_in l k) d) k) → (cond b 0 (suc (place_in l k)) < suc (length l)) × Same (get_or (x ∷ l) (cond b 0 (suc (place_in l k))) d) k
       go true e ih = (omega arith, T-same x k (subst T (sym e) tt))
-      go false e ih = ⊎_elim (λ q. absurd (subst T e (same_T x k (ap row (sym q) ∙ s.0, ap key (sym q) ∙ s.1)))) (λ g. let (l, s') = ih g in (omega arith, s')) (in-cons iy)
+      go false e ih = ⊎_elim (λ q. absurd (subst T e (same_T x k (ap row (sym q) ∙ s.0, ap key (sym q) ∙ s.1)))) (λ g. let (l, s') = ih g in (omega arith, s')) (in_cons iy)
 
   -- rows ascend, no pair stands twice, and each node but the root, the last, is a kid of a later one
   pub data Chain (root : N) : List N → Type 0 where
@@ -54,7 +54,7 @@ module _ {N : Type 0} (row : N → ℕ) (key : N → List ℕ) (kids : N → Lis
   chain_holds P p step chain_root z h = subst P (sym (eq_of_singleton h)) p
   chain_holds P p step (chain_more {x = x} {y = y} c low new iy ix) z h =
       let below = chain_holds P p step c in
-      ⊎_elim (λ e. subst P (sym e) (step y x (below y iy) ix)) (below z) (in-cons h)
+      ⊎_elim (λ e. subst P (sym e) (step y x (below y iy) ix)) (below z) (in_cons h)
 
   module _ {root : N} where
     -- the lower row stands first
@@ -112,7 +112,7 @@ module _ {N : Type 0} (row : N → ℕ) (key : N → List ℕ) (kids : N → Lis
           high = f.high;
           from = f.from;
           old = f.old;
-          has = λ z iz e. ⊎_elim (λ q. subst (λ k. (y : N) × In y f.list × Same y k) (sym q) (h (ap row (sym q) ∙ e))) (λ g. f.has z g e) (in-cons iz);
+          has = λ z iz e. ⊎_elim (λ q. subst (λ k. (y : N) × In y f.list × Same y k) (sym q) (h (ap row (sym q) ∙ e))) (λ g. f.has z g e) (in_cons iz);
         }
 
     put : (n : ℕ) (l cs : List N) (c y : N) (f : Filled n l cs) → row c ≡ n → ((z : N) → In z f.list → Same c z → ⊥) → In y l → In c (kids y) → Filled n l (c ∷ cs)
@@ -120,10 +120,10 @@ module _ {N : Type 0} (row : N → ℕ) (key : N → List ℕ) (kids : N → Lis
         record {
           list = c ∷ f.list;
           chain = chain_more {x = c} f.chain (λ z iz. let h = f.high z iz in omega arith) new (f.old y iy) ic;
-          high = λ z iz. ⊎_elim (λ q. let g = ap row q in omega arith) (f.high z) (in-cons iz);
-          from = λ z iz. ⊎_elim (λ q. inr (ap row q ∙ e)) (f.from z) (in-cons iz);
+          high = λ z iz. ⊎_elim (λ q. let g = ap row q in omega arith) (f.high z) (in_cons iz);
+          from = λ z iz. ⊎_elim (λ q. inr (ap row q ∙ e)) (f.from z) (in_cons iz);
           old = λ z iz. there (f.old z iz);
-          has = λ z iz e'. ⊎_elim (λ q. (c, here refl, (ap row (sym q), ap key (sym q)))) (λ g. let (y, iy, s) = f.has z g e' in (y, there iy, s)) (in-cons iz);
+          has = λ z iz e'. ⊎_elim (λ q. (c, here refl, (ap row (sym q), ap key (sym q)))) (λ g. let (y, iy, s) = f.has z g e' in (y, there iy, s)) (in_cons iz);
         }
 
     fill : (n : ℕ) (l : List N) → Level (suc n) l → (cs : List N) → ((c : N) → In c cs → (y : N) × In y l × In c (kids y)) → Filled n l cs

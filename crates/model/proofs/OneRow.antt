@@ -1,7 +1,7 @@
 -- Memories worked out step by step: where each tag has one row over all steps there is no clash; where no rule forgets, only there. Assumes nothing.
 use mathlib.Core.Path.{◌≡◌, refl, sym, ap, ◌∙◌, subst}
 use mathlib.Core.Logic.{⊎_elim}
-use mathlib.Core.List.Memᴰ.{cases_cons as in-cons}
+use mathlib.Core.List.Memᴰ.{cases_cons as in_cons}
 use mathlib.Core.List.Memᴰ.{eq_of_singleton}
 use mathlib.Core.List.Memᴰ.{head as here}
 use mathlib.Core.List.Memᴰ.{not-nil}
@@ -116,7 +116,7 @@ joined_within m [] h = (subst (Within m) (sym (eq_of_singleton h)) (λ k j e. e)
 joined_within m (x ∷ xs) {y} h =
     let (t, h') = in_only (agree? m x) (joined_all (joined m x) xs) h in
     let (wm, wx) = joined_within (joined m x) xs h' in
-    (λ k j e. wm k j (within_left m x k j e), λ z iz. ⊎_elim (λ q. subst (λ (n : Memory). Within n y) (sym q) (λ k j e. wm k j (within_right m x t k j e))) (wx z) (in-cons iz))
+    (λ k j e. wm k j (within_left m x k j e), λ z iz. ⊎_elim (λ q. subst (λ (n : Memory). Within n y) (sym q) (λ k j e. wm k j (within_right m x t k j e))) (wx z) (in_cons iz))
 
 pub entry_below : (x : Memory) (k j : ℕ) → get_or x k 0 ≡ suc j → k < length x
 entry_below x k j h = go (dec_lt k (length x))

@@ -1,7 +1,7 @@
 -- The order of rules: a strict order on keys, what ascending lists are, and that sorting is the only way to an ascending list. Assumes nothing.
 use mathlib.Core.Path.{◌≡◌, refl, sym, ap, ◌∙◌, subst}
 use mathlib.Core.Logic.{◌⊎◌, inl, inr, ⊎_elim, ◌↔◌}
-use mathlib.Core.List.Memᴰ.{cases_cons as in-cons}
+use mathlib.Core.List.Memᴰ.{cases_cons as in_cons}
 use mathlib.Core.List.Memᴰ.{head as here}
 use mathlib.Core.List.Memᴰ.{not-nil}
 use mathlib.Core.List.Memᴰ.{tail as there}
@@ -118,7 +118,7 @@ ascending_pairwise (r ∷ []) h = (λ y m. absurd (not-nil m), tt)
 ascending_pairwise (r ∷ s ∷ rs) h = go (ascending_pairwise (s ∷ rs) h.1)
   where
     go : Pairwise Before (s ∷ rs) → Pairwise Before (r ∷ s ∷ rs)
-    go g = (λ y m. ⊎_elim (λ e. subst (Before r) (sym e) h.0) (λ n. before_transitive r s y h.0 (g.0 y n)) (in-cons m), g)
+    go g = (λ y m. ⊎_elim (λ e. subst (Before r) (sym e) h.0) (λ n. before_transitive r s y h.0 (g.0 y n)) (in_cons m), g)
 
 pub pairwise_ascending : (rs : List Rule) → Pairwise Before rs → Ascending rs
 pairwise_ascending [] h = tt
@@ -146,9 +146,9 @@ pub one_key : (rs : List Rule) → Pairwise OtherKey rs → {r s : Rule} → In 
 one_key [] h m n e = absurd (not-nil m)
 one_key (x ∷ rs) h {r} {s} m n e =
     ⊎_elim
-    (λ q. ⊎_elim (λ q'. q ∙ sym q') (λ n'. absurd (h.0 s n' (ap key (sym q) ∙ e))) (in-cons n))
-    (λ m'. ⊎_elim (λ q'. absurd (h.0 r m' (ap key (sym q') ∙ sym e))) (λ n'. one_key rs h.1 m' n' e) (in-cons n))
-    (in-cons m)
+    (λ q. ⊎_elim (λ q'. q ∙ sym q') (λ n'. absurd (h.0 s n' (ap key (sym q) ∙ e))) (in_cons n))
+    (λ m'. ⊎_elim (λ q'. absurd (h.0 r m' (ap key (sym q') ∙ sym e))) (λ n'. one_key rs h.1 m' n' e) (in_cons n))
+    (in_cons m)
 
 -- A rule stands once.
 pub ascending_once : (A : Automaton) → Ascending A.rules → OneRule A
@@ -161,7 +161,7 @@ in_insert r (s ∷ rs) {y = y} h = go (before? s r) h (λ g. in_insert r rs g)
   where
     go : (b : Bool) → In y (cond b (s ∷ insert r rs) (r ∷ s ∷ rs)) → (In y (insert r rs) → In y (r ∷ rs)) → In y (r ∷ s ∷ rs)
     go false g ih = g
-    go true g ih = ⊎_elim (λ e. there (here e)) (λ m. ⊎_elim here (λ n. there (there n)) (in-cons (ih m))) (in-cons g)
+    go true g ih = ⊎_elim (λ e. there (here e)) (λ m. ⊎_elim here (λ n. there (there n)) (in_cons (ih m))) (in_cons g)
 
 insert_in : (r : Rule) (rs : List Rule) {y : Rule} → In y (r ∷ rs) → In y (insert r rs)
 insert_in r [] h = h
@@ -169,15 +169,15 @@ insert_in r (s ∷ rs) {y = y} h = go (before? s r) (λ g. insert_in r rs g)
   where
     go : (b : Bool) → (In y (r ∷ rs) → In y (insert r rs)) → In y (cond b (s ∷ insert r rs) (r ∷ s ∷ rs))
     go false ih = h
-    go true ih = ⊎_elim (λ e. there (ih (here e))) (λ m. ⊎_elim here (λ n. there (ih (there n))) (in-cons m)) (in-cons h)
+    go true ih = ⊎_elim (λ e. there (ih (here e))) (λ m. ⊎_elim here (λ n. there (ih (there n))) (in_cons m)) (in_cons h)
 
 pub in_sorted : (rs : List Rule) {y : Rule} → In y (sorted rs) → In y rs
 in_sorted [] h = h
-in_sorted (r ∷ rs) h = ⊎_elim here (λ m. there (in_sorted rs m)) (in-cons (in_insert r (sorted rs) h))
+in_sorted (r ∷ rs) h = ⊎_elim here (λ m. there (in_sorted rs m)) (in_cons (in_insert r (sorted rs) h))
 
 pub sorted_in : (rs : List Rule) {y : Rule} → In y rs → In y (sorted rs)
 sorted_in [] h = h
-sorted_in (r ∷ rs) h = insert_in r (sorted rs) (⊎_elim here (λ m. there (sorted_in rs m)) (in-cons h))
+sorted_in (r ∷ rs) h = insert_in r (sorted rs) (⊎_elim here (λ m. there (sorted_in rs m)) (in_cons h))
 
 pub length_sorted : (rs : List Rule) → length (sorted rs) ≡ length rs
 length_sorted [] = refl
@@ -199,8 +199,8 @@ insert_pairwise r (s ∷ rs) other h = go (before? s r) refl (insert_pairwise r 
     first e = ⊎_elim (λ l. l) (⊎_elim (λ k. absurd (other s (here refl) k)) (λ l. absurd (subst T e l))) (before_total r s)
 
     go : (b : Bool) → before? s r ≡ b → Pairwise Before (insert r rs) → Pairwise Before (cond b (s ∷ insert r rs) (r ∷ s ∷ rs))
-    go true e ih = (λ y m. ⊎_elim (λ q. subst (Before s) (sym q) (rw e tt)) (h.0 y) (in-cons (in_insert r rs m)), ih)
-    go false e ih = (λ y m. ⊎_elim (λ q. subst (Before r) (sym q) (first e)) (λ n. before_transitive r s y (first e) (h.0 y n)) (in-cons m), h)
+    go true e ih = (λ y m. ⊎_elim (λ q. subst (Before s) (sym q) (rw e tt)) (h.0 y) (in_cons (in_insert r rs m)), ih)
+    go false e ih = (λ y m. ⊎_elim (λ q. subst (Before r) (sym q) (first e)) (λ n. before_transitive r s y (first e) (h.0 y n)) (in_cons m), h)
 
 -- Sorting rules with pairwise different keys makes them ascend.
 pub sorted_ascending : (rs : List Rule) → Pairwise OtherKey rs → Ascending (sorted rs)
@@ -215,10 +215,10 @@ pub ascending_unique : (xs ys : List Rule) → Ascending xs → Ascending ys →
 ascending_unique xs ys h g same = unique xs ys (ascending_pairwise xs h) (ascending_pairwise ys g) same
   where
     head : (x y : Rule) (xs ys : List Rule) → Pairwise Before (x ∷ xs) → Pairwise Before (y ∷ ys) → In x (y ∷ ys) → In y (x ∷ xs) → x ≡ y
-    head x y xs ys h g m n = ⊎_elim (λ e. e) (λ m'. ⊎_elim sym (λ n'. absurd (before_irreflexive x (before_transitive x y x (h.0 y n') (g.0 x m')))) (in-cons n)) (in-cons m)
+    head x y xs ys h g m n = ⊎_elim (λ e. e) (λ m'. ⊎_elim sym (λ n'. absurd (before_irreflexive x (before_transitive x y x (h.0 y n') (g.0 x m')))) (in_cons n)) (in_cons m)
 
     tail : (x y : Rule) (xs ys : List Rule) → x ≡ y → Pairwise Before (x ∷ xs) → (r : Rule) → In r xs → In r (y ∷ ys) → In r ys
-    tail x y xs ys e h r m n = ⊎_elim (λ q. absurd (before_irreflexive r (subst (λ z. Before z r) (e ∙ sym q) (h.0 r m)))) (λ n'. n') (in-cons n)
+    tail x y xs ys e h r m n = ⊎_elim (λ q. absurd (before_irreflexive r (subst (λ z. Before z r) (e ∙ sym q) (h.0 r m)))) (λ n'. n') (in_cons n)
 
     unique : (xs ys : List Rule) → Pairwise Before xs → Pairwise Before ys → ((r : Rule) → In r xs ↔ In r ys) → xs ≡ ys
     unique [] [] h g same = refl

@@ -1,7 +1,7 @@
 -- Lists in which each earlier member stands in a relation to each later one. Assumes nothing.
 use mathlib.Core.Path.{◌≡◌, refl, sym, subst}
 use mathlib.Core.Logic.{⊎_elim}
-use mathlib.Core.List.Memᴰ.{append_cases as in-append}
+use mathlib.Core.List.Memᴰ.{append_cases as in_append}
 use mathlib.Core.List.Memᴰ.{head as here}
 use mathlib.Core.List.Memᴰ.{tail as there}
 use mathlib.Core.List.{List, [], ◌∷◌, ◌++◌, map, Memᴰ as In}
@@ -38,7 +38,7 @@ module _ {A : Type 0} (R : A → A → Type 0) where
   pub pairwise_append : (xs ys : List A) → Pairwise R xs → Pairwise R ys → ((x y : A) → In x xs → In y ys → R x y) → Pairwise R (xs ++ ys)
   pairwise_append [] ys h g c = g
   pairwise_append (x ∷ xs) ys h g c = (
-    λ y m. ⊎_elim (h.0 y) (c x y (here refl)) (in-append xs m),
+    λ y m. ⊎_elim (h.0 y) (c x y (here refl)) (in_append xs m),
     pairwise_append xs ys h.1 g (λ a b m n. c a b (there m) n),
   )
 

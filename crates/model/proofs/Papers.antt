@@ -1,7 +1,7 @@
 -- Where each tag has exactly one state, no state has two tags and nothing is forgotten, acceptance is that of source document 004. Assumes nothing.
 use mathlib.Core.Path.{◌≡◌, refl, sym, ap, ◌∙◌, subst}
 use mathlib.Core.Logic.{⊎_elim, ◌↔◌}
-use mathlib.Core.List.Memᴰ.{cases_cons as in-cons}
+use mathlib.Core.List.Memᴰ.{cases_cons as in_cons}
 use mathlib.Core.List.{List, [], ◌∷◌, ◌++◌, Memᴰ as In}
 use mathlib.Core.Bool.{true, ◌&&◌, not}
 use Prim.Native.Nat.{ℕ, ◌+◌, ◌^◌, ◌<◌}
@@ -78,7 +78,7 @@ module _ (A : Automaton) (w : Wellformed A) where
             ⊎_elim
             (λ e. subst (◌< length A.states) (et ∙ sym e) (w.targets r ir))
             (λ n. w.children r ir p (subst (In p) (sym ec) n))
-            (in-cons m);
+            (in_cons m);
       }
 
   module _ (t : Tree) where

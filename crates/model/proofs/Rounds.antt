@@ -2,7 +2,7 @@
 use mathlib.Core.Path.{◌≡◌, refl, sym, ap, ◌∙◌, subst}
 use mathlib.Core.Logic.{◌⊎◌, inl, inr, ⊎_elim}
 use mathlib.Core.Option.{Option, none, some, some-injective, none-ne-some}
-use mathlib.Core.List.Memᴰ.{cases_cons as in-cons}
+use mathlib.Core.List.Memᴰ.{cases_cons as in_cons}
 use mathlib.Core.List.Memᴰ.{not-nil}
 use mathlib.Core.List.{List, [], ◌∷◌, ◌++◌, Memᴰ as In}
 use Prim.Native.Nat.{ℕ, zero, suc, ◌<◌, ◌≤◌}
@@ -50,7 +50,7 @@ each_tree P M h [] ts e t m = absurd (not-nil (subst (In t) (sym (some-injective
 each_tree P M h (q ∷ qs) ts e t m =
     let (u, eu, e₁) = then_some (get_or M q none) _ e in
     let (us, es, e₂) = then_some (trees_in M qs) _ e₁ in
-    ⊎_elim (λ i. subst P (sym i) (h q u eu)) (each_tree P M h qs us es t) (in-cons (subst (In t) (sym (some-injective _ _ e₂)) m))
+    ⊎_elim (λ i. subst P (sym i) (h q u eu)) (each_tree P M h qs us es t) (in_cons (subst (In t) (sym (some-injective _ _ e₂)) m))
 
 -- a state that is marked, was marked before or gets its tree by a rule
 pub marked_by : (A : Automaton) (M : Marks) (q : ℕ) (t : Tree) → get_or (next_round A M) q none ≡ some t → (get_or M q none ≡ some t) ⊎ By A M q A.rules t

@@ -1,7 +1,7 @@
 -- The product of two sound automata is a sound automaton that accepts what both accept. Assumes nothing.
 use mathlib.Core.Path.{◌≡◌, refl, sym, ap, ◌∙◌, subst}
 use mathlib.Core.Logic.{◌↔◌, ⊎_elim}
-use mathlib.Core.List.Memᴰ.{cases_cons as in-cons}
+use mathlib.Core.List.Memᴰ.{cases_cons as in_cons}
 use mathlib.Core.List.Memᴰ.{head as here}
 use mathlib.Core.List.Memᴰ.{not-nil}
 use mathlib.Core.List.Memᴰ.{tail as there}
@@ -31,7 +31,7 @@ use Rattle.model.proofs.Combine.{mask_bound, length_pair_numbers, one_pair, pair
 in_pair_numbers : (n : ℕ) (ps qs : List ℕ) {z : ℕ} → In z (pair_numbers n ps qs) → (p q : ℕ) × In p ps × In q qs × (z ≡ p * n + q)
 in_pair_numbers n [] qs h = absurd (not-nil h)
 in_pair_numbers n (p ∷ ps) [] h = absurd (not-nil h)
-in_pair_numbers n (p ∷ ps) (q ∷ qs) h = ⊎_elim (λ e. (p, q, here refl, here refl, e)) (λ m. let (p', q', ip, iq, e) = in_pair_numbers n ps qs m in (p', q', there ip, there iq, e)) (in-cons h)
+in_pair_numbers n (p ∷ ps) (q ∷ qs) h = ⊎_elim (λ e. (p, q, here refl, here refl, e)) (λ m. let (p', q', ip, iq, e) = in_pair_numbers n ps qs m in (p', q', there ip, there iq, e)) (in_cons h)
 
 -- a pair's number tells the pair, so the key of a pair of rules tells both keys
 numbers_back : (n : ℕ) (ps qs : List ℕ) → length ps ≡ length qs → ((q : ℕ) → In q qs → q < n) → (map (◌/ n) (pair_numbers n ps qs) ≡ ps) × (map (◌% n) (pair_numbers n ps qs) ≡ qs)

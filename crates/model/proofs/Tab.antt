@@ -1,7 +1,7 @@
 -- Lists made of a function of the index. Assumes nothing.
 use mathlib.Core.Path.{◌≡◌, refl, ap}
 use mathlib.Core.Logic.{⊎_elim}
-use mathlib.Core.List.Memᴰ.{cases_cons as in-cons}
+use mathlib.Core.List.Memᴰ.{cases_cons as in_cons}
 use mathlib.Core.List.Memᴰ.{head as here}
 use mathlib.Core.List.Memᴰ.{not-nil}
 use mathlib.Core.List.Memᴰ.{tail as there}
@@ -27,7 +27,7 @@ length_tab (suc n) f = ap suc (length_tab n (λ k. f (suc k)))
 
 pub in_tab : {B : Type 0} (n : ℕ) (f : ℕ → B) {y : B} → In y (tab n f) → (i : ℕ) × (i < n) × (y ≡ f i)
 in_tab zero f h = absurd (not-nil h)
-in_tab (suc n) f h = ⊎_elim (λ e. (0, omega arith, e)) (λ m. let (i, l, e) = in_tab n (λ k. f (suc k)) m in (suc i, omega arith, e)) (in-cons h)
+in_tab (suc n) f h = ⊎_elim (λ e. (0, omega arith, e)) (λ m. let (i, l, e) = in_tab n (λ k. f (suc k)) m in (suc i, omega arith, e)) (in_cons h)
 
 pub tab_in : {B : Type 0} (n : ℕ) (f : ℕ → B) (i : ℕ) → i < n → In (f i) (tab n f)
 tab_in zero f i l = let z : ⊥ = omega arith in absurd z

@@ -3,7 +3,7 @@ use mathlib.Core.Path.{◌≡◌, refl, sym, ap, ◌∙◌, subst}
 use mathlib.Core.Logic.{◌⊎◌, inl, inr, ⊎_elim, ◌↔◌}
 use mathlib.Core.Option.{some}
 use mathlib.Core.List.Memᴰ
-use mathlib.Core.List.Memᴰ.{append_cases as in-append}
+use mathlib.Core.List.Memᴰ.{append_cases as in_append}
 use mathlib.Core.List.{List, [], ◌∷◌, map, Memᴰ as In}
 use mathlib.Core.Bool.{false}
 use Prim.Native.Nat.{ℕ, zero, suc, ◌+◌, ◌-◌, ◌*◌, ◌/◌, ◌%◌, ◌^◌, ◌<◌, ◌≤◌}
@@ -116,7 +116,7 @@ module _ (A B : Automaton) (sa : Wellformed A) (sb : Wellformed B) where
 
   -- a rule of the union is one of the two sets'
   pub rule_of_lem : (r : Rule) → In r U.rules → In r A.rules ⊎ ((b : Rule) × In b B.rules × (r ≡ shift_rule n A.tags b))
-  rule_of_lem r h = ⊎_elim inl (λ m. inr (in_map (shift_rule n A.tags) B.rules m)) (in-append A.rules (in_sorted _ h))
+  rule_of_lem r h = ⊎_elim inl (λ m. inr (in_map (shift_rule n A.tags) B.rules m)) (in_append A.rules (in_sorted _ h))
 
   -- a run that starts in a state of the first set stays there
   stays : (p : List ℕ) (t : Tree) (ρ : List ℕ → ℕ) → IsRun U t ρ → ρ [] < n → (u : Tree) → at t p ≡ some u → ρ p < n

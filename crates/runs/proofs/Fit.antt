@@ -18,7 +18,7 @@ use Rattle.model.proofs.Members.{T_true}
 use Rattle.model.proofs.WrittenTest.{known_row, place_with, place_without}
 use Rattle.automaton.specs.Stored.{decode}
 use Rattle.document.specs.Rows.{row_cells, row_in, decode_rows}
-use Rattle.document.specs.Check.{place_in as rowPlaceIn}
+use Rattle.document.specs.Check.{place_in as row_place_in}
 use Rattle.document.proofs.Places.{row_at_lem, rows_length}
 use Rattle.runs.specs.Steps.{place_in, decode_steps}
 use Rattle.runs.specs.Passes.{Known}
@@ -50,9 +50,9 @@ module _ (set doc run : List ℕ) (i : ℕ) (h : Known set doc run i) where
   row_known = known_row (decode set) (decode_rows doc) (decode_steps run) i ((T_true (known? (decode set) (decode_rows doc) (decode_steps run) i)).1 h.known)
 
   -- place k holds x, the row is r, and its place k holds c
-  module _ (k x r c : ℕ) (ex : x ≡ place_in run i k) (er : r ≡ (step_at (decode_steps run) i).row) (ec : c ≡ rowPlaceIn doc r k) where
+  module _ (k x r c : ℕ) (ex : x ≡ place_in run i k) (er : r ≡ (step_at (decode_steps run) i).row) (ec : c ≡ row_place_in doc r k) where
     child_is : c ≡ get_or (row_of (decode_rows doc) (decode_steps run) i).children k unused
-    child_is = ec ∙ ap (λ (n : ℕ). rowPlaceIn doc n k) er ∙ place_child set doc h.sound (step_at (decode_steps run) i).row row_known k
+    child_is = ec ∙ ap (λ (n : ℕ). row_place_in doc n k) er ∙ place_child set doc h.sound (step_at (decode_steps run) i).row row_known k
 
     place_is : place_fits? (decode set) (decode_rows doc) (decode_steps run) i k x ≡ place_fits? (decode set) (decode_rows doc) (decode_steps run) i k (place_in run i k)
     place_is = ap (place_fits? (decode set) (decode_rows doc) (decode_steps run) i k) ex

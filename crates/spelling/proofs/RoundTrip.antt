@@ -29,7 +29,7 @@ use Rattle.document.proofs.Sound.{sound_table}
 use Rattle.term.specs.Read.{rows_read, reading_map, read_of, space_after}
 use Rattle.term.specs.Spelling.{TermAt}
 use Rattle.term.proofs.Spelled.{fit_ranked, text_read}
-use Rattle.spelling.specs.Write.{fitted, unless_refused, table_text, write_of, space_after as textAfter}
+use Rattle.spelling.specs.Write.{fitted, unless_refused, table_text, write_of, space_after as text_after}
 use Rattle.spelling.specs.RoundTrip.{bytes_left, read_again, ReadBack}
 use Rattle.spelling.proofs.Standing.{from_start, stands_as}
 use Rattle.spelling.proofs.SameCells.{same_length, same_cells}
@@ -115,7 +115,7 @@ written_read set site built_in cells d n e answer room =
     let (names-pass, g) = unrefused (names_check_of (length (decode set).arities) site built_in) _ text f in
     let (table_passes, h) = unrefused (table_check_of (decode set) cells) _ text g in
     let left : bytes_left set site built_in cells d n ≡ table_text site built_in cells =
-    ap (λ w. take n (textAfter w d)) is ∙ take_at text (drop (length text) d) n long ∙ fitted_is (length d) (table_text site built_in cells) text h in
+    ap (λ w. take n (text_after w d)) is ∙ take_at text (drop (length text) d) n long ∙ fitted_is (length d) (table_text site built_in cells) text h in
     let again : read_again set site built_in cells d n e ≡ read_of set site built_in (table_text site built_in cells) (length e) = ap (λ l. read_of set site built_in l (length e)) left in
     let back = read_back set site built_in cells (length e) set-passes names-pass table_passes room in
     record {

@@ -25,7 +25,7 @@ use Rattle.names.specs.declared.NamesChecked.TheVariants.{Distinct, Refused as U
 use Rattle.names.specs.Names.{shown_name}
 use Rattle.names.specs.Table.{name_in, cell_bytes, table_of}
 use Rattle.names.specs.Check.{names_check_of, names_answer}
-use Rattle.names.proofs.Checked.{names_of, answer_is as names-is, distinct_zero}
+use Rattle.names.proofs.Checked.{names_of, answer_is as names_is, distinct_zero}
 use Rattle.names.proofs.Shown.{table_shows}
 use Rattle.document.specs.Rows.{decode_rows}
 use Rattle.document.specs.Check.{row_count, table_check_of, document_check_of}
@@ -97,7 +97,7 @@ stops a n m w e h = go n (answer_is a n e)
     go (suc k) f = cc
 
 names_stop : (a : NamesChecked) (n m : ℕ) (w : Answer (List ℕ)) → names_answer a ≡ unless n tt → a ≡ Unfit m → unless_refused n w ≡ refuses m
-names_stop a n m w e h = go n (names-is a n e)
+names_stop a n m w e h = go n (names_is a n e)
   where
     go : (k : ℕ) → a ≡ names_of k → unless_refused k w ≡ refuses m
     go zero f = let z : ◌≡◌ {A = ℕ} 0 1 = cc in absurd (omega arith)

@@ -3,7 +3,7 @@ use Rattle.std.specs.Prelude.{◌≡◌, List, ◌++◌, ℕ, ◌<◌, length, g
 use Rattle.model.specs.Table.{Row, tree_of}
 use Rattle.model.specs.Build.{rows_of, FirstFinishing}
 use Rattle.document.specs.Rows.{decode_rows}
-use Rattle.term.specs.Read.{Reading, rows_read, reading_map, read_of, space_after as rowsAfter}
+use Rattle.term.specs.Read.{Reading, rows_read, reading_map, read_of, space_after as rows_after}
 use Rattle.spelling.specs.Write.{table_text, write_of, space_after}
 
 -- the first n bytes of the space d after a table was written there
@@ -25,4 +25,4 @@ pub record ReadBack (set site built_in cells d : List ℕ) (n : ℕ) (e : List �
   -- with the same tree
   pub same_tree : tree_of (rows_of (tree_of (decode_rows cells))) ≡ tree_of (decode_rows cells)
   -- and the same cells, where the table's rows were in that order and its cells are 16-bit numbers
-  pub same_cells : FirstFinishing (decode_rows cells) → ((j : ℕ) → get_or cells j 0 < 65536) → rowsAfter (read_again set site built_in cells d n e) e ≡ cells ++ drop (length cells) e
+  pub same_cells : FirstFinishing (decode_rows cells) → ((j : ℕ) → get_or cells j 0 < 65536) → rows_after (read_again set site built_in cells d n e) e ≡ cells ++ drop (length cells) e

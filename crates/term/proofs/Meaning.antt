@@ -22,7 +22,7 @@ use Rattle.names.specs.Table.{name_in}
 use Rattle.names.proofs.First.{found_passes}
 use Rattle.term.specs.Scan.{byte_at, Got, got, fault, name_at, Scalar, scalar, scalar_at}
 use Rattle.term.specs.Grammar.{Setting, Outcome, good, refused, row_of, place_row, end_term, after_args, after_scalar, with_first, read_args, Named, named, unnamed, known_as, symbol_of, read_term}
-use Rattle.term.specs.Spelling.{NameAt, TermAt, leaf, branch, ArgsAt, last, more as after-comma}
+use Rattle.term.specs.Spelling.{NameAt, TermAt, leaf, branch, ArgsAt, last, more as after_comma}
 use Rattle.term.specs.State.{setting_of}
 use Rattle.base.proofs.Bytes.{past}
 use Rattle.base.proofs.Got.{Reads, read_is}
@@ -134,7 +134,7 @@ module _ (A : Automaton) (S : Setting) (t : List ℕ) (known : (name : List ℕ)
       more_args b js n rs a =
           record {
             forest = fcons h.tree a.forest;
-            spelled = after-comma h.spelled b a.spelled;
+            spelled = after_comma h.spelled b a.spelled;
             added = ap (λ p. ((add_forest a.forest p.0).0, p.1 ∷ (add_forest a.forest p.0).1)) h.added ∙ ap (λ p. (p.0, j ∷ p.1)) a.added;
             low = larger_least (levels h.tree) (highest a.forest) l h.low a.low;
             fits = (h.fits, a.fits);

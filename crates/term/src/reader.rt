@@ -43,7 +43,7 @@ pub(crate) enum TermPart {
 
 // The symbol that is named at a place, where a letter stands.
 fn symbol_at(text: &[u8], classes: &[u8; 256], names: &[u8], symbols: u16, at: usize) -> SymbolRead
-    requires at_value { letter? (byte_at text.now at) ≡ true }
+    requires letter { letter? (byte_at text.now at) ≡ true }
     requires lent { classes.now ≡ class_table }
     ensures { named_of result ≡ symbol_of (find_in symbols (name_in names.now)) at (name_at text.now at) }
 {

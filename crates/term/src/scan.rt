@@ -69,7 +69,7 @@ fn digit_value(b: u8) -> u64
 
 // The digits at a place, after a number; the whole number is at most `most`.
 fn digits(text: &[u8], classes: &[u8; 256], at: usize, most: u64, first: u64) -> NumberRead
-    requires le_most { 9 ≤ most }
+    requires nine { 9 ≤ most }
     requires lent { classes.now ≡ class_table }
     ensures { number_of result ≡ digits_from (length text.now - at) (most + 1) text.now first at }
 {
@@ -92,7 +92,7 @@ fn digits(text: &[u8], classes: &[u8; 256], at: usize, most: u64, first: u64) ->
 
 // The decimal number at a place, at most `most`.
 fn number(text: &[u8], classes: &[u8; 256], at: usize, most: u64) -> NumberRead
-    requires le_most { 9 ≤ most }
+    requires nine { 9 ≤ most }
     requires lent { classes.now ≡ class_table }
     ensures { number_of result ≡ number_at (most + 1) text.now at }
 {
@@ -118,7 +118,7 @@ fn is_lower_hex(classes: &[u8; 256], b: u8) -> bool
 }
 
 fn hex_value(classes: &[u8; 256], b: u8) -> u64
-    requires b_value { hex_digit? b ≡ true }
+    requires hex { hex_digit? b ≡ true }
     requires lent { classes.now ≡ class_table }
     ensures { (result ≡ hex_value b) × (result < 16) }
 {

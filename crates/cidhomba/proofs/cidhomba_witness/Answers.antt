@@ -4,4 +4,4 @@ use Rattle.cidhomba.specs.Code.{witness_code}
 use Rattle.cidhomba.proofs.cidhomba_witness.Goals as goal
 
 pub returns : goal.returns
-returns c = record { answer = c.witness_code.ensures ∙ ap witness_code c.witness.ensures.result_value; space = c.witness.ensures.space }
+returns c = record { answer = c.witness_code.ensures ∙ ap witness_code c.witness.ensures.answer; space = c.witness.ensures.space }

@@ -3,7 +3,7 @@ use Rattle.emptiness.proofs.Verdicts.{dead_answer, dead_space, live_answer, live
 use Rattle.emptiness.proofs.find.Goals as goal
 
 pub returns-then-q : goal.returns-then-q
-returns-then-q c = record { result_value = search (dead_answer, dead_space); space = search (dead_answer, dead_space) }
+returns-then-q c = record { answer = search (dead_answer, dead_space); space = search (dead_answer, dead_space) }
 
 pub returns : goal.returns
-returns c = record { result_value = search live_answer; space = search live_space }
+returns c = record { answer = search live_answer; space = search live_space }

@@ -6,13 +6,13 @@ pub sample_check-n-requires : goal.sample_check-n-requires
 sample_check-n-requires c = search outcome
 
 pub returns-then-n-ne0 : goal.returns-then-n-ne0
-returns-then-n-ne0 c = record { result_value = search outcome; space = search outcome }
+returns-then-n-ne0 c = record { answer = search outcome; space = search outcome }
 
 pub find-requires : goal.find-requires
 find-requires c = search outcome
 
 pub returns-else-n-ne0 : goal.returns-else-n-ne0
-returns-else-n-ne0 c = record { result_value = search outcome; space = search outcome }
+returns-else-n-ne0 c = record { answer = search outcome; space = search outcome }
 
 pub returns-in-Refused : goal.returns-in-Refused
-returns-in-Refused c = record { result_value = search outcome; space = search outcome }
+returns-in-Refused c = record { answer = search outcome; space = search outcome }

@@ -14,7 +14,7 @@ pub returns-then-n-room : goal.returns-then-n-room
 returns-then-n-room c = too_many c.args.set.now c.args.rows.now c.args.work.now c.args.run.now c.requires c.room_of-room.result c.count.result c.room_of-room.ensures c.count.ensures c.if-count-room.false c.annotate-n.new.work c.annotate-n.auto.work c.annotate-n.result c.annotate-n.ensures c.clear.new.work c.if-n-room.true c.clear.ensures
 
 pub write_run-s-requires : goal.write_run-s-requires
-write_run-s-requires c = record { set_value = (set_passed c.args.set.now c.args.rows.now c.requires, table_passed c.args.set.now c.args.rows.now c.requires); n_le_max_steps = spaces c.args.set.now c.args.rows.now c.args.work.now c.args.run.now c.requires c.room_of-room.result c.count.result c.room_of-room.ensures c.count.ensures c.if-count-room.false c.annotate-n.new.work c.annotate-n.auto.work c.annotate-n.result c.annotate-n.ensures c.if-n-room.false; n_value = held_in c.args.set.now c.args.rows.now c.args.work.now c.args.run.now c.requires c.room_of-room.result c.count.result c.room_of-room.ensures c.count.ensures c.if-count-room.false c.annotate-n.new.work c.annotate-n.auto.work c.annotate-n.result c.annotate-n.ensures c.if-n-room.false }
+write_run-s-requires c = record { sound = (set_passed c.args.set.now c.args.rows.now c.requires, table_passed c.args.set.now c.args.rows.now c.requires); few = spaces c.args.set.now c.args.rows.now c.args.work.now c.args.run.now c.requires c.room_of-room.result c.count.result c.room_of-room.ensures c.count.ensures c.if-count-room.false c.annotate-n.new.work c.annotate-n.auto.work c.annotate-n.result c.annotate-n.ensures c.if-n-room.false; known = held_in c.args.set.now c.args.rows.now c.args.work.now c.args.run.now c.requires c.room_of-room.result c.count.result c.room_of-room.ensures c.count.ensures c.if-count-room.false c.annotate-n.new.work c.annotate-n.auto.work c.annotate-n.result c.annotate-n.ensures c.if-n-room.false }
 
 -- no
 pub returns-then-s-eq0 : goal.returns-then-s-eq0

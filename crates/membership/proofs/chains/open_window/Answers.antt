@@ -14,7 +14,7 @@ pub class_at-c-requires : goal.class_at-c-requires
 class_at-c-requires c = omega (arith, c.loop-j.invariant.to, c.loop-j-test.true, c.requires)
 
 pub head_from-requires : goal.head_from-requires
-head_from-requires c = record { at_bound = (omega (arith, c.requires.0, c.class_at-c.ensures.1), c.loop-j.invariant.to, c.requires.3); head_of = head_of (class_in c.args.work.now) c.args.p c.loop-j.j c.args.high c.loop-j.heads c.loop-j.invariant.firsts c.class_at-c.result }
+head_from-requires c = record { bounds = (omega (arith, c.requires.0, c.class_at-c.ensures.1), c.loop-j.invariant.to, c.requires.3); head_of = head_of (class_in c.args.work.now) c.args.p c.loop-j.j c.args.high c.loop-j.heads c.loop-j.invariant.firsts c.class_at-c.result }
 
 -- the arrays' lengths are told where they are lent as slices
 pub set_cell-requires : goal.set_cell-requires

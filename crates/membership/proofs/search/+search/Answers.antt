@@ -26,7 +26,7 @@ overflow_sub-rest t c = omega (arith, c.if-left-eq0.false)
 pub first_in-j-requires : goal.first_in-j-requires
 first_in-j-requires t c =
     let (four, order, few, fits, opened) = first_needs c.args.work.now c.args.slots.now c.args.own.now c.args.plan.now c.args.asked.now c.args.left c.args.n c.args.memory.now c.args.children.now c.requires.0 c.requires.1 c.if-left-eq0.false c.args.heads.now c.args.links.now c.requires.5 in
-    record { p_bound = (four, c.class_of-c.ensures.1, order, few, fits); opened = opened }
+    record { bounds = (four, c.class_of-c.ensures.1, order, few, fits); opened = opened }
 
 pub loop-j-init : goal.loop-j-init
 loop-j-init t c = choosing c.args.work.now c.args.slots.now c.args.own.now c.args.plan.now c.args.asked.now c.args.left c.args.n c.args.memory.now c.args.children.now c.args.heads.now c.args.links.now c.args.work.now c.args.slots.now c.args.children.now c.args.tried.now c.args.n _ (start c.args.work.now c.args.slots.now c.args.own.now c.args.plan.now c.args.asked.now c.args.left c.args.n c.args.memory.now c.args.children.now c.requires.0 c.requires.1 c.if-left-eq0.false c.args.tried.now c.requires.2) c.requires.5 (omega arith) (class_in c.args.work.now) (class_start c.args.work.now c.args.slots.now c.args.own.now c.args.plan.now c.args.asked.now c.args.left c.args.n c.args.memory.now c.args.children.now c.requires.0 c.requires.1 c.if-left-eq0.false c.args.heads.now c.args.links.now c.requires.5) c.class_of-c.result c.first_in-j.result c.class_of-c.ensures.0 c.first_in-j.ensures
@@ -34,7 +34,7 @@ loop-j-init t c = choosing c.args.work.now c.args.slots.now c.args.own.now c.arg
 pub next_in-j-requires : goal.next_in-j-requires
 next_in-j-requires t c =
     let (few, fits, chained, is) = next_needs c.args.work.now c.args.slots.now c.args.own.now c.args.plan.now c.args.asked.now c.args.left c.args.n c.args.memory.now c.args.children.now c.args.heads.now c.args.links.now c.loop-j.work c.loop-j.slots c.loop-j.children c.loop-j.tried c.loop-j.m c.loop-j.j c.loop-j.invariant c.loop-j-test.true in
-    record { low_le_j = (c.loop-j.invariant.from, c.loop-j-test.true, few, fits); chained = (chained, is c.class_of-c.result c.class_of-c.ensures.0) }
+    record { bounds = (c.loop-j.invariant.from, c.loop-j-test.true, few, fits); chained = (chained, is c.class_of-c.result c.class_of-c.ensures.0) }
 
 pub choosable-requires : goal.choosable-requires
 choosable-requires t c =

@@ -10,7 +10,7 @@ returns-then-room-eq0 c = search adding
 pub is_known-requires : goal.is_known-requires
 is_known-requires c =
     let (ready, short) = c.requires in
-    record { tags_bound = (ready.few_tags, c.slot_of-slot.ensures.1, ready.count, ready.few, ready.space); slot_value = c.slot_of-slot.ensures.0; indexed = (ready.indexed, short) }
+    record { bounds = (ready.few_tags, c.slot_of-slot.ensures.1, ready.count, ready.few, ready.space); slot_is = c.slot_of-slot.ensures.0; indexed = (ready.indexed, short) }
 
 pub returns-then-is_known : goal.returns-then-is_known
 returns-then-is_known c = search adding

@@ -42,7 +42,7 @@ pub by_row-n-requires : goal.by_row-n-requires
 by_row-n-requires c =
     let len = rows_length c.args.rows.now in
     let is_row : c.loop-i.i < length (decode_rows c.args.rows.now) = omega (arith, len, c.count-end.ensures, c.loop-i-test.true) in
-    let same = sym c.narrow-in-loop-i.ensures in record { set_value = (c.loop-i.invariant.ok, c.loop-i.invariant.table); before = subst (λ k. Before (decode c.args.set.now) (decode_rows c.args.rows.now) k c.room_of-room.result c.size-tags.result c.loop-i.work c.loop-i.slots c.loop-i.n) same (row_before c.args.set.now c.args.rows.now c.room_of-room.result c.size-tags.result (length c.args.work.now) c.loop-i.starts c.loop-i.tried c.loop-i.work c.loop-i.slots c.loop-i.n c.loop-i.i c.loop-i.invariant is_row); starts = (subst (λ k. Starts (decode c.args.set.now) (decode_rows c.args.rows.now) (set c.loop-i.starts c.loop-i.i c.narrow.result) k) same (row_starts c.args.set.now c.args.rows.now c.room_of-room.result c.size-tags.result (length c.args.work.now) c.loop-i.starts c.loop-i.tried c.loop-i.work c.loop-i.slots c.loop-i.n c.loop-i.i c.loop-i.invariant is_row c.narrow.result c.narrow.ensures), c.first_rules-firsts.ensures); rules_read = (subst (λ k. RulesRead (decode c.args.set.now) k c.read_rules.new.rules) c.header-head.ensures.rules c.read_rules.ensures, subst (λ k. Fresh k 0 c.loop-i.tried) same c.loop-i.invariant.fresh) }
+    let same = sym c.narrow-in-loop-i.ensures in record { sound = (c.loop-i.invariant.ok, c.loop-i.invariant.table); before = subst (λ k. Before (decode c.args.set.now) (decode_rows c.args.rows.now) k c.room_of-room.result c.size-tags.result c.loop-i.work c.loop-i.slots c.loop-i.n) same (row_before c.args.set.now c.args.rows.now c.room_of-room.result c.size-tags.result (length c.args.work.now) c.loop-i.starts c.loop-i.tried c.loop-i.work c.loop-i.slots c.loop-i.n c.loop-i.i c.loop-i.invariant is_row); starts = (subst (λ k. Starts (decode c.args.set.now) (decode_rows c.args.rows.now) (set c.loop-i.starts c.loop-i.i c.narrow.result) k) same (row_starts c.args.set.now c.args.rows.now c.room_of-room.result c.size-tags.result (length c.args.work.now) c.loop-i.starts c.loop-i.tried c.loop-i.work c.loop-i.slots c.loop-i.n c.loop-i.i c.loop-i.invariant is_row c.narrow.result c.narrow.ensures), c.first_rules-firsts.ensures); rules_read = (subst (λ k. RulesRead (decode c.args.set.now) k c.read_rules.new.rules) c.header-head.ensures.rules c.read_rules.ensures, subst (λ k. Fresh k 0 c.loop-i.tried) same c.loop-i.invariant.fresh) }
 
 pub shape_of-work-then-n-room : goal.shape_of-work-then-n-room
 shape_of-work-then-n-room c = c.by_row-n.auto.work ∙ c.loop-i.invariant.space

@@ -7,15 +7,15 @@ use Rattle.membership.proofs.Rowing.{separate_of, few_rules, width_small, symbol
 use Rattle.membership.proofs.table.by_row.Goals as goal
 
 pub plan_for-plan-requires : goal.plan_for-plan-requires
-plan_for-plan-requires c = width_small c.args.set.now c.args.rows.now c.args.i.0 c.requires.set_value.0 c.requires.set_value.1 c.requires.before.row c.symbol-f.result c.size-width.result (c.size-width.ensures.0 ∙ c.arity.ensures)
+plan_for-plan-requires c = width_small c.args.set.now c.args.rows.now c.args.i.0 c.requires.sound.0 c.requires.sound.1 c.requires.before.row c.symbol-f.result c.size-width.result (c.size-width.ensures.0 ∙ c.arity.ensures)
 
 pub open_windows-requires : goal.open_windows-requires
-open_windows-requires c = separate_of c.args.set.now c.args.rows.now c.args.starts.now c.args.work.now c.args.slots.now c.args.i.0 c.args.tags c.args.room c.args.n c.symbol-f.result c.size-width.result c.plan_for-plan.result c.requires.set_value.0 c.requires.set_value.1 c.requires.before c.requires.starts.0 c.symbol-f.ensures (c.size-width.ensures.0 ∙ c.arity.ensures) c.plan_for-plan.ensures
+open_windows-requires c = separate_of c.args.set.now c.args.rows.now c.args.starts.now c.args.work.now c.args.slots.now c.args.i.0 c.args.tags c.args.room c.args.n c.symbol-f.result c.size-width.result c.plan_for-plan.result c.requires.sound.0 c.requires.sound.1 c.requires.before c.requires.starts.0 c.symbol-f.ensures (c.size-width.ensures.0 ∙ c.arity.ensures) c.plan_for-plan.ensures
 
 pub loop-r-init : goal.loop-r-init
 loop-r-init c =
-    let small = symbol_small c.args.set.now c.args.rows.now c.args.i.0 c.requires.set_value.0 c.requires.set_value.1 c.requires.before.row c.symbol-f.result c.symbol-f.ensures in
-    rowing_start c.args.set.now c.args.rows.now c.args.starts.now c.args.rules.now c.args.work.now c.args.slots.now c.args.i.0 c.args.tags c.args.room c.args.n c.symbol-f.result c.size-width.result c.plan_for-plan.result c.open_windows.new.heads c.open_windows.new.links c.cell_at-end.result c.cell_at-r.result c.requires.set_value.0 c.requires.set_value.1 c.requires.before c.requires.starts.0 c.symbol-f.ensures (c.size-width.ensures.0 ∙ c.arity.ensures) c.plan_for-plan.ensures
+    let small = symbol_small c.args.set.now c.args.rows.now c.args.i.0 c.requires.sound.0 c.requires.sound.1 c.requires.before.row c.symbol-f.result c.symbol-f.ensures in
+    rowing_start c.args.set.now c.args.rows.now c.args.starts.now c.args.rules.now c.args.work.now c.args.slots.now c.args.i.0 c.args.tags c.args.room c.args.n c.symbol-f.result c.size-width.result c.plan_for-plan.result c.open_windows.new.heads c.open_windows.new.links c.cell_at-end.result c.cell_at-r.result c.requires.sound.0 c.requires.sound.1 c.requires.before c.requires.starts.0 c.symbol-f.ensures (c.size-width.ensures.0 ∙ c.arity.ensures) c.plan_for-plan.ensures
     (first_at (decode c.args.set.now) c.args.firsts.now c.symbol-f.result c.size-at.result c.cell_at-r.result c.requires.starts.1 (omega (arith, small)) c.size-at.ensures.0 c.cell_at-r.ensures)
     (first_at (decode c.args.set.now) c.args.firsts.now (c.symbol-f.result + 1) (c.size-at.result + 1) c.cell_at-end.result c.requires.starts.1 (omega (arith, small)) (ap (λ z. z + 1) c.size-at.ensures.0) c.cell_at-end.ensures)
     c.requires.rules_read.0 c.args.tried.now c.requires.rules_read.1 c.open_windows.ensures

@@ -94,7 +94,7 @@ pub term-returns-then-level-eq0 : goal.term-returns-then-level-eq0
 term-returns-then-level-eq0 t c = says_by _ _ _ _ (too_deep _ _ _ _ (let h : letter? (get_or c.args.text.now c.args.at 0) ≡ true = ap letter? (sym c.byte_at.ensures) ∙ sym (c.is_letter.ensures.compared c.requires.lent) ∙ c.if-not-is_letter.false in h) _ c.if-level-eq0.true) refl
 
 pub term-symbol_at-requires : goal.term-symbol_at-requires
-term-symbol_at-requires t c = record { at_value = (let h : letter? (get_or c.args.text.now c.args.at 0) ≡ true = ap letter? (sym c.byte_at.ensures) ∙ sym (c.is_letter.ensures.compared c.requires.lent) ∙ c.if-not-is_letter.false in h); lent = search rules }
+term-symbol_at-requires t c = record { letter = (let h : letter? (get_or c.args.text.now c.args.at 0) ≡ true = ap letter? (sym c.byte_at.ensures) ∙ sym (c.is_letter.ensures.compared c.requires.lent) ∙ c.if-not-is_letter.false in h); lent = search rules }
 
 pub term-returns-then-byte_at-ne40 : goal.term-returns-then-byte_at-ne40
 term-returns-then-byte_at-ne40 t c =

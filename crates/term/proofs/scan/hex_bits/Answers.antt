@@ -19,7 +19,7 @@ pub overflow_mul-v : goal.overflow_mul-v
 overflow_mul-v c = omega (arith, hex_room _ _ _ _ _ c.loop-n.invariant c.loop-n-test.true)
 
 pub hex_value-requires : goal.hex_value-requires
-hex_value-requires c = record { b_value = sym c.is_lower_hex.ensures ∙ c.if-not-is_lower_hex.false; lent = search rules }
+hex_value-requires c = record { hex = sym c.is_lower_hex.ensures ∙ c.if-not-is_lower_hex.false; lent = search rules }
 
 pub overflow_add-v : goal.overflow_add-v
 overflow_add-v c = omega (arith, hex_room _ _ _ _ _ c.loop-n.invariant c.loop-n-test.true)
