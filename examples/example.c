@@ -59,10 +59,10 @@ static void checks(void)
          cidhomba_check_run(set_e, LENGTH(set_e), unequal, LENGTH(unequal), run, LENGTH(run)));
 }
 
-/* Whether a set lets a table in: room for eight annotations is plenty here. The work space need hold no values. */
+/* Whether a set lets a table in: room for eight annotations is plenty here. The work space must hold values. */
 static uint64_t judged(const uint8_t *set, size_t set_length, const uint16_t *rows, size_t rows_length)
 {
-    uint16_t work[8 * CIDHOMBA_ANNOTATION_CELLS];
+    uint16_t work[8 * CIDHOMBA_ANNOTATION_CELLS] = {0};
     uint16_t run[8 * CIDHOMBA_STEP_CELLS];
     return cidhomba_membership(set, set_length, rows, rows_length, work, LENGTH(work), run, LENGTH(run));
 }

@@ -275,11 +275,11 @@ uint64_t cidhomba_check_run(const uint8_t *set, size_t set_length,
 
 /* Judges whether the set lets the document in. Value: 0 for no; for yes the number of steps of a run that shows
  * it, written to the front of run. Refuses: set, table, 32, 31.
- * The room is work_length / 32, at most 4,096; the run space must hold as many steps of six cells. No cell of
- * the work space is read before this call has written it. It is all zeros afterwards, but untouched where set, table
- * or 32 refuse. A no leaves the run space as it was.
- * No number refuses for time: the question is NP-complete, and a set may make it hard. A room no larger than the sets
- * need bounds the annotations, and so the time; a thread of its own for judging bounds what a document can hold up. */
+ * The room is work_length / 32, at most 4,096; the run space must hold as many steps of six cells. The work space
+ * must hold values, and zeros will do: of each 32 cells the one with number 24 may be read before it is written.
+ * Neither the answer nor what is promised of the run depends on them. The work space is all zeros afterwards, but
+ * untouched where set, table or 32 refuse. A no leaves the run space as it was.
+ * No number refuses for time: the question is NP-complete, and a set may make it hard. */
 uint64_t cidhomba_membership(const uint8_t *set, size_t set_length,
                              const uint16_t *rows, size_t rows_length,
                              uint16_t *work, size_t work_length,

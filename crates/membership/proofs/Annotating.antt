@@ -9,7 +9,7 @@ use native.Mathlib.Numerals.{add-one}
 use native.Mathlib.Decide.{ℕ_discrete}
 use borrow.Author.Tests.{leb-true, leb-false}
 use lib.Dec.{leb}
-use lib.ListN.{length, get_or, set, replicate, length-set, length-map}
+use lib.ListN.{length, get_or, set, length-set, length-map}
 use lib.Seq.{get_or-set_same, get_or-set_other}
 use Rattle.model.specs.Limits.{max_steps, max_rows}
 use Rattle.model.specs.Automaton.{Automaton}
@@ -25,12 +25,10 @@ use Rattle.membership.specs.Entries.{Entry, annotations_of, entries_in, Grown}
 use Rattle.membership.specs.Listing.{entries_below}
 use Rattle.membership.specs.Plan.{Starts, Before}
 use Rattle.membership.specs.Annotated.{Annotated}
-use Rattle.membership.specs.Tried.{stamp_in, Fresh}
 use Rattle.membership.proofs.Adding.{length_entries}
 use Rattle.membership.proofs.Storing.{entries_annotations}
 use Rattle.membership.proofs.Listing as listing
 use Rattle.membership.proofs.ByRow.{few_children}
-use Rattle.membership.proofs.Rowing.{zeros}
 use Rattle.membership.proofs.Starts.{starts_rise, sourced_in}
 
 -- the room fits the space
@@ -42,26 +40,19 @@ room_fits cells = go (leb (cells / annotation_cells) max_steps) refl
     go true e = (leb-true (cells / annotation_cells) max_steps e, div-mul-le_self cells annotation_cells)
     go false e = let l = leb-false (cells / annotation_cells) max_steps e in (omega arith, omega (arith, div-mul-le_self cells annotation_cells))
 
--- slots of zeros
-pub fresh_zeros : (n : ℕ) → Fresh 0 0 (replicate n 0)
-unfolding stamp_in
-fresh_zeros n s l = let a = zeros n (s * 18) in let b = zeros n (s * 18 + 1) in omega (arith, a, b)
-
 none_in : (tags : ℕ) (work : List ℕ) (A : Automaton) (rows : List Row) → entries_in tags work 0 ≡ entries_below A rows 0
 unfolding entries_in entries_below
 none_in tags work A rows = refl
 
-none_indexed : (tags room : ℕ) (work slots : List ℕ) → Indexed tags room work slots 0
-none_indexed tags room work slots = record { chains = λ j l. absurd (none j l); short = λ j l. absurd (none j l) }
-  where
-    none : (j : ℕ) → j < 0 → ⊥
-    none j l = omega arith
+none_indexed : (tags room : ℕ) (work : List ℕ) → Indexed tags room work 0
+unfolding Indexed
+none_indexed tags room work j l = let z : ⊥ = omega arith in absurd z
 
 -- the entries of all rows are the table's annotations
 count_all : (A : Automaton) (rows : List Row) → length (entries_below A rows (length rows)) ≡ length (annotations A rows)
 count_all A rows = sym (length-map (entries_below A rows (length rows)) (λ (e : Entry). e.annotation)) ∙ ap length (listing.entries_annotations A rows (length rows))
 
-pub record Annotating (s cells : List ℕ) (room tags long : ℕ) (starts tried work slots : List ℕ) (n i : ℕ) : Type 0 where
+pub record Annotating (s cells : List ℕ) (room tags long : ℕ) (starts work : List ℕ) (n i : ℕ) : Type 0 where
   pub ok : check_of s ≡ 0
   pub table : SoundTable (decode s) (decode_rows cells)
   pub tags_are : tags ≡ (decode s).tags
@@ -71,13 +62,12 @@ pub record Annotating (s cells : List ℕ) (room tags long : ℕ) (starts tried 
   pub inside : i ≤ length (decode_rows cells)
   pub count : n ≤ room
   pub entries : entries_in tags work n ≡ entries_below (decode s) (decode_rows cells) i
-  pub indexed : Indexed tags room work slots n
-  pub fresh : Fresh i 0 tried
+  pub indexed : Indexed tags room work n
   pub started : (c : ℕ) → c < i → get_or starts c 0 ≡ length (entries_below (decode s) (decode_rows cells) c)
 
 module _ (s cells : List ℕ) (room tags long : ℕ) where
-  pub annotating_start : (starts tried work slots : List ℕ) → check_of s ≡ 0 → SoundTable (decode s) (decode_rows cells) → tags ≡ (decode s).tags → room ≡ room_of long → length work ≡ long → length starts ≡ max_rows → Fresh 0 0 tried → Annotating s cells room tags long starts tried work slots 0 0
-  annotating_start starts tried work slots ok table et er el ew ef =
+  pub annotating_start : (starts work : List ℕ) → check_of s ≡ 0 → SoundTable (decode s) (decode_rows cells) → tags ≡ (decode s).tags → room ≡ room_of long → length work ≡ long → length starts ≡ max_rows → Annotating s cells room tags long starts work 0 0
+  annotating_start starts work ok table et er el ew =
       record {
         ok = ok;
         table = table;
@@ -88,16 +78,15 @@ module _ (s cells : List ℕ) (room tags long : ℕ) where
         inside = omega arith;
         count = omega arith;
         entries = none_in tags work (decode s) (decode_rows cells);
-        indexed = none_indexed tags room work slots;
-        fresh = ef;
+        indexed = none_indexed tags room work;
         started = λ c l. let z : ⊥ = omega arith in absurd z;
       }
 
-  module _ (starts tried work slots : List ℕ) (n i : ℕ) (h : Annotating s cells room tags long starts tried work slots n i) where
+  module _ (starts work : List ℕ) (n i : ℕ) (h : Annotating s cells room tags long starts work n i) where
     pub room_small : (n ≤ 4096) × (room ≤ 4096) × (room * 32 ≤ length work)
     room_small = let (a, b) = room_fits long in let e = h.room_is in let c = h.count in let l = h.space in (omega arith, omega arith, omega arith)
 
-    pub row_before : i < length (decode_rows cells) → Before (decode s) (decode_rows cells) i room tags work slots n
+    pub row_before : i < length (decode_rows cells) → Before (decode s) (decode_rows cells) i room tags work n
     row_before l =
         let (a, b, c) = room_small in
         record { row = l; tags_are = h.tags_are; count = h.count; few = b; space = c; entries = h.entries; indexed = h.indexed }
@@ -112,8 +101,8 @@ module _ (s cells : List ℕ) (room tags long : ℕ) where
             rw q (get_or-set_same starts i v 0 (omega arith) ∙ ev ∙ sym (length_entries tags work n) ∙ ap length h.entries)
         go (no q) = get_or-set_other starts i c v 0 q ∙ h.started c (omega (arith, q))
 
-    module _ (l : i < length (decode_rows cells)) (v : ℕ) (ev : v ≡ n) (work' tried' slots' : List ℕ) (n' : ℕ) (g : Grown n room tags (entries_below (decode s) (decode_rows cells) (suc i)) work' slots' n') (f' : n' ≤ room → Fresh (suc i) 0 tried') where
-      pub annotating_more : length work' ≡ length work → n' ≤ room → Annotating s cells room tags long (set starts i v) tried' work' slots' n' (i + 1)
+    module _ (l : i < length (decode_rows cells)) (v : ℕ) (ev : v ≡ n) (work' : List ℕ) (n' : ℕ) (g : Grown n room tags (entries_below (decode s) (decode_rows cells) (suc i)) work' n') where
+      pub annotating_more : length work' ≡ length work → n' ≤ room → Annotating s cells room tags long (set starts i v) work' n' (i + 1)
       annotating_more e f =
           record {
             ok = h.ok;
@@ -126,7 +115,6 @@ module _ (s cells : List ℕ) (room tags long : ℕ) where
             count = f;
             entries = g.held f ∙ ap (entries_below (decode s) (decode_rows cells)) (sym (add-one i));
             indexed = g.indexed f;
-            fresh = λ k m. let z = f' f k m in omega arith;
             started = λ c m. row_starts l v ev c (omega arith);
           }
 

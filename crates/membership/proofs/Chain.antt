@@ -8,13 +8,13 @@ use native.Mathlib.Numerals.{add-one}
 use borrow.Author.Rules.{rules}
 use borrow.Author.Tests.{le-leb, lt-leb, leb-true}
 use lib.Dec.{T, leb}
-use lib.ListN.{length, get_or, set}
+use lib.ListN.{length, get_or, set, length-set}
 use lib.Seq.{get_or-set_same, get_or-set_other}
 use Rattle.model.specs.Lists.{any, tab}
 use Rattle.model.specs.Annotation.{Annotation, eq_annotation}
 use Rattle.model.proofs.Members.{T_true, in_any, any_in, eq_annotation→eq}
 use Rattle.model.proofs.Tab.{in_tab, tab_in}
-use Rattle.membership.specs.Cells.{cell_of, annotation_in, ShortIn, annotations_in}
+use Rattle.membership.specs.Cells.{cell_of, annotation_in, annotations_in}
 use Rattle.membership.specs.Index.{slot_of, first_in, next_in, link_of, OnChain, newest, older, Indexed, Linked}
 
 pub not_T : (b : Bool) → (T b → ⊥) → false ≡ b
@@ -54,19 +54,17 @@ pub record Walking (tags : ℕ) (work : List ℕ) (n : ℕ) (a : Annotation) (i 
   pub left : (j : ℕ) → j < n → T (eq_annotation a (annotation_in tags work j)) → OnChain work n j i
 
 module _ (tags room : ℕ) (work : List ℕ) (n : ℕ) (a : Annotation) where
-  pub walk_start : (slots : List ℕ) (s i : ℕ) → Indexed tags room work slots n → s ≡ slot_of room a → i ≡ link_of n (get_or slots s 0) → Walking tags work n a i
-  walk_start slots s i index es ei =
+  pub walk_start : (s i : ℕ) → Indexed tags room work n → s ≡ slot_of room a → i ≡ link_of n (get_or work (s * 32 + 24) 0) → Walking tags work n a i
+  unfolding Indexed first_in cell_of
+  walk_start s i index es ei =
       record {
-        inside = rw ei (link_bound n (first_in slots s));
+        inside = rw ei (link_bound n (get_or work (s * 32 + 24) 0));
         left = λ j l t.
-            let c = subst (λ z. OnChain work n j (first_in slots z)) (ap (slot_of room) (sym (eq_annotation→eq a (annotation_in tags work j) t)) ∙ sym es) (index.chains j l) in
-            subst (OnChain work n j) (sym (ei ∙ link_is n (first_in slots s) (chain_bound work n c))) c;
+            let c = subst (λ z. OnChain work n j (first_in work z)) (ap (slot_of room) (sym (eq_annotation→eq a (annotation_in tags work j) t)) ∙ sym es) (index j l) in
+            subst (OnChain work n j) (sym (ei ∙ link_is n (get_or work (s * 32 + 24) 0) (chain_bound work n c))) c;
       }
 
   module _ (i : ℕ) (w : Walking tags work n a i) where
-    pub walk_short : (slots : List ℕ) → Indexed tags room work slots n → 0 < i → ShortIn tags work (i - 1)
-    walk_short slots index l = index.short (i - 1) (let h = w.inside in omega arith)
-
     pub walk_end : i ≤ 0 → false ≡ any (eq_annotation a) (annotations_in tags work n)
     unfolding annotations_in
     walk_end l =
@@ -102,15 +100,17 @@ link_none most x y e l = rw (← e) (sym (ap (λ b. cond b x 0) (lt-leb x most l
 pub ruleset links = (link_some, link_none, rules)
 
 -- a new first of a slot
-pub linked : (work slots : List ℕ) (s n v : ℕ) → n * 32 + 32 ≤ length work → s < length slots → v ≡ link_of n (first_in slots s) → Linked work slots s n (set work (n * 32 + 25) v) (set slots s (n + 1))
-unfolding next_in cell_of
-linked work slots s n v ln ls e =
+pub linked : (work : List ℕ) (s n v : ℕ) → n * 32 + 32 ≤ length work → s * 32 + 32 ≤ length work → v ≡ link_of n (get_or work (s * 32 + 24) 0) → Linked work s n (set (set work (n * 32 + 25) v) (s * 32 + 24) (n + 1))
+unfolding first_in next_in cell_of
+linked work s n v ln ls e =
+    let mid : List ℕ = set work (n * 32 + 25) v in
+    let long = length-set work (n * 32 + 25) v in
     record {
-      cells = λ j k l. get_or-set_other work (n * 32 + 25) (j * 32 + k) v 0 (λ q. omega arith);
-      next = get_or-set_same work (n * 32 + 25) v 0 (omega arith) ∙ e;
-      nexts = λ j other. get_or-set_other work (n * 32 + 25) (j * 32 + 25) v 0 (λ q. other (omega arith));
-      first = get_or-set_same slots s (n + 1) 0 ls ∙ add-one n;
-      firsts = λ t other. get_or-set_other slots s t (n + 1) 0 other;
+      cells = λ j k l. get_or-set_other mid (s * 32 + 24) (j * 32 + k) (n + 1) 0 (λ q. omega arith) ∙ get_or-set_other work (n * 32 + 25) (j * 32 + k) v 0 (λ q. omega arith);
+      next = get_or-set_other mid (s * 32 + 24) (n * 32 + 25) (n + 1) 0 (λ q. omega arith) ∙ get_or-set_same work (n * 32 + 25) v 0 (omega arith) ∙ e;
+      nexts = λ j other. get_or-set_other mid (s * 32 + 24) (j * 32 + 25) (n + 1) 0 (λ q. omega arith) ∙ get_or-set_other work (n * 32 + 25) (j * 32 + 25) v 0 (λ q. other (omega arith));
+      first = get_or-set_same mid (s * 32 + 24) (n + 1) 0 (omega arith) ∙ add-one n;
+      firsts = λ t other. get_or-set_other mid (s * 32 + 24) (t * 32 + 24) (n + 1) 0 (λ q. other (omega arith)) ∙ get_or-set_other work (n * 32 + 25) (t * 32 + 24) v 0 (λ q. omega arith);
     }
 
-pub ruleset walks = (walk_start, walk_short, walk_end, walk_found, walk_on, rules)
+pub ruleset walks = (walk_start, walk_end, walk_found, walk_on, rules)

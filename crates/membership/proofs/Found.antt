@@ -13,8 +13,9 @@ use Rattle.model.specs.Written.{rule_at}
 use Rattle.model.specs.Annotation.{Memory, Annotation, annotation, agree?, joined, own_memory, kept}
 use Rattle.membership.specs.Cells.{without}
 use Rattle.membership.specs.Entries.{Entry}
-use Rattle.membership.specs.Search.{span, no_annotation, choosable?, tags_in, arity_in, low_in, high_in, row_asked, rule_asked, target_asked, forget_asked, state_asked, finished, leaving, chosen, found}
+use Rattle.membership.specs.Search.{span, no_annotation, choosable?, asked_state, finished, leaving, chosen, found}
 use Rattle.membership.specs.Listing.{last_step, taken, made}
+use Rattle.membership.specs.declared.search.Want.{Want}
 use Rattle.membership.proofs.Spans.{concat_map_same, span_window}
 
 -- the annotations of a row are those from low up to high
@@ -24,24 +25,24 @@ pub record Window (known : List Annotation) (row low high : ℕ) : Type 0 where
   pub inside : (j : ℕ) → low ≤ j → j < high → (get_or known j no_annotation).row ≡ row
   pub all : (j : ℕ) → j < length known → (get_or known j no_annotation).row ≡ row → (low ≤ j) × (j < high)
 
--- what a plan and what is asked say of rule r on row i, with children on the rows cs in the states qs
-pub record Asked (A : Automaton) (known : List Annotation) (plan asked : List ℕ) (own : Memory) (i r : ℕ) (cs qs : List ℕ) : Type 0 where
-  pub row : row_asked asked ≡ i
-  pub target : target_asked asked ≡ (rule_at A r).target
-  pub rule : rule_asked asked ≡ r
-  pub forget : forget_asked asked ≡ (rule_at A r).forget
-  pub tags : tags_in plan ≡ A.tags
+-- what a Want says of rule r on row i, with children on the rows cs in the states qs
+pub record Asked (A : Automaton) (known : List Annotation) (want : Want) (own : Memory) (i r : ℕ) (cs qs : List ℕ) : Type 0 where
+  pub row : want.row.0 ≡ i
+  pub target : want.target.0 ≡ (rule_at A r).target
+  pub rule : want.rule ≡ r
+  pub forget : want.forget ≡ (rule_at A r).forget
+  pub tags : want.tags ≡ A.tags
   pub own_is : own ≡ own_memory A (rule_at A r).target i
-  pub rows_are : length cs ≡ arity_in plan
-  pub states_are : length qs ≡ arity_in plan
-  pub states : (p : ℕ) → p < arity_in plan → state_asked asked p ≡ get_or qs p 0
-  pub windows : (p : ℕ) → p < arity_in plan → Window known (get_or cs p 0) (low_in plan p) (high_in plan p)
+  pub rows_are : length cs ≡ want.arity
+  pub states_are : length qs ≡ want.arity
+  pub states : (p : ℕ) → p < want.arity → asked_state want p ≡ get_or qs p 0
+  pub windows : (p : ℕ) → p < want.arity → Window known (get_or cs p 0) (get_or want.low p 0) (get_or want.high p 0)
 
-module _ (A : Automaton) (known : List Annotation) (plan asked : List ℕ) (own : Memory) (i r : ℕ) (cs qs : List ℕ) (asks : Asked A known plan asked own i r cs qs) where
-  last_is : (m : Memory) (children : List ℕ) → leaving plan asked own m children ≡ last_step A i r m children
+module _ (A : Automaton) (known : List Annotation) (want : Want) (own : Memory) (i r : ℕ) (cs qs : List ℕ) (asked : Asked A known want own i r cs qs) where
+  last_is : (m : Memory) (children : List ℕ) → leaving want own m children ≡ last_step A i r m children
   last_is m children =
-      ap (λ x. finished asked own x children) (λ x. without (asks.tags x) (asks.forget x) m)
-      ∙ go (row_asked asked) (target_asked asked) (rule_asked asked) own asks.row asks.target asks.rule asks.own_is
+      ap (λ x. finished want own x children) (λ x. without (asked.tags x) (asked.forget x) m)
+      ∙ go want.row.0 want.target.0 want.rule own asked.row asked.target asked.rule asked.own_is
       ∙ same (agree? left (own_memory A q i))
     where
       q : ℕ
@@ -60,22 +61,22 @@ module _ (A : Automaton) (known : List Annotation) (plan asked : List ℕ) (own 
       same true = refl
       same false = refl
 
-  pub found_made : (left p : ℕ) → p + left ≡ arity_in plan → (m : Memory) (children : List ℕ) → found known plan asked own left m children ≡ made known (last_step A i r) p m children (drop p cs) (drop p qs)
+  pub found_made : (left p : ℕ) → p + left ≡ want.arity → (m : Memory) (children : List ℕ) → found known want own left m children ≡ made known (last_step A i r) p m children (drop p cs) (drop p qs)
   unfolding found made
   found_made zero p e m children =
       last_is m children
-      ∙ (λ x. made known (last_step A i r) p m children (sym (drop_of_length-le cs {i = p} (omega (arith, asks.rows_are))) x) (sym (drop_of_length-le qs {i = p} (omega (arith, asks.states_are))) x))
+      ∙ (λ x. made known (last_step A i r) p m children (sym (drop_of_length-le cs {i = p} (omega (arith, asked.rows_are))) x) (sym (drop_of_length-le qs {i = p} (omega (arith, asked.states_are))) x))
   found_made (suc left) p e m children =
-      let place : arity_in plan - suc left ≡ p = omega arith in
-      let lp : p < arity_in plan = omega arith in
-      let w = asks.windows p lp in
-      ap (λ k. concat_map (chosen known k (state_asked asked k) (λ x c. found known plan asked own left x c) m children) (span (low_in plan k) (high_in plan k - low_in plan k))) place
-      ∙ concat_map_same (chosen known p (state_asked asked p) (λ x c. found known plan asked own left x c) m children) (taken known p (get_or cs p 0) (get_or qs p 0) next m children) (low_in plan p) (high_in plan p - low_in plan p)
+      let place : want.arity - suc left ≡ p = omega arith in
+      let lp : p < want.arity = omega arith in
+      let w = asked.windows p lp in
+      ap (λ k. concat_map (chosen known want k (λ x c. found known want own left x c) m children) (span (get_or want.low k 0) (get_or want.high k 0 - get_or want.low k 0))) place
+      ∙ concat_map_same (chosen known want p (λ x c. found known want own left x c) m children) (taken known p (get_or cs p 0) (get_or qs p 0) next m children) (get_or want.low p 0) (get_or want.high p 0 - get_or want.low p 0)
       (λ j a b. let o = w.order in inside lp (λ x d. found_made left (suc p) (omega arith) x d) j (w.inside j a (omega arith)))
-      ∙ sym (span_window (taken known p (get_or cs p 0) (get_or qs p 0) next m children) (low_in plan p) (high_in plan p) (length known) w.order w.top
+      ∙ sym (span_window (taken known p (get_or cs p 0) (get_or qs p 0) next m children) (get_or want.low p 0) (get_or want.high p 0) (length known) w.order w.top
       (λ j l. let t = w.top in let o = w.order in outside j (λ z. let (x, y) = w.all j (omega arith) z in omega arith))
       (λ j l l'. outside j (λ z. let (x, y) = w.all j l' z in omega arith)))
-      ∙ (λ x. made known (last_step A i r) p m children (sym (drop-cons cs p 0 (omega (arith, asks.rows_are))) x) (sym (drop-cons qs p 0 (omega (arith, asks.states_are))) x))
+      ∙ (λ x. made known (last_step A i r) p m children (sym (drop-cons cs p 0 (omega (arith, asked.rows_are))) x) (sym (drop-cons qs p 0 (omega (arith, asked.states_are))) x))
     where
       next : Memory → List ℕ → List Entry
       next x d = made known (last_step A i r) (suc p) x d (drop (suc p) cs) (drop (suc p) qs)
@@ -83,8 +84,8 @@ module _ (A : Automaton) (known : List Annotation) (plan asked : List ℕ) (own 
       outside : (j : ℕ) → ((get_or known j no_annotation).row ≡ get_or cs p 0 → ⊥) → taken known p (get_or cs p 0) (get_or qs p 0) next m children j ≡ []
       outside j h = ap (λ b. only (b && choosable? (get_or qs p 0) m (get_or known j no_annotation)) (next (joined m (get_or known j no_annotation).memory) (set children p j))) (ne_eqb (get_or known j no_annotation).row (get_or cs p 0) h)
 
-      inside : p < arity_in plan → ((x : Memory) (d : List ℕ) → found known plan asked own left x d ≡ next x d) → (j : ℕ) → (get_or known j no_annotation).row ≡ get_or cs p 0 → chosen known p (state_asked asked p) (λ x c. found known plan asked own left x c) m children j ≡ taken known p (get_or cs p 0) (get_or qs p 0) next m children j
+      inside : p < want.arity → ((x : Memory) (d : List ℕ) → found known want own left x d ≡ next x d) → (j : ℕ) → (get_or known j no_annotation).row ≡ get_or cs p 0 → chosen known want p (λ x c. found known want own left x c) m children j ≡ taken known p (get_or cs p 0) (get_or qs p 0) next m children j
       inside lp same j h =
-          ap (λ s. only (choosable? s m (get_or known j no_annotation)) (found known plan asked own left (joined m (get_or known j no_annotation).memory) (set children p j))) (asks.states p lp)
+          ap (λ s. only (choosable? s m (get_or known j no_annotation)) (found known want own left (joined m (get_or known j no_annotation).memory) (set children p j))) (asked.states p lp)
           ∙ ap (only (choosable? (get_or qs p 0) m (get_or known j no_annotation))) (same (joined m (get_or known j no_annotation).memory) (set children p j))
           ∙ sym (ap (λ b. only (b && choosable? (get_or qs p 0) m (get_or known j no_annotation)) (next (joined m (get_or known j no_annotation).memory) (set children p j))) (eq-eqb (get_or known j no_annotation).row (get_or cs p 0) h))

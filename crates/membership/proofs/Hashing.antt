@@ -22,16 +22,17 @@ mixed_same f g (suc n) h e = cc (mixed_same f g n h (λ k l. e k (omega arith)),
 pub record Mixing (start : ℕ) (memory : List ℕ) (tags h k : ℕ) : Type 0 where
   pub inside : k ≤ tags
   pub small : h < 65536
+  pub wide : length memory ≡ 16
   pub is : h ≡ mixed_to (λ k. get_or memory k 0) k start
 
 module _ (start : ℕ) (memory : List ℕ) (tags : ℕ) where
-  pub mixing_none : start < 65536 → Mixing start memory tags start 0
+  pub mixing_none : length memory ≡ 16 → start < 65536 → Mixing start memory tags start 0
   unfolding mixed_to
-  mixing_none l = record { inside = omega arith; small = l; is = refl }
+  mixing_none w l = record { inside = omega arith; small = l; wide = w; is = refl }
 
   pub mixing_more : (h k h' : ℕ) → Mixing start memory tags h k → k < tags → h' ≡ mixed h (get_or memory k 0) → h' < 65536 → Mixing start memory tags h' (k + 1)
   unfolding mixed_to
-  mixing_more h k h' m l e s = record { inside = omega arith; small = s; is = rw (add-one k) (e ∙ ap (λ z. mixed z (get_or memory k 0)) m.is) }
+  mixing_more h k h' m l e s = record { inside = omega arith; small = s; wide = m.wide; is = rw (add-one k) (e ∙ ap (λ z. mixed z (get_or memory k 0)) m.is) }
 
 pub mixing_all : (i q x start : ℕ) (memory : List ℕ) (tags room h k : ℕ) → x ≡ i → start ≡ mixed x q → Mixing start memory tags h k → tags ≤ k → h % room ≡ slot_of room (annotation i q (memory_of tags memory))
 unfolding slot_of memory_of

@@ -2,7 +2,7 @@
 use mathlib.Core.Path.{◌≡◌, refl, sym, ap, ◌∙◌}
 use mathlib.Core.List.{List}
 use mathlib.Core.Bool.{Bool, true, false, ◌&&◌, ◌||◌}
-use Prim.Native.Nat.{ℕ, zero, suc, ◌+◌, ◌*◌, ◌-◌, ◌<◌, ◌≤◌}
+use Prim.Native.Nat.{ℕ, zero, suc, ◌+◌, ◌*◌, ◌-◌, ◌≤◌}
 use native.Mathlib.Omega.{arith}
 use borrow.Author.Rules.{rules}
 use borrow.Author.Tests.{eq-eqb, ne_eqb}
@@ -12,7 +12,7 @@ use lib.Seq.{get_or-take, get_or-drop}
 use Rattle.model.specs.Lists.{any, eq_list, tab, any_below}
 use Rattle.model.specs.Annotation.{Memory, Annotation, annotation, agree?, joined, eq_annotation}
 use Rattle.automaton.proofs.Parts.{tab_same}
-use Rattle.membership.specs.Cells.{memory_of, Short, AgreeIn, SameIn, JoinedIn, cell_of, memory_in, annotation_in, ShortIn, annotations_in}
+use Rattle.membership.specs.Cells.{memory_of, JoinedIn, cell_of, memory_in, annotation_in, annotations_in}
 use Rattle.membership.specs.Search.{choosable?, JoinedWith}
 
 module _ (work : List ℕ) (tags j : ℕ) where
@@ -20,29 +20,24 @@ module _ (work : List ℕ) (tags j : ℕ) where
   abbrev part : List ℕ
   part = take (j * 32 + 18 - (j * 32 + 2)) (drop (j * 32 + 2) work)
 
-  part_at : (k : ℕ) → k < 16 → get_or part k 0 ≡ cell_of work j (2 + k)
-  unfolding cell_of
-  part_at k h =
-      let e : j * 32 + 2 + k ≡ j * 32 + (2 + k) = omega arith in
-      get_or-take (j * 32 + 18 - (j * 32 + 2)) (drop (j * 32 + 2) work) k 0 (omega arith) ∙ get_or-drop (j * 32 + 2) work k 0 ∙ ap (λ i. get_or work i 0) e
-
-  part_short : ShortIn tags work j → Short tags part
-  part_short h k l m = part_at k m ∙ h k l m
-
   module _ (few : tags ≤ 16) where
     memory_part : memory_of tags part ≡ memory_in tags work j
-    unfolding memory_of memory_in
-    memory_part = tab_same tags (λ k. get_or part k 0) (λ k. cell_of work j (2 + k)) (λ k h. part_at k (omega arith))
+    unfolding memory_of memory_in cell_of
+    memory_part =
+        tab_same tags (λ k. get_or part k 0) (λ k. get_or work (j * 32 + (2 + k)) 0)
+        (λ k h.
+        let e : j * 32 + 2 + k ≡ j * 32 + (2 + k) = omega arith in
+        get_or-take (j * 32 + 18 - (j * 32 + 2)) (drop (j * 32 + 2) work) k 0 (omega arith) ∙ get_or-drop (j * 32 + 2) work k 0 ∙ ap (λ i. get_or work i 0) e)
 
-    pub choice_agrees : (q : ℕ) (m : List ℕ) (r : Bool) → get_or work (j * 32 + 1) 0 ≡ q → AgreeIn m part r → Short tags m → ShortIn tags work j → r ≡ choosable? q (memory_of tags m) (annotation_in tags work j)
+    pub choice_agrees : (q : ℕ) (m : List ℕ) (r : Bool) → get_or work (j * 32 + 1) 0 ≡ q → r ≡ agree? (memory_of tags m) (memory_of tags part) → r ≡ choosable? q (memory_of tags m) (annotation_in tags work j)
     unfolding cell_of
-    choice_agrees q m r es e x y = e tags few x (part_short y) ∙ ap (agree? (memory_of tags m)) memory_part ∙ sym (ap (λ b. b && agree? (memory_of tags m) (memory_in tags work j)) (eq-eqb _ _ es))
+    choice_agrees q m r es e = e ∙ ap (agree? (memory_of tags m)) memory_part ∙ sym (ap (λ b. b && agree? (memory_of tags m) (memory_in tags work j)) (eq-eqb _ _ es))
 
-    pub same_memory : (i q : ℕ) (m : List ℕ) (r : Bool) → i ≡ get_or work (j * 32) 0 → q ≡ get_or work (j * 32 + 1) 0 → SameIn m part r → Short tags m → ShortIn tags work j → r ≡ eq_annotation (annotation i q (memory_of tags m)) (annotation_in tags work j)
+    pub same_memory : (i q : ℕ) (m : List ℕ) (r : Bool) → i ≡ get_or work (j * 32) 0 → q ≡ get_or work (j * 32 + 1) 0 → r ≡ eq_list (memory_of tags m) (memory_of tags part) → r ≡ eq_annotation (annotation i q (memory_of tags m)) (annotation_in tags work j)
     unfolding cell_of
-    same_memory i q m r er es e x y =
+    same_memory i q m r er es e =
         let z : j * 32 + 0 ≡ j * 32 = omega arith in
-        e tags few x (part_short y) ∙ ap (eq_list (memory_of tags m)) memory_part
+        e ∙ ap (eq_list (memory_of tags m)) memory_part
         ∙ sym (ap (λ b. b && eq_list (memory_of tags m) (memory_in tags work j)) (eq-eqb q (get_or work (j * 32 + 1) 0) es))
         ∙ sym (ap (λ b. b && (eqb q (get_or work (j * 32 + 1) 0) && eq_list (memory_of tags m) (memory_in tags work j))) (eq-eqb i (get_or work (j * 32 + 0) 0) (er ∙ sym (ap (λ k. get_or work k 0) z))))
 

@@ -8,29 +8,28 @@ use lib.Dec.{eqb}
 use lib.ListN.{length, get_or, replicate}
 use Rattle.model.specs.Limits.{unused}
 use Rattle.model.specs.Lists.{tab}
-use Rattle.model.specs.Automaton.{Automaton, arity_of, bit?, carries?}
+use Rattle.model.specs.Automaton.{Automaton, arity_of, state_at, bit?, carries?}
 use Rattle.model.specs.Table.{Row, row_at, SoundTable}
 use Rattle.model.specs.Written.{rule_at}
 use Rattle.model.specs.Sound.{Sound}
-use Rattle.model.specs.Annotation.{own_memory}
+use Rattle.model.specs.Annotation.{empty_memory, own_memory}
 use Rattle.automaton.specs.Stored.{decode}
 use Rattle.automaton.specs.Check.{check_of}
 use Rattle.automaton.specs.Window.{FirstFrom}
+use Rattle.automaton.proofs.Parts.{tab_same}
 use Rattle.automaton.proofs.Sound.{sound_decode}
 use Rattle.document.specs.Rows.{used, places_in, row_in, decode_rows}
 use Rattle.document.specs.Check.{place_in}
 use Rattle.document.proofs.Places.{row_at_lem, rows_length}
-use Rattle.membership.specs.Cells.{annotations_in}
+use Rattle.membership.specs.Cells.{memory_of, annotations_in}
 use Rattle.membership.specs.Entries.{Entry, annotations_of, entries_in, add_entries, Grown}
-use Rattle.membership.specs.Chains.{class_in}
-use Rattle.membership.specs.Search.{tags_in, arity_in, base_in, room_in, low_in, high_in, class_of, Ready, Windows, Separate, Alike}
+use Rattle.membership.specs.Search.{found, Ready}
 use Rattle.membership.specs.Listing.{no_children, by_rule, entries_below}
-use Rattle.membership.specs.Plan.{Planned, RulesRead, asked_in, own_in, rule_found, Starts, Before}
-use Rattle.membership.proofs.Rules.{asked_read, tags_read}
-use Rattle.membership.specs.Tried.{Fresh}
-use Rattle.membership.proofs.Children.{alike_same, alike_trans}
+use Rattle.membership.specs.Plan.{Bounds, WantFor, Starts, Before}
+use Rattle.membership.specs.declared.search.Want.{Want}
+use Rattle.membership.specs.declared.table.Plan.{Plan}
 use Rattle.membership.proofs.Turning.{Turning, turn_in, turn_full, turn_end}
-use Rattle.membership.proofs.ByRow.{rules_start, in_symbol, in_rules, row_separate, rule_ready, rule_windows, rule_grown}
+use Rattle.membership.proofs.ByRow.{rules_start, in_symbol, in_rules, rule_ready, rule_grown}
 
 -- a used place holds its child
 used_at : (ps : List ℕ) (p : ℕ) → p < length (used ps) → get_or (used ps) p 0 ≡ get_or ps p unused
@@ -42,7 +41,11 @@ used_at (x ∷ ps) p l = go (eqb x unused) p l (used_at ps)
     go false zero l rest = refl
     go false (suc p) l rest = rest p (omega arith)
 
--- a list of zeros
+-- a memory of zeros
+pub zeros_memory : (tags : ℕ) (A : Automaton) (l : List ℕ) → tags ≡ A.tags → ((k : ℕ) → get_or l k 0 ≡ 0) → memory_of tags l ≡ empty_memory A
+unfolding memory_of
+zeros_memory tags A l e h = tab_same tags (λ k. get_or l k 0) (λ k. 0) (λ k m. h k) ∙ ap (λ n. tab n (λ k. 0)) e
+
 pub zeros : (n k : ℕ) → ◌≡◌ {A = ℕ} (get_or (replicate n 0) k 0) 0
 zeros zero k = refl
 zeros (suc n) zero = refl
@@ -57,24 +60,20 @@ R cells = decode_rows cells
 abbrev made : List ℕ → List ℕ → ℕ → ℕ → List Entry
 made s cells i = by_rule (A s) (R cells) (annotations_of (entries_below (A s) (R cells) i)) i
 
--- at the head of the loop over the rules of row i, with the lent arrays of slots, of children, free, and of tried memories
-pub record Rowing (s cells starts rules work₀ slots₀ : List ℕ) (i tags room n x width : ℕ) (plan heads links : List ℕ) (end r₀ : ℕ) (work slots free cells' : List ℕ) (m r : ℕ) : Type 0 where
+-- at the head of the loop over the rules of row i
+pub record Rowing (s cells starts work₀ : List ℕ) (i tags room n x width : ℕ) (lows highs : List ℕ) (end r₀ : ℕ) (work : List ℕ) (m r : ℕ) : Type 0 where
   pub ok : check_of s ≡ 0
   pub table : SoundTable (A s) (R cells)
-  pub before : Before (A s) (R cells) i room tags work₀ slots₀ n
+  pub before : Before (A s) (R cells) i room tags work₀ n
   pub started : Starts (A s) (R cells) starts i
   pub symbol_is : x ≡ (row_in cells i).symbol
   pub width_is : width ≡ arity_of (A s) x
-  pub planned : Planned cells starts i tags width n room width plan
+  pub low_is : Bounds cells starts i width 0 lows
+  pub high_is : Bounds cells starts i width 1 highs
   pub first : FirstFrom (A s) x r₀
   pub last : FirstFrom (A s) (x + 1) end
   pub above : r₀ ≤ r
-  pub read : RulesRead (A s) (length (A s).rules) rules
-  pub alike : Alike 0 width no_children free
-  pub few : r ≤ 1024
-  pub fresh : Fresh i r cells'
-  pub windows : Windows (class_in work₀) plan (arity_in plan) heads links
-  pub turning : Turning (made s cells i) end n room tags (length work₀) (entries_below (A s) (R cells) (suc i)) work slots m r
+  pub turning : Turning (made s cells i) end n room tags (length work₀) (entries_below (A s) (R cells) (suc i)) work m r
 
 -- what a sound set and table give of a row
 module _ (s cells : List ℕ) (i : ℕ) (ok : check_of s ≡ 0) (table : SoundTable (A s) (R cells)) (l : i < length (R cells)) where
@@ -100,40 +99,9 @@ few_rules s ok = (sound_decode s ok).few_rules
 pub tags_small : (s : List ℕ) (tags : ℕ) → check_of s ≡ 0 → tags ≡ (A s).tags → tags ≤ 16
 tags_small s tags ok e = let h = (sound_decode s ok).few_tags in omega arith
 
--- the row, its children and their windows
-module _ (s cells starts work₀ slots₀ : List ℕ) (i tags room n x width : ℕ) (plan : List ℕ) (ok : check_of s ≡ 0) (table : SoundTable (A s) (R cells)) (before : Before (A s) (R cells) i room tags work₀ slots₀ n) (started : Starts (A s) (R cells) starts i) (ex : x ≡ (row_in cells i).symbol) (ew : width ≡ arity_of (A s) x) (planned : Planned cells starts i tags width n room width plan) where
-  sound_of : Sound (A s)
-  sound_of = sound_decode s ok
-
-  here : row_at (R cells) i ≡ row_in cells i
-  here = row_is s cells i ok table before.row
-
-  symbol_of_lem : x ≡ (row_at (R cells) i).symbol
-  symbol_of_lem = ex ∙ ap (λ (r : Row). r.symbol) (sym here)
-
-  width_of : width ≡ arity_of (A s) (row_at (R cells) i).symbol
-  width_of = ew ∙ ap (arity_of (A s)) symbol_of_lem
-
-  as_many : length (row_at (R cells) i).children ≡ width
-  as_many = (table.each i before.row).as_many ∙ sym width_of
-
-  child_is : (p : ℕ) → p < width → place_in cells i p ≡ get_or (row_at (R cells) i).children p 0
-  unfolding place_in
-  child_is p l =
-      sym (used_at (places_in cells i) p (subst (λ (q : Row). p < length q.children) here (let e = as_many in omega arith))) ∙ ap (λ (q : Row). get_or q.children p 0) (sym here)
-
-  low_of : (p : ℕ) → p < width → low_in plan p ≡ get_or starts (get_or (row_at (R cells) i).children p 0) 0
-  low_of p l = planned.low p l ∙ ap (λ c. get_or starts c 0) (child_is p l)
-
-  high_of : (p : ℕ) → p < width → high_in plan p ≡ get_or starts (get_or (row_at (R cells) i).children p 0 + 1) 0
-  high_of p l = planned.high p l ∙ ap (λ c. get_or starts (c + 1) 0) (child_is p l)
-
-  pub separate_of : Separate plan work₀
-  separate_of = row_separate (A s) (R cells) sound_of table i room tags work₀ slots₀ n before starts started plan width width_of planned.tags_are planned.arity_is planned.base_is planned.room_is low_of high_of
-
-module _ (s cells starts rules work₀ slots₀ : List ℕ) (i tags room n x width : ℕ) (plan heads links : List ℕ) (end r₀ : ℕ) where
-  pub rowing_start : check_of s ≡ 0 → SoundTable (A s) (R cells) → Before (A s) (R cells) i room tags work₀ slots₀ n → Starts (A s) (R cells) starts i → x ≡ (row_in cells i).symbol → width ≡ arity_of (A s) x → Planned cells starts i tags width n room width plan → FirstFrom (A s) x r₀ → FirstFrom (A s) (x + 1) end → RulesRead (A s) (length (A s).rules) rules → (tried : List ℕ) → Fresh i 0 tried → Windows (class_in work₀) plan (arity_in plan) heads links → Rowing s cells starts rules work₀ slots₀ i tags room n x width plan heads links end r₀ work₀ slots₀ no_children tried n r₀
-  rowing_start ok table before started ex ew planned first last read tried fresh windows =
+module _ (s cells starts work₀ : List ℕ) (i tags room n x width : ℕ) (lows highs : List ℕ) (end r₀ : ℕ) where
+  pub rowing_start : check_of s ≡ 0 → SoundTable (A s) (R cells) → Before (A s) (R cells) i room tags work₀ n → Starts (A s) (R cells) starts i → x ≡ (row_in cells i).symbol → width ≡ arity_of (A s) x → Bounds cells starts i width 0 lows → Bounds cells starts i width 1 highs → FirstFrom (A s) x r₀ → FirstFrom (A s) (x + 1) end → Rowing s cells starts work₀ i tags room n x width lows highs end r₀ work₀ n r₀
+  rowing_start ok table before started ex ew bl bh first last =
       record {
         ok = ok;
         table = table;
@@ -141,100 +109,84 @@ module _ (s cells starts rules work₀ slots₀ : List ℕ) (i tags room n x wid
         started = started;
         symbol_is = ex;
         width_is = ew;
-        planned = planned;
+        low_is = bl;
+        high_is = bh;
         first = first;
         last = last;
         above = omega arith;
-        read = read;
-        alike = alike_same 0 width no_children;
-        few = let h = first.within in let f = few_rules s ok in omega arith;
-        fresh = λ k l. let f = fresh k l in omega arith;
-        windows = windows;
-        turning = rules_start (A s) (R cells) (sound_decode s ok) table i room tags work₀ slots₀ n before r₀ end x (ex ∙ ap (λ (r : Row). r.symbol) (sym (row_is s cells i ok table before.row))) first last;
+        turning = rules_start (A s) (R cells) (sound_decode s ok) table i room tags work₀ n before r₀ end x (ex ∙ ap (λ (r : Row). r.symbol) (sym (row_is s cells i ok table before.row))) first last;
       }
 
-  module _ (work slots free tried : List ℕ) (m r : ℕ) (h : Rowing s cells starts rules work₀ slots₀ i tags room n x width plan heads links end r₀ work slots free tried m r) where
+  module _ (work : List ℕ) (m r : ℕ) (h : Rowing s cells starts work₀ i tags room n x width lows highs end r₀ work m r) where
     sound : Sound (A s)
     sound = sound_decode s h.ok
 
+    here : row_at (R cells) i ≡ row_in cells i
+    here = row_is s cells i h.ok h.table h.before.row
+
     symbol_here : x ≡ (row_at (R cells) i).symbol
-    symbol_here = symbol_of_lem s cells starts work₀ slots₀ i tags room n x width plan h.ok h.table h.before h.started h.symbol_is h.width_is h.planned
+    symbol_here = h.symbol_is ∙ ap (λ (r : Row). r.symbol) (sym here)
 
     width_here : width ≡ arity_of (A s) (row_at (R cells) i).symbol
-    width_here = width_of s cells starts work₀ slots₀ i tags room n x width plan h.ok h.table h.before h.started h.symbol_is h.width_is h.planned
+    width_here = h.width_is ∙ ap (arity_of (A s)) symbol_here
 
-    low_at : (p : ℕ) → p < width → low_in plan p ≡ get_or starts (get_or (row_at (R cells) i).children p 0) 0
-    low_at = low_of s cells starts work₀ slots₀ i tags room n x width plan h.ok h.table h.before h.started h.symbol_is h.width_is h.planned
+    as_many : length (row_at (R cells) i).children ≡ width
+    as_many = (h.table.each i h.before.row).as_many ∙ sym width_here
 
-    high_at : (p : ℕ) → p < width → high_in plan p ≡ get_or starts (get_or (row_at (R cells) i).children p 0 + 1) 0
-    high_at = high_of s cells starts work₀ slots₀ i tags room n x width plan h.ok h.table h.before h.started h.symbol_is h.width_is h.planned
+    child_is : (p : ℕ) → p < width → place_in cells i p ≡ get_or (row_at (R cells) i).children p 0
+    unfolding place_in
+    child_is p l =
+        sym (used_at (places_in cells i) p (subst (λ (q : Row). p < length q.children) here (let e = as_many in omega arith))) ∙ ap (λ (q : Row). get_or q.children p 0) (sym here)
 
-    pub next_ready : Ready plan work slots m × (width ≤ arity_in plan)
-    next_ready =
-        let p = h.planned in
-        let e = p.arity_is in
-        (rule_ready (A s) (R cells) sound h.table i room tags work₀ slots₀ n h.before starts h.started plan width width_here p.tags_are p.arity_is p.base_is p.room_is low_at high_at end work slots m r h.turning, omega arith)
+    bound_at : (shift : ℕ) (out : List ℕ) → Bounds cells starts i width shift out → (p : ℕ) → p < width → get_or out p 0 ≡ get_or starts (get_or (row_at (R cells) i).children p 0 + shift) 0
+    bound_at shift out b p l = b p l ∙ ap (λ c. get_or starts (c + shift) 0) (child_is p l)
 
-    pub next_windows : Windows (class_of (annotations_in (tags_in plan) work (base_in plan))) plan (arity_in plan) heads links
-    next_windows =
-        let p = h.planned in
-        rule_windows (A s) (R cells) sound h.table i room tags work₀ slots₀ n h.before starts h.started plan width width_here p.tags_are p.arity_is p.base_is p.room_is low_at high_at end work slots m r h.turning heads links h.windows
-
-    module _ (l : r < end) where
+    module _ (l : r < end) (plan : Plan) (want : Want) (wf : WantFor (A s) plan r want) (er : plan.row.0 ≡ i) (et : plan.tags ≡ tags) (ea : plan.arity ≡ width) (eb : plan.base ≡ n) (eroom : plan.room ≡ room) (elow : plan.low ≡ lows) (ehigh : plan.high ≡ highs) where
       same_symbol : (rule_at (A s) r).symbol ≡ (row_at (R cells) i).symbol
-      same_symbol = in_symbol (A s) (R cells) sound h.table i room tags work₀ slots₀ n h.before r₀ end x symbol_here h.first h.last r h.above l
+      same_symbol = in_symbol (A s) (R cells) sound h.table i room tags work₀ n h.before r₀ end x symbol_here h.first h.last r h.above l
 
-      pub known_rule : r < length (A s).rules
-      known_rule = in_rules (A s) (R cells) sound h.table i room tags work₀ slots₀ n h.before r₀ end x symbol_here h.first h.last r l
+      known_rule : r < length (A s).rules
+      known_rule = in_rules (A s) (R cells) sound h.table i room tags work₀ n h.before r₀ end x symbol_here h.first h.last r l
 
-      own_is : own_in rules (tags_in plan) i r ≡ own_memory (A s) (rule_at (A s) r).target i
-      own_is =
-          ap (λ z. tab (tags_in plan) (λ k. cond (bit? z k) (suc i) 0)) (tags_read (A s) (length (A s).rules) rules h.read r known_rule)
-          ∙ ap (λ t. tab t (λ k. cond (carries? (A s) (rule_at (A s) r).target k) (suc i) 0)) (h.planned.tags_are ∙ h.before.tags_are)
+      pub next_ready : Ready want work m
+      next_ready =
+          rule_ready (A s) (R cells) sound h.table i room tags work₀ n h.before starts h.started lows highs width width_here (bound_at 0 lows h.low_is) (bound_at 1 highs h.high_is) r known_rule same_symbol plan want wf er ea et elow ehigh (own_memory (A s) (rule_at (A s) r).target i) refl end work m h.turning eb eroom
 
-      pub few_here : (i < 1024) × (r < 1024)
-      few_here =
-          let row = h.before.row in
-          let rows = h.table.few_rows in
-          let rule = known_rule in
-          let rules = few_rules s h.ok in
-          (omega arith, omega arith)
+      -- the target's tags
+      module _ (mask : ℕ) (own : List ℕ) (em : mask ≡ (state_at (A s) want.target.0).mask) (eo : memory_of tags own ≡ tab tags (λ k. cond (bit? mask k) (suc i) 0)) where
+        own_is : memory_of tags own ≡ own_memory (A s) (rule_at (A s) r).target i
+        own_is =
+            eo
+            ∙ ap (λ z. tab tags (λ k. cond (bit? z k) (suc i) 0)) em
+            ∙ ap (λ q. tab tags (λ k. cond (carries? (A s) q k) (suc i) 0)) wf.target
+            ∙ ap (λ t. tab t (λ k. cond (carries? (A s) (rule_at (A s) r).target k) (suc i) 0)) h.before.tags_are
 
-      module _ (work' slots' free' tried' : List ℕ) (m' : ℕ) (g : Grown m (room_in plan) (tags_in plan) (add_entries (entries_in (tags_in plan) work m) (rule_found (annotations_in (tags_in plan) work (base_in plan)) plan rules i r free)) work' slots' m')
-          (a : Alike 0 (arity_in plan) free free') (t' : m' ≤ room_in plan → Fresh i (r + 1) tried') where
-        grown : Grown m room tags (add_entries (entries_in tags work m) (made s cells i r)) work' slots' m'
-        grown =
-            let p = h.planned in
-            rule_grown (A s) (R cells) sound h.table i room tags work₀ slots₀ n h.before starts h.started plan width width_here p.tags_are p.arity_is p.base_is p.room_is low_at high_at end work slots m r h.turning known_rule same_symbol (asked_in rules i r) (asked_read (A s) (length (A s).rules) rules h.read r known_rule i) (own_memory (A s) (rule_at (A s) r).target i) refl
-            (own_in rules (tags_in plan) i r) free work' slots' m' own_is h.alike g
+        module _ (empty free work' : List ℕ) (m' : ℕ) (zeros : (k : ℕ) → get_or empty k 0 ≡ 0) (ef : free ≡ no_children)
+            (g : Grown m want.room want.tags (add_entries (entries_in want.tags work m) (found (annotations_in want.tags work want.base) want (memory_of want.tags own) width (memory_of want.tags empty) free)) work' m') where
+          grown : Grown m room tags (add_entries (entries_in tags work m) (made s cells i r)) work' m'
+          grown =
+              rule_grown (A s) (R cells) sound h.table i room tags work₀ n h.before starts h.started lows highs width width_here (bound_at 0 lows h.low_is) (bound_at 1 highs h.high_is) r known_rule same_symbol plan want wf er ea et elow ehigh (own_memory (A s) (rule_at (A s) r).target i) refl end work m h.turning eb eroom
+              own empty free work' m' own_is (zeros_memory tags (A s) empty h.before.tags_are zeros) ef g
 
-        free_after : Alike 0 width no_children free'
-        free_after =
-            alike_trans 0 width no_children free free' h.alike (subst (λ k. Alike 0 k free free') h.planned.arity_is a)
+          pub rowing_more : length work' ≡ length work → m' ≤ room → Rowing s cells starts work₀ i tags room n x width lows highs end r₀ work' m' (r + 1)
+          rowing_more e f =
+              record {
+                ok = h.ok;
+                table = h.table;
+                before = h.before;
+                started = h.started;
+                symbol_is = h.symbol_is;
+                width_is = h.width_is;
+                low_is = h.low_is;
+                high_is = h.high_is;
+                first = h.first;
+                last = h.last;
+                above = let a = h.above in omega arith;
+                turning = turn_in (made s cells i) end n room tags (length work₀) (entries_below (A s) (R cells) (suc i)) work m r h.turning work' m' l grown e f;
+              }
 
-        pub rowing_more : length work' ≡ length work → m' ≤ room → Rowing s cells starts rules work₀ slots₀ i tags room n x width plan heads links end r₀ work' slots' free' tried' m' (r + 1)
-        rowing_more e f =
-            record {
-              ok = h.ok;
-              table = h.table;
-              before = h.before;
-              started = h.started;
-              symbol_is = h.symbol_is;
-              width_is = h.width_is;
-              planned = h.planned;
-              first = h.first;
-              last = h.last;
-              above = let a = h.above in omega arith;
-              read = h.read;
-              alike = free_after;
-              few = let k = known_rule in let f = few_rules s h.ok in omega arith;
-              fresh = t' (let z = h.planned.room_is in omega arith);
-              windows = h.windows;
-              turning = turn_in (made s cells i) end n room tags (length work₀) (entries_below (A s) (R cells) (suc i)) work slots m r h.turning work' slots' m' l grown e f;
-            }
+          pub rowing_full : room < m' → Grown n room tags (entries_below (A s) (R cells) (suc i)) work' m'
+          rowing_full f = turn_full (made s cells i) end n room tags (length work₀) (entries_below (A s) (R cells) (suc i)) work m r h.turning work' m' l grown f
 
-        pub rowing_full : room < m' → Grown n room tags (entries_below (A s) (R cells) (suc i)) work' slots' m' × (m' ≤ room → Fresh (suc i) 0 tried')
-        rowing_full f = (turn_full (made s cells i) end n room tags (length work₀) (entries_below (A s) (R cells) (suc i)) work slots m r h.turning work' slots' m' l grown f, λ g. let z : ⊥ = omega arith in absurd z)
-
-    pub rowing_all : end ≤ r → Grown n room tags (entries_below (A s) (R cells) (suc i)) work slots m × (m ≤ room → Fresh (suc i) 0 tried)
-    rowing_all l = (turn_end (made s cells i) end n room tags (length work₀) (entries_below (A s) (R cells) (suc i)) work slots m r h.turning l, λ _ k g. let f = h.fresh k g in let e = h.few in omega arith)
+    pub rowing_all : end ≤ r → Grown n room tags (entries_below (A s) (R cells) (suc i)) work m
+    rowing_all l = turn_end (made s cells i) end n room tags (length work₀) (entries_below (A s) (R cells) (suc i)) work m r h.turning l

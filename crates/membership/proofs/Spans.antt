@@ -29,7 +29,7 @@ module _ {B : Type 0} where
     pub span_end : (j high : ℕ) → high ≤ j → concat_map f (span j (high - j)) ≡ []
     span_end j high l = let e : high - j ≡ 0 = omega arith in ap (λ n. concat_map f (span j n)) e
 
-    pub none : (i n : ℕ) → ((j : ℕ) → i ≤ j → j < i + n → f j ≡ []) → concat_map f (span i n) ≡ []
+    none : (i n : ℕ) → ((j : ℕ) → i ≤ j → j < i + n → f j ≡ []) → concat_map f (span i n) ≡ []
     none i zero h = refl
     none i (suc n) h = rw (h i (omega arith) (omega arith)) (none (suc i) n (λ j a b. h j (omega arith) (omega arith)))
 
@@ -39,16 +39,6 @@ module _ {B : Type 0} where
         let e : suc n + m ≡ suc (n + m) = omega arith in
         let e' : suc i + n ≡ i + suc n = omega arith in
         ap (λ k. concat_map f (span i k)) e ∙ ap (λ l. f i ++ l) (split (suc i) n m ∙ ap (λ k. concat_map f (span (suc i) n) ++ concat_map f (span k m)) e') ∙ sym (append_assoc (f i) (concat_map f (span (suc i) n)) (concat_map f (span (i + suc n) m)))
-
-    -- numbers of which nothing is made may be passed over
-    pub span_jump : (j k high : ℕ) → j ≤ k → k ≤ high → ((x : ℕ) → j ≤ x → x < k → f x ≡ []) → concat_map f (span j (high - j)) ≡ concat_map f (span k (high - k))
-    span_jump j k high a b h =
-        let e : high - j ≡ k - j + (high - k) = omega arith in
-        let e' : j + (k - j) ≡ k = omega arith in
-        ap (λ n. concat_map f (span j n)) e
-        ∙ split j (k - j) (high - k)
-        ∙ ap (λ l. l ++ concat_map f (span (j + (k - j)) (high - k))) (none j (k - j) (λ x l m. h x l (omega arith)))
-        ∙ ap (λ i. concat_map f (span i (high - k))) e'
 
     -- only the window from low up to high counts
     pub span_window : (low high n : ℕ) → low ≤ high → high ≤ n → ((j : ℕ) → j < low → f j ≡ []) → ((j : ℕ) → high ≤ j → j < n → f j ≡ []) → concat_map f (span 0 n) ≡ concat_map f (span low (high - low))

@@ -82,8 +82,8 @@ module _ (A : Automaton) (rows : List Row) (narrow : (i : ℕ) → i < length ro
   abbrev memory : ℕ → Memory
   memory s = get_or (picked (reached? work) (λ j. (at j).memory) (suc root)) s []
 
-  memory_at_lem : (j : ℕ) → j ≤ root → T (reached? work j) → memory (rank_of (reached? work) j) ≡ (at j).memory
-  memory_at_lem j l t = picked_at (reached? work) (λ j. (at j).memory) [] (suc root) j (omega arith) t
+  memory_at : (j : ℕ) → j ≤ root → T (reached? work j) → memory (rank_of (reached? work) j) ≡ (at j).memory
+  memory_at j l t = picked_at (reached? work) (λ j. (at j).memory) [] (suc root) j (omega arith) t
 
   abbrev Left : ℕ → Type 0
   Left s = In (memory s) (left_by A (rule_of A run s) (step_at run s).row (map memory (step_at run s).steps))
@@ -125,12 +125,12 @@ module _ (A : Automaton) (rows : List Row) (narrow : (i : ℕ) → i < length ro
     memories : memories_of (annotations_in A.tags work n) (tab max_children (child_in work j)) (arity_at j) ≡ map memory (step_at run (rank_of (reached? work) j)).steps
     memories =
         tab_same (arity_at j) _ (λ p. memory (rank p))
-        (λ p lp. let low = child_lower j p lj lp in ap (λ z. (at z).memory) (child_at_lem j p lj lp) ∙ sym (memory_at_lem (child_in work j p) (omega arith) (child_reached j p l t lp)))
+        (λ p lp. let low = child_lower j p lj lp in ap (λ z. (at z).memory) (child_at_lem j p lj lp) ∙ sym (memory_at (child_in work j p) (omega arith) (child_reached j p l t lp)))
         ∙ sym (map_tab memory (arity_at j) rank)
         ∙ ap (λ (z : Step). map memory z.steps) e
 
     leaves : Left (rank_of (reached? work) j)
-    leaves = transport (λ z. In (sym (memory_at_lem j l t) z) (left_by A (rule_at A (e z).rule) (e z).row (memories z))) s.leaves
+    leaves = transport (λ z. In (sym (memory_at j l t) z) (left_by A (rule_at A (e z).rule) (e z).row (memories z))) s.leaves
 
   last_is : length run - 1 ≡ rank_of (reached? work) root
   last_is = let e = run_length in let a = (rank_step (reached? work) root).1 in let b = rank_below (reached? work) root (suc root) (omega arith) reached.from in omega arith

@@ -9,22 +9,22 @@ use Rattle.model.specs.Lists.{concat_map}
 use Rattle.membership.specs.Index.{Indexed}
 use Rattle.membership.specs.Entries.{Entry, entries_in, add_entries, Grown}
 use Rattle.membership.specs.Search.{span}
-use Rattle.membership.proofs.Spans.{span_more, span_end, span_jump}
+use Rattle.membership.proofs.Spans.{span_more, span_end}
 use Rattle.membership.proofs.Adding.{add_append, add_nothing, Ext, ext_length, ext_entries}
 
 -- with what the numbers from j on make, the entries become the list
-pub record Turning (f : ℕ → List Entry) (high n room tags long : ℕ) (list : List Entry) (work slots : List ℕ) (m j : ℕ) : Type 0 where
+pub record Turning (f : ℕ → List Entry) (high n room tags long : ℕ) (list : List Entry) (work : List ℕ) (m j : ℕ) : Type 0 where
   pub more : n ≤ m
   pub count : m ≤ room
   pub space : length work ≡ long
   pub rest : add_entries (entries_in tags work m) (concat_map f (span j (high - j))) ≡ list
-  pub indexed : Indexed tags room work slots m
+  pub indexed : Indexed tags room work m
 
 module _ (f : ℕ → List Entry) (high n room tags long : ℕ) (list : List Entry) where
-  pub turn_start : (work slots : List ℕ) (j : ℕ) → n ≤ room → length work ≡ long → add_entries (entries_in tags work n) (concat_map f (span j (high - j))) ≡ list → Indexed tags room work slots n → Turning f high n room tags long list work slots n j
-  turn_start work slots j l e h x = record { more = le_refl n; count = l; space = e; rest = h; indexed = x }
+  pub turn_start : (work : List ℕ) (j : ℕ) → n ≤ room → length work ≡ long → add_entries (entries_in tags work n) (concat_map f (span j (high - j))) ≡ list → Indexed tags room work n → Turning f high n room tags long list work n j
+  turn_start work j l e h x = record { more = le_refl n; count = l; space = e; rest = h; indexed = x }
 
-  module _ (work slots : List ℕ) (m j : ℕ) (t : Turning f high n room tags long list work slots m j) where
+  module _ (work : List ℕ) (m j : ℕ) (t : Turning f high n room tags long list work m j) where
     pub turn_front : Ext (entries_in tags work m) list
     turn_front = subst (Ext (entries_in tags work m)) t.rest (ext_entries (concat_map f (span j (high - j))) (entries_in tags work m))
 
@@ -32,7 +32,7 @@ module _ (f : ℕ → List Entry) (high n room tags long : ℕ) (list : List Ent
     turned : j < high → add_entries (add_entries (entries_in tags work m) (f j)) (concat_map f (span (j + 1) (high - (j + 1)))) ≡ list
     turned l = sym (add_append (f j) (concat_map f (span (j + 1) (high - (j + 1)))) (entries_in tags work m)) ∙ ap (add_entries (entries_in tags work m)) (sym (span_more f j high l)) ∙ t.rest
 
-    pub turn_skip : j < high → f j ≡ [] → Turning f high n room tags long list work slots m (j + 1)
+    pub turn_skip : j < high → f j ≡ [] → Turning f high n room tags long list work m (j + 1)
     turn_skip l e =
         record {
           more = t.more;
@@ -42,18 +42,8 @@ module _ (f : ℕ → List Entry) (high n room tags long : ℕ) (list : List Ent
           indexed = t.indexed;
         }
 
-    pub turn_jump : (k : ℕ) → j ≤ k → k ≤ high → ((x : ℕ) → j ≤ x → x < k → f x ≡ []) → Turning f high n room tags long list work slots m k
-    turn_jump k a b h =
-        record {
-          more = t.more;
-          count = t.count;
-          space = t.space;
-          rest = ap (add_entries (entries_in tags work m)) (sym (span_jump f j k high a b h)) ∙ t.rest;
-          indexed = t.indexed;
-        }
-
-    module _ (work' slots' : List ℕ) (m' : ℕ) (l : j < high) (g : Grown m room tags (add_entries (entries_in tags work m) (f j)) work' slots' m') where
-      pub turn_in : length work' ≡ length work → m' ≤ room → Turning f high n room tags long list work' slots' m' (j + 1)
+    module _ (work' : List ℕ) (m' : ℕ) (l : j < high) (g : Grown m room tags (add_entries (entries_in tags work m) (f j)) work' m') where
+      pub turn_in : length work' ≡ length work → m' ≤ room → Turning f high n room tags long list work' m' (j + 1)
       turn_in e h =
           record {
             more = le_trans t.more g.more;
@@ -63,13 +53,13 @@ module _ (f : ℕ → List Entry) (high n room tags long : ℕ) (list : List Ent
             indexed = g.indexed h;
           }
 
-      pub turn_full : room < m' → Grown n room tags list work' slots' m'
+      pub turn_full : room < m' → Grown n room tags list work' m'
       turn_full h =
           let x = ext_length (add_entries (entries_in tags work m) (f j)) list (subst (Ext (add_entries (entries_in tags work m) (f j))) (turned l) (ext_entries (concat_map f (span (j + 1) (high - (j + 1)))) (add_entries (entries_in tags work m) (f j)))) in
           let y = g.full h in
           record { more = le_trans t.more g.more; held = λ l. let z : ⊥ = omega arith in absurd z; full = λ _. omega arith; indexed = λ l. let z : ⊥ = omega arith in absurd z }
 
-    pub turn_end : high ≤ j → Grown n room tags list work slots m
+    pub turn_end : high ≤ j → Grown n room tags list work m
     turn_end l =
         record {
           more = t.more;

@@ -3,7 +3,7 @@ use Rattle.std.specs.Prelude.{◌≡◌, List, [], ◌∷◌, ◌++◌, map, con
 use Rattle.model.specs.Limits.{max_children}
 use Rattle.model.specs.Lists.{any, tab}
 use Rattle.model.specs.Annotation.{Annotation, eq_annotation}
-use Rattle.membership.specs.Cells.{annotation_cells, cell_of, annotation_in, ShortIn, rule_in, child_in}
+use Rattle.membership.specs.Cells.{annotation_cells, cell_of, annotation_in, rule_in, child_in}
 use Rattle.membership.specs.Index.{Indexed}
 
 -- An annotation, the number of its rule, and its child annotations' numbers in four places.
@@ -31,14 +31,14 @@ add_entries known [] = known
 add_entries known (e ∷ more) = add_entries (add_entry known e) more
 
 -- What is known of the count r that comes back where n went in: within the room the work space holds the list, and past it the list does not fit.
-pub record Grown (n room tags : ℕ) (list : List Entry) (work slots : List ℕ) (r : ℕ) : Type 0 where
+pub record Grown (n room tags : ℕ) (list : List Entry) (work : List ℕ) (r : ℕ) : Type 0 where
   pub more : n ≤ r
   pub held : r ≤ room → entries_in tags work r ≡ list
   pub full : room < r → room < length list
-  pub indexed : r ≤ room → Indexed tags room work slots r
+  pub indexed : r ≤ room → Indexed tags room work r
 
--- entry n is written, nothing past the tags in its memory, and every other entry is as it was
+-- entry n is written, and every other cell is as it was
 pub record Stored (tags : ℕ) (before : List ℕ) (n : ℕ) (e : Entry) (after : List ℕ) : Type 0 where
   pub entry : entry_in tags after n ≡ e
-  pub short : ShortIn tags after n
   pub others : (j k : ℕ) → k < annotation_cells → (j ≡ n → ⊥) → cell_of after j k ≡ cell_of before j k
+  pub spare : (k : ℕ) → 24 ≤ k → k < annotation_cells → cell_of after n k ≡ cell_of before n k

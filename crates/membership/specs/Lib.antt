@@ -1,9 +1,7 @@
 pub mod Cells
 pub mod Index
 pub mod Entries
-pub mod Chains
 pub mod Search
-pub mod Tried
 pub mod Listing
 pub mod Plan
 pub mod Sources

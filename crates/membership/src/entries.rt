@@ -1,7 +1,7 @@
 // Annotations with their sources in the work space: the test whether one may be chosen, the test for an equal one, and a new one's cells.
 ghost use Rattle.std.specs.Prelude.{◌≡◌, ◌+◌, ◌*◌, ◌≤◌, ◌<◌, length};
 ghost use Rattle.model.specs.Annotation.{annotation, eq_annotation};
-ghost use Rattle.membership.specs.Cells.{memory_of, Short, annotation_in, ShortIn};
+ghost use Rattle.membership.specs.Cells.{memory_of, annotation_in};
 ghost use Rattle.membership.specs.Entries.{Stored};
 ghost use Rattle.membership.specs.Search.{choosable?, JoinedWith};
 
@@ -28,7 +28,9 @@ pub(crate) const RULE: usize = 19;
 
 pub(crate) const CHILD: usize = 20;
 
-// That of the index: the annotation after it in its slot.
+// Those of the index: the newest annotation of a slot, and the one after an annotation.
+pub(crate) const FIRST: usize = 24;
+
 pub(crate) const NEXT: usize = 25;
 
 // Those of the run: 1 where the annotation is reached, and its step's number.
@@ -44,14 +46,8 @@ pub(crate) fn narrow(x: usize) -> u16
 }
 
 // Annotation j may be chosen for a child in a state, the memory being joined so far.
-pub(crate) fn choosable(
-    work: &[u16],
-    j: usize,
-    state: State,
-    memory: &[u16; 16],
-    tags: usize,
-) -> bool
-    requires { (tags ≤ 16) × (j * 32 + 32 ≤ length work.now) × Short tags memory.now × ShortIn tags work.now j }
+pub(crate) fn choosable(work: &[u16], j: usize, state: State, memory: &[u16], tags: usize) -> bool
+    requires { (tags ≤ 16) × (length memory.now ≡ 16) × (j * 32 + 32 ≤ length work.now) }
     ensures { result ≡ choosable? state.0 (memory_of tags memory.now) (annotation_in tags work.now j) }
 {
     let at = j * ANNOTATION_CELLS;
@@ -60,12 +56,12 @@ pub(crate) fn choosable(
     }
     let start = at + MEMORY;
     let end = at + MEMORY_END;
-    agree(memory, &work[start..end])
+    agree(memory, &work[start..end], tags)
 }
 
 // The memory joined so far with that of annotation j.
-pub(crate) fn joined_with(work: &[u16], j: usize, memory: &[u16; 16]) -> [u16; 16]
-    requires { j * 32 + 32 ≤ length work.now }
+pub(crate) fn joined_with(work: &[u16], j: usize, memory: &[u16]) -> [u16; 16]
+    requires { (length memory.now ≡ 16) × (j * 32 + 32 ≤ length work.now) }
     ensures { JoinedWith work.now j memory.now result }
 {
     let at = j * ANNOTATION_CELLS;
@@ -80,10 +76,10 @@ pub(crate) fn is_same(
     j: usize,
     row: Row,
     state: State,
-    memory: &[u16; 16],
+    memory: &[u16],
     tags: usize,
 ) -> bool
-    requires { (tags ≤ 16) × (j * 32 + 32 ≤ length work.now) × Short tags memory.now × ShortIn tags work.now j }
+    requires { (tags ≤ 16) × (length memory.now ≡ 16) × (j * 32 + 32 ≤ length work.now) }
     ensures { result ≡ eq_annotation (annotation row.0 state.0 (memory_of tags memory.now)) (annotation_in tags work.now j) }
 {
     let at = j * ANNOTATION_CELLS;
@@ -95,7 +91,7 @@ pub(crate) fn is_same(
     }
     let start = at + MEMORY;
     let end = at + MEMORY_END;
-    same(memory, &work[start..end])
+    same(memory, &work[start..end], tags)
 }
 
 // Entry n is written.
@@ -104,13 +100,13 @@ pub(crate) fn put(
     n: usize,
     row: Row,
     state: State,
-    memory: &[u16; 16],
+    memory: &[u16],
     rule: u16,
-    children: &[u16; PLACES],
+    children: [u16; PLACES],
     tags: usize,
 )
-    requires { (tags ≤ 16) × (n * 32 + 32 ≤ length work.old) × Short tags memory.now }
-    ensures { Stored tags work.old n (record { annotation = annotation row.0 state.0 (memory_of tags memory.now); rule = rule; children = children.now }) work.new }
+    requires { (tags ≤ 16) × (length memory.now ≡ 16) × (n * 32 + 32 ≤ length work.old) }
+    ensures { Stored tags work.old n (record { annotation = annotation row.0 state.0 (memory_of tags memory.now); rule = rule; children = children }) work.new }
 {
     let at = n * ANNOTATION_CELLS;
     work[at] = row.0;
@@ -118,5 +114,5 @@ pub(crate) fn put(
     put_cells(work, at + MEMORY, memory);
     work[at + MARK] = 0;
     work[at + RULE] = rule;
-    put_cells(work, at + CHILD, children);
+    put_cells(work, at + CHILD, &children);
 }

@@ -4,8 +4,6 @@
 mod memory; // memory.rt: memories, place by place
 mod entries; // entries.rt: annotations with their sources in the work space
 mod index; // index.rt: finding an equal annotation
-mod chains; // chains.rt: the annotations of a window by their states
-mod tried; // tried.rt: joined memories that were tried already
 mod search; // search.rt: every choice of annotations for a rule's children
 mod table; // table.rt: the annotations of a whole table
 mod trace; // trace.rt: the annotations reached from an accepting one

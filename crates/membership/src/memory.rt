@@ -1,15 +1,22 @@
-// Memories: a place for each tag, 0 where the tag has no row, else the row's number and 1. Nothing stands past the tags, so all 16 places are compared without a branch.
+// Memories: a place for each tag, 0 where the tag has no row, else the row's number and 1.
 ghost use Rattle.std.specs.Prelude.{◌≡◌, cond, ◌%◌, ◌≤◌, eqb, length};
-ghost use Rattle.model.specs.Annotation.{places_agree, joined_place};
-ghost use Rattle.membership.specs.Cells.{memory_of, Short, AgreeIn, SameIn, JoinedIn, without};
+ghost use Rattle.model.specs.Lists.{eq_list};
+ghost use Rattle.model.specs.Annotation.{places_agree, joined_place, agree?};
+ghost use Rattle.membership.specs.Cells.{memory_of, JoinedIn, without};
 
 // A memory has 16 places, the first of them the tags'.
-pub(crate) const MEMORY_PLACES: usize = 16;
+const MEMORY_PLACES: usize = 16;
 
 fn places_agree(x: u16, y: u16) -> bool
     ensures { result ≡ places_agree x y }
 {
-    (x == 0) | (y == 0) | (x == y)
+    if x == 0 {
+        return true;
+    }
+    if y == 0 {
+        return true;
+    }
+    x == y
 }
 
 fn joined_place(x: u16, y: u16) -> u16
@@ -19,36 +26,48 @@ fn joined_place(x: u16, y: u16) -> u16
 }
 
 // No tag gets two rows.
-pub(crate) fn agree(a: &[u16; 16], b: &[u16]) -> bool
-    requires { length b.now ≡ 16 }
-    ensures { AgreeIn a.now b.now result }
+pub(crate) fn agree(a: &[u16], b: &[u16], tags: usize) -> bool
+    requires { (tags ≤ length a.now) × (tags ≤ length b.now) }
+    ensures { result ≡ agree? (memory_of tags a.now) (memory_of tags b.now) }
 {
-    let mut all = true;
+    let n = tags;
     let mut k = 0;
-    while k < MEMORY_PLACES {
-        all = all & places_agree(a[k], b[k]);
-        k += 1;
+    while k < n {
+        if places_agree(a[k], b[k]) {
+            k += 1;
+        } else {
+            return false;
+        }
     }
-    all
+    true
+}
+
+fn places_same(x: u16, y: u16) -> bool
+    ensures { result ≡ eqb x y }
+{
+    x == y
 }
 
 // The same memory.
-pub(crate) fn same(a: &[u16; 16], b: &[u16]) -> bool
-    requires { length b.now ≡ 16 }
-    ensures { SameIn a.now b.now result }
+pub(crate) fn same(a: &[u16], b: &[u16], tags: usize) -> bool
+    requires { (tags ≤ length a.now) × (tags ≤ length b.now) }
+    ensures { result ≡ eq_list (memory_of tags a.now) (memory_of tags b.now) }
 {
-    let mut all = true;
+    let n = tags;
     let mut k = 0;
-    while k < MEMORY_PLACES {
-        all = all & (a[k] == b[k]);
-        k += 1;
+    while k < n {
+        if places_same(a[k], b[k]) {
+            k += 1;
+        } else {
+            return false;
+        }
     }
-    all
+    true
 }
 
 // What two memories that agree say together. All places are joined, those past the tags too, so that the loop has a fixed length.
-pub(crate) fn join(a: &[u16; 16], b: &[u16]) -> [u16; 16]
-    requires { length b.now ≡ 16 }
+pub(crate) fn join(a: &[u16], b: &[u16]) -> [u16; 16]
+    requires { (length a.now ≡ 16) × (length b.now ≡ 16) }
     ensures { JoinedIn a.now b.now result }
 {
     let mut out = [0u16; MEMORY_PLACES];
@@ -68,13 +87,10 @@ fn kept_place(mask: u16, x: u16) -> u16
 }
 
 // What is left of a memory once a mask's tags are dropped.
-pub(crate) fn kept(memory: &[u16; 16], mask: u16, tags: usize) -> [u16; 16]
-    requires { (tags ≤ 16) × Short tags memory.now }
-    ensures { (memory_of tags result ≡ without tags mask (memory_of tags memory.now)) × Short tags result }
+pub(crate) fn kept(memory: &[u16], mask: u16, tags: usize) -> [u16; 16]
+    requires { (tags ≤ 16) × (length memory.now ≡ 16) }
+    ensures { memory_of tags result ≡ without tags mask (memory_of tags memory.now) }
 {
-    if mask == 0 {
-        return *memory;
-    }
     let mut out = [0u16; MEMORY_PLACES];
     let mut rest = mask;
     let mut k = 0;

@@ -1,84 +1,66 @@
 // The search: for one rule on one row, every choice of one annotation for each child, in the window of the child's row.
-ghost use Rattle.std.specs.Prelude.{◌+◌, ◌-◌, ◌≤◌, ◌<◌};
+ghost use Rattle.std.specs.Prelude.{◌≡◌, ◌+◌, ◌≤◌, ◌<◌, length};
 ghost use Rattle.model.specs.Annotation.{annotation};
-ghost use Rattle.membership.specs.Cells.{memory_of, Short, annotations_in};
+ghost use Rattle.membership.specs.Cells.{memory_of, annotations_in};
 ghost use Rattle.membership.specs.Entries.{entries_in, add_entry, add_entries, Grown};
-ghost use Rattle.membership.specs.Search.{tags_in, arity_in, base_in, room_in, row_asked, rule_asked, target_asked, finished, leaving, found, class_of, Ready, Windows, Alike};
-ghost use Rattle.membership.specs.Tried.{Tried};
+ghost use Rattle.membership.specs.Search.{with_child, finished, leaving, found, Ready};
 
-use crate::chains::{HEADS, LINKS, class_of, first_in, next_in};
-use crate::entries::{choosable, joined_with, narrow, put};
-use crate::index::{SLOTS, is_known, link, slot_of};
+use crate::entries::{choosable, joined_with, put};
+use crate::index::{is_known, link, slot_of};
 use crate::memory::{agree, join, kept};
-use crate::tried::{TRIED, is_tried, keep, slot_for};
 use automaton::State;
 use base::limits::PLACES;
 use document::rows::Row;
 
-// The cells of a plan, what all rules of a row have in common: tags, children, annotations before the row, room, then where each child's window starts and ends.
-pub(crate) const PLAN: usize = 12;
-
-pub(crate) const TAGS: usize = 0;
-
-pub(crate) const ARITY: usize = 1;
-
-pub(crate) const BASE: usize = 2;
-
-pub(crate) const ROOM: usize = 3;
-
-pub(crate) const LOW: usize = 4;
-
-pub(crate) const HIGH: usize = 8;
-
-// The cells of what a rule asks: the row, the rule, its target, the tags that it forgets, then the children's states.
-pub(crate) const ASKED: usize = 8;
-
-const ASKED_ROW: usize = 0;
-
-const ASKED_RULE: usize = 1;
-
-const ASKED_TARGET: usize = 2;
-
-pub(crate) const ASKED_FORGET: usize = 3;
-
-const ASKED_STATES: usize = 4;
+// What a rule asks on a row: for each child its state and the window of its row among the first `base` annotations.
+#[derive(Clone, Copy)]
+pub struct Want {
+    pub row: Row,
+    pub target: State,
+    pub rule: u16,
+    pub forget: u16,
+    pub tags: usize,
+    pub arity: usize,
+    pub base: usize,
+    pub room: usize,
+    pub low: [usize; PLACES],
+    pub high: [usize; PLACES],
+    pub states: [State; PLACES],
+}
 
 // The annotation is appended, if it is new and there is room.
-fn add(
-    work: &mut [u16],
-    plan: &[usize; PLAN],
-    asked: &[u16; ASKED],
-    n: usize,
-    memory: &[u16; 16],
-    children: &[u16; PLACES],
-    slots: &mut [u16; SLOTS],
-) -> usize
-    requires { Ready plan.now work.old slots.old n × Short (tags_in plan.now) memory.now }
-    ensures { Grown n (room_in plan.now) (tags_in plan.now) (add_entry (entries_in (tags_in plan.now) work.old n) (record { annotation = annotation (row_asked asked.now) (target_asked asked.now) (memory_of (tags_in plan.now) memory.now); rule = rule_asked asked.now; children = children.now })) work.new slots.new result }
+fn add(work: &mut [u16], want: Want, n: usize, memory: &[u16], children: [u16; PLACES]) -> usize
+    requires { Ready want work.old n × (length memory.now ≡ 16) }
+    ensures { Grown n want.room want.tags (add_entry (entries_in want.tags work.old n) (record { annotation = annotation want.row.0 want.target.0 (memory_of want.tags memory.now); rule = want.rule; children = children })) work.new result }
 {
-    let room = plan[ROOM];
-    if room == 0 {
+    if want.room == 0 {
         return n + 1;
     }
-    let tags = plan[TAGS];
-    let row = Row(asked[ASKED_ROW]);
-    let target = State(asked[ASKED_TARGET]);
-    let slot = slot_of(row, target, memory, tags, room);
-    if is_known(work, slots, slot, n, row, target, memory, tags, room) {
+    let slot = slot_of(want.row, want.target, memory, want.tags, want.room);
+    if is_known(
+        work,
+        slot,
+        n,
+        want.row,
+        want.target,
+        memory,
+        want.tags,
+        want.room,
+    ) {
         return n;
     }
-    if n < room {
+    if n < want.room {
         put(
             work,
             n,
-            row,
-            target,
+            want.row,
+            want.target,
             memory,
-            asked[ASKED_RULE],
+            want.rule,
             children,
-            tags,
+            want.tags,
         );
-        link(work, slots, slot, n);
+        link(work, slot, n);
         return n + 1;
     }
     n + 1
@@ -87,20 +69,18 @@ fn add(
 // The last step: the target's tags are added to what is left of the joined memory, provided no tag gets two rows.
 fn finish(
     work: &mut [u16],
-    own: &[u16; 16],
-    plan: &[usize; PLAN],
-    asked: &[u16; ASKED],
+    own: &[u16],
+    want: Want,
     n: usize,
-    memory: &[u16; 16],
-    children: &[u16; PLACES],
-    slots: &mut [u16; SLOTS],
+    memory: &[u16],
+    children: [u16; PLACES],
 ) -> usize
-    requires { Ready plan.now work.old slots.old n × Short (tags_in plan.now) own.now × Short (tags_in plan.now) memory.now }
-    ensures { Grown n (room_in plan.now) (tags_in plan.now) (add_entries (entries_in (tags_in plan.now) work.old n) (finished asked.now (memory_of (tags_in plan.now) own.now) (memory_of (tags_in plan.now) memory.now) children.now)) work.new slots.new result }
+    requires { Ready want work.old n × (length own.now ≡ 16) × (length memory.now ≡ 16) }
+    ensures { Grown n want.room want.tags (add_entries (entries_in want.tags work.old n) (finished want (memory_of want.tags own.now) (memory_of want.tags memory.now) children)) work.new result }
 {
-    if agree(memory, own) {
+    if agree(memory, own, want.tags) {
         let all = join(memory, own);
-        return add(work, plan, asked, n, &all, children, slots);
+        return add(work, want, n, &all, children);
     }
     n
 }
@@ -108,76 +88,67 @@ fn finish(
 // What the rule leaves: its tags are dropped from the joined memory, then the last step. A rule that forgets nothing copies no memory.
 fn leave(
     work: &mut [u16],
-    own: &[u16; 16],
-    plan: &[usize; PLAN],
-    asked: &[u16; ASKED],
+    own: &[u16],
+    want: Want,
     n: usize,
-    memory: &[u16; 16],
-    children: &[u16; PLACES],
-    slots: &mut [u16; SLOTS],
+    memory: &[u16],
+    children: [u16; PLACES],
 ) -> usize
-    requires { Ready plan.now work.old slots.old n × Short (tags_in plan.now) own.now × Short (tags_in plan.now) memory.now }
-    ensures { Grown n (room_in plan.now) (tags_in plan.now) (add_entries (entries_in (tags_in plan.now) work.old n) (leaving plan.now asked.now (memory_of (tags_in plan.now) own.now) (memory_of (tags_in plan.now) memory.now) children.now)) work.new slots.new result }
+    requires { Ready want work.old n × (length own.now ≡ 16) × (length memory.now ≡ 16) }
+    ensures { Grown n want.room want.tags (add_entries (entries_in want.tags work.old n) (leaving want (memory_of want.tags own.now) (memory_of want.tags memory.now) children)) work.new result }
 {
-    let forget = asked[ASKED_FORGET];
-    if forget == 0 {
-        return finish(work, own, plan, asked, n, memory, children, slots);
+    if want.forget == 0 {
+        return finish(work, own, want, n, memory, children);
     }
-    let left = kept(memory, forget, plan[TAGS]);
-    finish(work, own, plan, asked, n, &left, children, slots)
+    let left = kept(memory, want.forget, want.tags);
+    finish(work, own, want, n, &left, children)
+}
+
+// The child annotations with number j at place p.
+fn with_child(children: [u16; PLACES], p: usize, j: usize) -> [u16; PLACES]
+    requires { (p < 4) × (j < 65536) }
+    ensures { result ≡ with_child children p j }
+{
+    let mut out = children;
+    out[p] = j as u16;
+    out
 }
 
 // All choices at the last `left` places are tried, from the memory joined so far.
 pub(crate) fn search(
     work: &mut [u16],
-    own: &[u16; 16],
-    plan: &[usize; PLAN],
-    asked: &[u16; ASKED],
+    own: &[u16],
+    want: Want,
     left: usize,
     n: usize,
-    memory: &[u16; 16],
-    children: &mut [u16; PLACES],
-    tried: &mut [u16; TRIED],
-    slots: &mut [u16; SLOTS],
-    heads: &[u16; HEADS],
-    links: &[u16; LINKS],
+    memory: &[u16],
+    children: [u16; PLACES],
 ) -> usize
-    requires { Ready plan.now work.old slots.old n × (left ≤ arity_in plan.now) × Tried plan.now asked.now own.now work.old n tried.old × Short (tags_in plan.now) own.now × Short (tags_in plan.now) memory.now × Windows (class_of (annotations_in (tags_in plan.now) work.old (base_in plan.now))) plan.now (arity_in plan.now) heads.now links.now }
-    ensures { Grown n (room_in plan.now) (tags_in plan.now) (add_entries (entries_in (tags_in plan.now) work.old n) (found (annotations_in (tags_in plan.now) work.old (base_in plan.now)) plan.now asked.now (memory_of (tags_in plan.now) own.now) left (memory_of (tags_in plan.now) memory.now) children.old)) work.new slots.new result × Alike (arity_in plan.now - left) (arity_in plan.now) children.old children.new × (result ≤ room_in plan.now → Tried plan.now asked.now own.now work.new result tried.new) }
+    requires { Ready want work.old n × (length own.now ≡ 16) × (length memory.now ≡ 16) × (left ≤ want.arity) }
+    ensures { Grown n want.room want.tags (add_entries (entries_in want.tags work.old n) (found (annotations_in want.tags work.old want.base) want (memory_of want.tags own.now) left (memory_of want.tags memory.now) children)) work.new result }
 {
     if left == 0 {
-        return leave(work, own, plan, asked, n, memory, children, slots);
+        return leave(work, own, want, n, memory, children);
     }
-    let p = plan[ARITY] - left;
-    let tags = plan[TAGS];
-    let room = plan[ROOM];
-    let low = plan[LOW + p];
-    let end = plan[HIGH + p];
-    let row = Row(asked[ASKED_ROW]);
-    let rule = asked[ASKED_RULE];
-    let slot = slot_for(p, low, end, memory);
-    if is_tried(tried, slot, row, rule, left, memory, tags) {
-        return n;
-    }
-    let state = State(asked[ASKED_STATES + p]);
-    let rest = left - 1;
+    let p = want.arity - left;
+    let lows = want.low;
+    let highs = want.high;
+    let states = want.states;
+    let end = highs[p];
+    let state = states[p];
     let mut m = n;
-    let c = class_of(state);
-    let mut j = first_in(work, heads, p, c, low, end);
+    let mut j = lows[p];
     while j < end {
         let x = j;
-        j = next_in(work, links, c, x, low, end);
-        if choosable(work, x, state, memory, tags) {
-            let more = joined_with(work, x, memory);
-            children[p] = narrow(x);
-            m = search(
-                work, own, plan, asked, rest, m, &more, children, tried, slots, heads, links,
-            );
-            if m > room {
+        j += 1;
+        if choosable(work, x, state, memory, want.tags) {
+            let joined = joined_with(work, x, memory);
+            let with = with_child(children, p, x);
+            m = search(work, own, want, left - 1, m, &joined, with);
+            if m > want.room {
                 return m;
             }
         }
     }
-    keep(tried, slot, row, rule, left, memory);
     m
 }

@@ -1,30 +1,22 @@
 // The annotations of a whole table: row by row, by the rules of the row's symbol alone, with each child's window at hand.
-ghost use Rattle.std.specs.Prelude.{◌≡◌, cond, suc, ◌+◌, ◌*◌, ◌%◌, ◌≤◌, ◌<◌, eqb, length, get_or};
+ghost use Rattle.std.specs.Prelude.{◌≡◌, cond, suc, ◌+◌, ◌%◌, ◌≤◌, ◌<◌, eqb, length, get_or};
 ghost use Rattle.model.specs.Lists.{tab};
 ghost use Rattle.model.specs.Automaton.{bit?};
 ghost use Rattle.model.specs.Table.{SoundTable};
 ghost use Rattle.automaton.specs.Stored.{decode};
 ghost use Rattle.automaton.specs.Check.{check_of};
 ghost use Rattle.document.specs.Rows.{decode_rows};
-ghost use Rattle.membership.specs.Cells.{room_of, memory_of, Short, annotations_in};
-ghost use Rattle.membership.specs.Entries.{entries_in, add_entries, Grown};
-ghost use Rattle.membership.specs.Chains.{class_in};
-ghost use Rattle.membership.specs.Search.{tags_in, arity_in, base_in, room_in, class_of, Ready, Windows, Separate, Alike};
+ghost use Rattle.membership.specs.Cells.{room_of, memory_of};
+ghost use Rattle.membership.specs.Entries.{Grown};
 ghost use Rattle.membership.specs.Listing.{entries_below};
-ghost use Rattle.membership.specs.Plan.{Planned, read_of, RulesRead, asked_in, rule_found, Starts, FirstRules, Before};
-ghost use Rattle.membership.specs.Tried.{Fresh};
+ghost use Rattle.membership.specs.Plan.{Bounds, WantFor, Starts, FirstRules, Before};
 ghost use Rattle.membership.specs.Annotated.{Annotated};
 
-use crate::chains::{HEADS, LINKS, open_window};
 use crate::entries::{ANNOTATION_CELLS, narrow};
-use crate::index::SLOTS;
-use crate::memory::kept;
-use crate::search::{ARITY, ASKED, ASKED_FORGET, BASE, HIGH, LOW, PLAN, ROOM, TAGS, search};
-use crate::tried::TRIED;
+use crate::search::{Want, search};
 use automaton::{arity, header, rule, rules_from, tags_of};
-use base::limits::{MAX_ROWS, MAX_RULES, MAX_STEPS, MAX_SYMBOLS, PLACES, UNUSED};
+use base::limits::{MAX_ROWS, MAX_STEPS, MAX_SYMBOLS, PLACES, UNUSED};
 use base::numbers::size;
-use base::space::put_cells;
 use document::rows::{Row, count, place, symbol};
 
 // The room is at most as many annotations as a run has steps.
@@ -35,17 +27,17 @@ const ROWS: usize = MAX_ROWS as usize;
 // The first rule of each symbol, and the end.
 const FIRSTS: usize = MAX_SYMBOLS as usize + 1;
 
-// The cells that are read of a rule: its target, the target's tags, the tags that it forgets, then its child places.
-const RULE_CELLS: usize = 7;
-
-const TARGET_TAGS: usize = 1;
-
-const FORGET: usize = 2;
-
-const FROM: usize = 3;
-
-// Those of all rules.
-const RULES: usize = MAX_RULES as usize * RULE_CELLS;
+// What all rules of a row have in common: the windows of its children's rows among the first `base` annotations.
+#[derive(Clone, Copy)]
+pub struct Plan {
+    pub row: Row,
+    pub tags: usize,
+    pub arity: usize,
+    pub base: usize,
+    pub room: usize,
+    pub low: [usize; PLACES],
+    pub high: [usize; PLACES],
+}
 
 fn cell_at(cells: &[u16], k: usize) -> u16
     ensures { result ≡ get_or cells.now k 0 }
@@ -62,93 +54,43 @@ fn start_at(starts: &[u16], c: usize) -> usize
     size(cell_at(starts, c))
 }
 
-// The plan of row i, with the windows of its children's rows.
-fn plan_for(
-    rows: &[u16],
-    starts: &[u16],
-    i: Row,
-    tags: usize,
-    arity: usize,
-    base: usize,
-    room: usize,
-) -> [usize; PLAN]
-    requires { arity ≤ 4 }
-    ensures { Planned rows.now starts.now i.0 tags arity base room arity result }
+// The number of annotations before each child's row, or before the row after it.
+fn bounds(rows: &[u16], starts: &[u16], i: Row, arity: usize, shift: usize) -> [usize; PLACES]
+    requires { (arity ≤ 4) × (shift ≤ 1) }
+    ensures { Bounds rows.now starts.now i.0 arity shift result }
 {
-    let mut out = [0usize; PLAN];
-    out[TAGS] = tags;
-    out[ARITY] = arity;
-    out[BASE] = base;
-    out[ROOM] = room;
+    let mut out = [0usize; PLACES];
     let mut p = 0;
     while p < arity {
-        let c = size(place(rows, i, narrow(p)).0);
-        out[LOW + p] = start_at(starts, c);
-        out[HIGH + p] = start_at(starts, c + 1);
+        let c = place(rows, i, p as u16);
+        out[p] = start_at(starts, size(c.0) + shift);
         p += 1;
     }
     out
 }
 
-// What is read of rule r once for all rows.
-fn read_rule(set: &[u8], r: u16) -> [u16; RULE_CELLS]
-    ensures { result ≡ read_of (decode set.now) r }
+fn want_for(set: &[u8], plan: Plan, r: u16) -> Want
+    ensures { WantFor (decode set.now) plan r result }
 {
-    let rule = rule(set, r);
-    let target = rule.target;
-    let from = rule.places;
-    let first = from[0];
-    let second = from[1];
-    let third = from[2];
-    let fourth = from[3];
-    [
-        target.0,
-        tags_of(set, target),
-        rule.forget,
-        first.0,
-        second.0,
-        third.0,
-        fourth.0,
-    ]
-}
-
-// The first n rules are read.
-fn read_rules(set: &[u8], n: u16, rules: &mut [u16; RULES])
-    requires { n ≤ 1024 }
-    ensures { RulesRead (decode set.now) n rules.new }
-{
-    let mut r = 0;
-    while r < n {
-        let cells = read_rule(set, r);
-        put_cells(rules, size(r) * RULE_CELLS, &cells);
-        r += 1;
+    let asked = rule(set, r);
+    let row = plan.row;
+    let target = asked.target;
+    let low = plan.low;
+    let high = plan.high;
+    let states = asked.places;
+    Want {
+        row: row,
+        target: target,
+        rule: r,
+        forget: asked.forget,
+        tags: plan.tags,
+        arity: plan.arity,
+        base: plan.base,
+        room: plan.room,
+        low: low,
+        high: high,
+        states: states,
     }
-}
-
-// What rule r asks on a row.
-fn ask(rules: &[u16; RULES], row: Row, r: u16) -> [u16; ASKED]
-    requires { r < 1024 }
-    ensures { result ≡ asked_in rules.now row.0 r }
-{
-    let at = size(r) * RULE_CELLS;
-    [
-        row.0,
-        r,
-        rules[at],
-        rules[at + FORGET],
-        rules[at + FROM],
-        rules[at + FROM + 1],
-        rules[at + FROM + 2],
-        rules[at + FROM + 3],
-    ]
-}
-
-// The tags of rule r's target.
-fn target_tags(rules: &[u16; RULES], r: u16) -> u16
-    requires { r < 1024 }
-    ensures { result ≡ get_or rules.now (r * 7 + 1) 0 }
-{
-    rules[size(r) * RULE_CELLS + TARGET_TAGS]
 }
 
 // The row and 1 where the lowest bit of a mask is set.
@@ -162,12 +104,9 @@ fn own_place(mask: u16, row: Row) -> u16
 // The memory of a mask's tags, each going to the row.
 fn own_memory(mask: u16, row: Row, tags: usize) -> [u16; 16]
     requires { (tags ≤ 16) × (row.0 < 65535) }
-    ensures { (memory_of tags result ≡ tab tags (λ k. cond (bit? mask k) (suc row.0) 0)) × Short tags result }
+    ensures { memory_of tags result ≡ tab tags (λ k. cond (bit? mask k) (suc row.0) 0) }
 {
     let mut out = [0u16; 16];
-    if mask == 0 {
-        return out;
-    }
     let mut rest = mask;
     let mut k = 0;
     while k < tags {
@@ -192,107 +131,46 @@ fn first_rules(set: &[u8]) -> [u16; FIRSTS]
     out
 }
 
-// The windows of a row's children are opened.
-fn open_windows(
-    work: &[u16],
-    plan: &[usize; PLAN],
-    heads: &mut [u16; HEADS],
-    links: &mut [u16; LINKS],
-)
-    requires { Separate plan.now work.now }
-    ensures { Windows (class_in work.now) plan.now (arity_in plan.now) heads.new links.new }
-{
-    let width = plan[ARITY];
-    let mut p = 0;
-    while p < width {
-        open_window(work, p, plan[LOW + p], plan[HIGH + p], heads, links);
-        p += 1;
-    }
-}
-
-// What rule r makes on a row. The choices start from the target's tags that the rule does not forget, so that a child annotation that names one of them is out at once: its rows are lower, and the last step would refuse it.
-fn by_rule(
-    rules: &[u16; RULES],
-    work: &mut [u16],
-    tried: &mut [u16; TRIED],
-    slots: &mut [u16; SLOTS],
-    plan: &[usize; PLAN],
-    row: Row,
-    r: u16,
-    n: usize,
-    children: &mut [u16; PLACES],
-    heads: &[u16; HEADS],
-    links: &[u16; LINKS],
-) -> usize
-    requires { Ready plan.now work.old slots.old n × (row.0 < 1024) × (r < 1024) × Fresh row.0 r tried.old × Windows (class_of (annotations_in (tags_in plan.now) work.old (base_in plan.now))) plan.now (arity_in plan.now) heads.now links.now }
-    ensures grown { Grown n (room_in plan.now) (tags_in plan.now) (add_entries (entries_in (tags_in plan.now) work.old n) (rule_found (annotations_in (tags_in plan.now) work.old (base_in plan.now)) plan.now rules.now row.0 r children.old)) work.new slots.new result }
-    ensures alike { Alike 0 (arity_in plan.now) children.old children.new × (result ≤ room_in plan.now → Fresh row.0 (r + 1) tried.new) }
-{
-    let asked = ask(rules, row, r);
-    let own = own_memory(target_tags(rules, r), row, plan[TAGS]);
-    let early = kept(&own, asked[ASKED_FORGET], plan[TAGS]);
-    search(
-        work,
-        &own,
-        plan,
-        &asked,
-        plan[ARITY],
-        n,
-        &early,
-        children,
-        tried,
-        slots,
-        heads,
-        links,
-    )
-}
-
 // The annotations of row i, by the rules of its symbol, added to those of the rows below.
 fn by_row(
     set: &[u8],
     rows: &[u16],
     starts: &[u16],
     firsts: &[u16],
-    rules: &[u16; RULES],
     work: &mut [u16],
-    tried: &mut [u16; TRIED],
-    slots: &mut [u16; SLOTS],
-    heads: &mut [u16; HEADS],
-    links: &mut [u16; LINKS],
     i: Row,
     tags: usize,
     room: usize,
     n: usize,
 ) -> usize
     requires sound { (check_of set.now ≡ 0) × SoundTable (decode set.now) (decode_rows rows.now) }
-    requires before { Before (decode set.now) (decode_rows rows.now) i.0 room tags work.old slots.old n }
+    requires before { Before (decode set.now) (decode_rows rows.now) i.0 room tags work.old n }
     requires starts { Starts (decode set.now) (decode_rows rows.now) starts.now i.0 × FirstRules (decode set.now) firsts.now }
-    requires rules_read { RulesRead (decode set.now) (length (decode set.now).rules) rules.now × Fresh i.0 0 tried.old }
-    ensures { Grown n room tags (entries_below (decode set.now) (decode_rows rows.now) (suc i.0)) work.new slots.new result × (result ≤ room → Fresh (suc i.0) 0 tried.new) }
+    ensures { Grown n room tags (entries_below (decode set.now) (decode_rows rows.now) (suc i.0)) work.new result }
 {
     let f = symbol(rows, i);
     let width = size(arity(set, f));
-    let plan = plan_for(rows, starts, i, tags, width, n, room);
-    open_windows(work, &plan, heads, links);
-    let mut children = [UNUSED; PLACES];
+    let low = bounds(rows, starts, i, width, 0);
+    let high = bounds(rows, starts, i, width, 1);
+    let plan = Plan {
+        row: i,
+        tags: tags,
+        arity: width,
+        base: n,
+        room: room,
+        low: low,
+        high: high,
+    };
+    let empty = [0u16; 16];
+    let free = [UNUSED; PLACES];
     let at = size(f);
     let end = cell_at(firsts, at + 1);
     let mut m = n;
     let mut r = cell_at(firsts, at);
     while r < end {
-        m = by_rule(
-            rules,
-            work,
-            tried,
-            slots,
-            &plan,
-            i,
-            r,
-            m,
-            &mut children,
-            heads,
-            links,
-        );
+        let want = want_for(set, plan, r);
+        let own = own_memory(tags_of(set, want.target), i, tags);
+        m = search(work, &own, want, width, m, &empty, free);
         r += 1;
         if m > room {
             return m;
@@ -320,12 +198,6 @@ pub(crate) fn annotate(set: &[u8], rows: &[u16], work: &mut [u16]) -> usize
     let end = count(rows);
     let firsts = first_rules(set);
     let mut starts = [0u16; ROWS];
-    let mut rules = [0u16; RULES];
-    read_rules(set, head.rules, &mut rules);
-    let mut tried = [0u16; TRIED];
-    let mut slots = [0u16; SLOTS];
-    let mut heads = [0u16; HEADS];
-    let mut links = [0u16; LINKS];
     let mut n = 0;
     let mut i = 0;
     while i < end {
@@ -335,12 +207,7 @@ pub(crate) fn annotate(set: &[u8], rows: &[u16], work: &mut [u16]) -> usize
             rows,
             &starts,
             &firsts,
-            &rules,
             work,
-            &mut tried,
-            &mut slots,
-            &mut heads,
-            &mut links,
             Row(narrow(i)),
             tags,
             room,

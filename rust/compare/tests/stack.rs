@@ -5,21 +5,18 @@ use std::thread;
 
 use cidhomba::*;
 use generate::paired_list::{paired_list, paired_list_set};
-use generate::picked_leaves::{picked_document, picking_set, Root};
 use generate::runs::unfolded;
 use generate::wide_export::{wide_export, wide_set};
-use generate::{documents, towers, Random};
+use generate::{documents, Random};
 use reference::examples::{rule, set_g, state};
 use reference::membership::judge;
 use reference::run::run_cells;
-use reference::{Automaton, Document, Form, Rule};
+use reference::{Automaton, Form, Rule};
 
 /// Bytes of stack that serve every call but one, the scratch of the functions included.
 const STACK: usize = 128 * 1024;
 /// Bytes of stack that serve reading JSON.
 const JSON_STACK: usize = 256 * 1024;
-/// Bytes of stack that serve judging, however many choices there are.
-const JUDGING_STACK: usize = 256 * 1024;
 /// Most levels of a document.
 const LEVELS: usize = 256;
 /// Rows of a text of so many levels with three leaves beside each nested term, no two alike.
@@ -253,41 +250,6 @@ fn a_table_of_paired_servers_is_judged() {
     let list = paired_list(204, None);
     assert_eq!(list.rows.len(), 1021);
     assert_eq!(judged(&paired_list_set().encode(), &list.cells()), list.rows.len());
-}
-
-/// Whether a document is let in, judged on a thread of its own with the whole room; the work space is cleared there.
-fn is_let_in((set, document): (Automaton, Document)) -> bool {
-    let (set, rows) = (set.encode(), document.cells());
-    let (mut work, mut run) = (vec![7; ANNOTATION_CELLS * MAX_ROOM], vec![7; STEP_CELLS * MAX_ROOM]);
-    let judgement = with_stack(JUDGING_STACK, || membership(&set, &rows, &mut work, &mut run));
-    let judgement = judgement.expect("there is room");
-    if let Judgement::Yes(run) = judgement {
-        assert_eq!(reference::check_run(&set, &rows, run), Ok(()));
-    }
-    let is_yes = judgement != Judgement::No;
-    assert!(work.iter().all(|&cell| cell == 0));
-    is_yes
-}
-
-/// 1,024 rows with all the room, and rows whose memories meet or all differ.
-#[test]
-fn a_large_and_a_hard_input_are_judged_on_a_fresh_thread() {
-    let set = lenient(4);
-    let broad = documents::broad(&mut Random::new(1), &set, MAX_ROWS).expect("the set has leaves");
-    assert!(is_let_in((set, broad)));
-    assert!(is_let_in(towers::fourfold(4)));
-    assert!(is_let_in(towers::forgetting(6)));
-    assert!(is_let_in(towers::of_width(1, 13, 11)));
-    assert!(!is_let_in((picking_set(Root::ClashingLate), picked_document(2))));
-}
-
-/// The same with more choices than can be tried one by one.
-#[test]
-fn the_hardest_inputs_are_judged_on_a_fresh_thread() {
-    assert!(is_let_in(towers::fourfold(6)));
-    assert!(is_let_in(towers::forgetting(130)));
-    assert!(!is_let_in((picking_set(Root::WithTheFirstTag), picked_document(2))));
-    assert!(is_let_in((picking_set(Root::WithAnotherRule), picked_document(2))));
 }
 
 #[test]

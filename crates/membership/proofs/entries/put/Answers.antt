@@ -23,4 +23,4 @@ shape_of-work c =
 pub returns : goal.returns
 returns c =
     let e = simp length-set at c.put_cells.auto.out in
-    stored c.args.tags c.args.work.now c.put_cells.new.out c.put_cells-2.new.out c.args.n c.args.row.0 c.args.state.0 c.args.rule c.args.memory.now c.args.children.now (omega arith) (omega arith) (omega arith) (omega arith) c.requires.2 (omega arith) c.put_cells.ensures c.put_cells-2.ensures
+    stored c.args.tags c.args.work.now c.put_cells.new.out c.put_cells-2.new.out c.args.n c.args.row.0 c.args.state.0 c.args.rule c.args.memory.now c.args.children (omega arith) (omega arith) (omega arith) (omega arith) (omega arith) c.put_cells.ensures c.put_cells-2.ensures

@@ -1,10 +1,11 @@
 -- `membership::memory::agree` meets its contract. Assumes nothing.
 use Prim.Native.Nat.{◌-◌}
-use Rattle.membership.proofs.Places.{Testing, agree_at}
+use Rattle.model.proofs.Below.{Passed}
+use Rattle.membership.proofs.Places.{agree_at}
 use Rattle.membership.proofs.memory.agree.Given as goal
 
 abbrev pub invariant-loop-k : goal.invariant-loop-k
-invariant-loop-k l = Testing (agree_at l.a l.b) l.all l.k
+invariant-loop-k l = Passed (agree_at l.a l.b) l.tags l.n l.k
 
 abbrev pub decreases-loop-k : goal.decreases-loop-k
-decreases-loop-k l = 16 - l.k
+decreases-loop-k l = l.n - l.k

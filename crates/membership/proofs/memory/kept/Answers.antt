@@ -1,38 +1,32 @@
-use Rattle.membership.proofs.Own.{kept_all, nothing_dropped, masks}
-use Rattle.membership.proofs.Rowing.{zeros}
+use Rattle.membership.proofs.Own.{masks}
 use Rattle.membership.proofs.memory.kept.Goals as goal
 
-ruleset filling = (zeros, masks)
-
-pub returns-then-mask-eq0 : goal.returns-then-mask-eq0
-returns-then-mask-eq0 c = (nothing_dropped c.args.mask c.args.tags c.args.memory.now c.if-mask-eq0.true, c.requires.1)
-
 pub loop-k-init : goal.loop-k-init
-loop-k-init c = search filling
+loop-k-init c = search masks
 
 pub offset_bounds-memory-k : goal.offset_bounds-memory-k
-offset_bounds-memory-k c = search filling
+offset_bounds-memory-k c = search masks
 
 pub bounds-memory-k : goal.bounds-memory-k
-bounds-memory-k c = search filling
+bounds-memory-k c = search masks
 
 pub kept_place-requires : goal.kept_place-requires
-kept_place-requires c = search filling
+kept_place-requires c = search masks
 
 pub offset_bounds-out-k : goal.offset_bounds-out-k
-offset_bounds-out-k c = search filling
+offset_bounds-out-k c = search masks
 
 pub bounds-out-k : goal.bounds-out-k
-bounds-out-k c = search filling
+bounds-out-k c = search masks
 
 pub overflow_add-k : goal.overflow_add-k
-overflow_add-k c = search filling
+overflow_add-k c = search masks
 
 pub loop-k-smaller : goal.loop-k-smaller
-loop-k-smaller c = search filling
+loop-k-smaller c = search masks
 
 pub loop-k-preserved : goal.loop-k-preserved
-loop-k-preserved c = search filling
+loop-k-preserved c = search masks
 
 pub returns : goal.returns
-returns c = kept_all c.args.mask c.args.tags c.args.memory.now c.loop-k.out c.loop-k.rest c.loop-k.k c.loop-k.invariant c.loop-k-test.false
+returns c = search masks

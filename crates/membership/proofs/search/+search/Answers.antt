@@ -1,95 +1,101 @@
-use mathlib.Core.Path.{◌∙◌}
+use mathlib.Core.Path.{sym, ◌∙◌, subst}
 use native.Mathlib.Omega.{arith}
-use Rattle.membership.specs.Chains.{class_in}
-use Rattle.membership.specs.Search.{tags_in}
-use Rattle.membership.proofs.Searching.{none_left, tried_already, start, next_ready, in_place, in_work, choice_short, more_short, class_known, skip, again, full, all, choosing, choosing_next, class_start, first_needs, next_needs, next_windows}
+use borrow.Author.Rules.{rules}
+use Rattle.automaton.proofs.Parts.{length_mapped}
+use Rattle.membership.specs.Cells.{memory_of, annotations_in}
+use Rattle.membership.specs.Entries.{entries_in, add_entries, Grown}
+use Rattle.membership.proofs.Searching.{found_none, start, next_ready, in_window, skip, again, full, all}
 use Rattle.membership.proofs.search.+search.Goals as goal
+
+pub leave-requires : goal.leave-requires
+leave-requires t c = search rules
 
 pub shape_of-work-then-left-eq0 : goal.shape_of-work-then-left-eq0
 shape_of-work-then-left-eq0 t c = c.leave.auto.work
 
 pub returns-then-left-eq0 : goal.returns-then-left-eq0
-returns-then-left-eq0 t c = none_left c.args.work.now c.args.slots.now c.args.own.now c.args.plan.now c.args.asked.now c.args.left c.args.n c.args.memory.now c.args.children.now c.requires.0 c.args.tried.now c.requires.2 c.if-left-eq0.true c.leave.new.work c.leave.new.slots c.leave.result c.leave.ensures
+returns-then-left-eq0 t c =
+    subst (λ z. Grown c.args.n c.args.want.room c.args.want.tags (add_entries (entries_in c.args.want.tags c.args.work.now c.args.n) z) c.leave.new.work c.leave.result)
+    (sym (found_none (annotations_in c.args.want.tags c.args.work.now c.args.want.base) c.args.want (memory_of c.args.want.tags c.args.own.now) c.args.left (memory_of c.args.want.tags c.args.memory.now) c.args.children c.if-left-eq0.true))
+    c.leave.ensures
 
-pub slot_for-slot-requires : goal.slot_for-slot-requires
-slot_for-slot-requires t c = omega (arith, c.requires.0.few_children, c.requires.1, c.if-left-eq0.false)
+pub overflow_sub-p : goal.overflow_sub-p
+overflow_sub-p t c = search rules
 
-pub is_tried-requires : goal.is_tried-requires
-is_tried-requires t c = record { in_bounds = omega arith; row_bound = (c.requires.2.few_rows, c.requires.2.few_rules, omega (arith, c.requires.0.few_children, c.requires.1), c.requires.0.few_tags) }
+pub offset_bounds-highs-p : goal.offset_bounds-highs-p
+offset_bounds-highs-p t c = search rules
 
-pub returns-then-is_tried : goal.returns-then-is_tried
-returns-then-is_tried t c = tried_already c.args.work.now c.args.slots.now c.args.own.now c.args.plan.now c.args.asked.now c.args.left c.args.n c.args.memory.now c.args.children.now c.requires.0 c.args.tried.now c.requires.2 (c.is_tried.ensures c.if-is_tried.true)
+pub bounds-highs-p : goal.bounds-highs-p
+bounds-highs-p t c = search rules
 
-pub overflow_sub-rest : goal.overflow_sub-rest
-overflow_sub-rest t c = omega (arith, c.if-left-eq0.false)
+pub offset_bounds-states-p : goal.offset_bounds-states-p
+offset_bounds-states-p t c = search rules
 
-pub first_in-j-requires : goal.first_in-j-requires
-first_in-j-requires t c =
-    let (four, order, few, fits, opened) = first_needs c.args.work.now c.args.slots.now c.args.own.now c.args.plan.now c.args.asked.now c.args.left c.args.n c.args.memory.now c.args.children.now c.requires.0 c.requires.1 c.if-left-eq0.false c.args.heads.now c.args.links.now c.requires.5 in
-    record { bounds = (four, c.class_of-c.ensures.1, order, few, fits); opened = opened }
+pub bounds-states-p : goal.bounds-states-p
+bounds-states-p t c = search (length_mapped, rules)
+
+pub offset_bounds-lows-p : goal.offset_bounds-lows-p
+offset_bounds-lows-p t c = search rules
+
+pub bounds-lows-p : goal.bounds-lows-p
+bounds-lows-p t c = search rules
 
 pub loop-j-init : goal.loop-j-init
-loop-j-init t c = choosing c.args.work.now c.args.slots.now c.args.own.now c.args.plan.now c.args.asked.now c.args.left c.args.n c.args.memory.now c.args.children.now c.args.heads.now c.args.links.now c.args.work.now c.args.slots.now c.args.children.now c.args.tried.now c.args.n _ (start c.args.work.now c.args.slots.now c.args.own.now c.args.plan.now c.args.asked.now c.args.left c.args.n c.args.memory.now c.args.children.now c.requires.0 c.requires.1 c.if-left-eq0.false c.args.tried.now c.requires.2) c.requires.5 (omega arith) (class_in c.args.work.now) (class_start c.args.work.now c.args.slots.now c.args.own.now c.args.plan.now c.args.asked.now c.args.left c.args.n c.args.memory.now c.args.children.now c.requires.0 c.requires.1 c.if-left-eq0.false c.args.heads.now c.args.links.now c.requires.5) c.class_of-c.result c.first_in-j.result c.class_of-c.ensures.0 c.first_in-j.ensures
+loop-j-init t c = start c.args.work.now c.args.own.now c.args.want c.args.left c.args.n c.args.memory.now c.args.children c.requires.0 c.requires.3 c.if-left-eq0.false
 
-pub next_in-j-requires : goal.next_in-j-requires
-next_in-j-requires t c =
-    let (few, fits, chained, is) = next_needs c.args.work.now c.args.slots.now c.args.own.now c.args.plan.now c.args.asked.now c.args.left c.args.n c.args.memory.now c.args.children.now c.args.heads.now c.args.links.now c.loop-j.work c.loop-j.slots c.loop-j.children c.loop-j.tried c.loop-j.m c.loop-j.j c.loop-j.invariant c.loop-j-test.true in
-    record { bounds = (c.loop-j.invariant.from, c.loop-j-test.true, few, fits); chained = (chained, is c.class_of-c.result c.class_of-c.ensures.0) }
+pub overflow_add-j : goal.overflow_add-j
+overflow_add-j t c =
+    let i = in_window c.args.work.now c.args.own.now c.args.want c.args.left c.args.n c.args.memory.now c.args.children c.loop-j.work c.loop-j.m c.loop-j.j c.loop-j.invariant c.loop-j-test.true in
+    let r = next_ready c.args.work.now c.args.own.now c.args.want c.args.left c.args.n c.args.memory.now c.args.children c.loop-j.work c.loop-j.m c.loop-j.j c.loop-j.invariant in
+    omega (arith, i, r.known, r.count, r.few)
 
 pub choosable-requires : goal.choosable-requires
 choosable-requires t c =
-    let (few, fits) = in_work c.args.work.now c.args.slots.now c.args.own.now c.args.plan.now c.args.asked.now c.args.left c.args.n c.args.memory.now c.args.children.now c.loop-j.work c.loop-j.slots c.loop-j.children c.loop-j.tried c.loop-j.m c.loop-j.j c.loop-j.invariant.searching c.loop-j-test.true in
-    (c.loop-j.invariant.searching.ready.few_tags, omega (arith, fits), c.requires.4, choice_short c.args.work.now c.args.slots.now c.args.own.now c.args.plan.now c.args.asked.now c.args.left c.args.n c.args.memory.now c.args.children.now c.loop-j.work c.loop-j.slots c.loop-j.children c.loop-j.tried c.loop-j.m c.loop-j.j c.loop-j.invariant.searching c.loop-j-test.true)
+    let i = in_window c.args.work.now c.args.own.now c.args.want c.args.left c.args.n c.args.memory.now c.args.children c.loop-j.work c.loop-j.m c.loop-j.j c.loop-j.invariant c.loop-j-test.true in
+    let r = next_ready c.args.work.now c.args.own.now c.args.want c.args.left c.args.n c.args.memory.now c.args.children c.loop-j.work c.loop-j.m c.loop-j.j c.loop-j.invariant in
+    (r.few_tags, c.requires.2, omega (arith, i, r.known, r.count, r.space))
 
-pub joined_with-more-requires : goal.joined_with-more-requires
-joined_with-more-requires t c =
-    let (few, fits) = in_work c.args.work.now c.args.slots.now c.args.own.now c.args.plan.now c.args.asked.now c.args.left c.args.n c.args.memory.now c.args.children.now c.loop-j.work c.loop-j.slots c.loop-j.children c.loop-j.tried c.loop-j.m c.loop-j.j c.loop-j.invariant.searching c.loop-j-test.true in
-    omega (arith, fits)
+pub joined_with-joined-requires : goal.joined_with-joined-requires
+joined_with-joined-requires t c =
+    let i = in_window c.args.work.now c.args.own.now c.args.want c.args.left c.args.n c.args.memory.now c.args.children c.loop-j.work c.loop-j.m c.loop-j.j c.loop-j.invariant c.loop-j-test.true in
+    let r = next_ready c.args.work.now c.args.own.now c.args.want c.args.left c.args.n c.args.memory.now c.args.children c.loop-j.work c.loop-j.m c.loop-j.j c.loop-j.invariant in
+    (c.requires.2, omega (arith, i, r.known, r.count, r.space))
 
-pub narrow-requires : goal.narrow-requires
-narrow-requires t c =
-    let (few, fits) = in_work c.args.work.now c.args.slots.now c.args.own.now c.args.plan.now c.args.asked.now c.args.left c.args.n c.args.memory.now c.args.children.now c.loop-j.work c.loop-j.slots c.loop-j.children c.loop-j.tried c.loop-j.m c.loop-j.j c.loop-j.invariant.searching c.loop-j-test.true in
-    omega (arith, few)
+pub with_child-with-requires : goal.with_child-with-requires
+with_child-with-requires t c =
+    let i = in_window c.args.work.now c.args.own.now c.args.want c.args.left c.args.n c.args.memory.now c.args.children c.loop-j.work c.loop-j.m c.loop-j.j c.loop-j.invariant c.loop-j-test.true in
+    let r = next_ready c.args.work.now c.args.own.now c.args.want c.args.left c.args.n c.args.memory.now c.args.children c.loop-j.work c.loop-j.m c.loop-j.j c.loop-j.invariant in
+    (omega (arith, c.loop-j.invariant.some, c.loop-j.invariant.within, r.few_children), omega (arith, i, r.known, r.count, r.few))
 
-pub offset_bounds-children-p : goal.offset_bounds-children-p
-offset_bounds-children-p t c =
-    let (four, e, less) = in_place c.args.work.now c.args.slots.now c.args.own.now c.args.plan.now c.args.asked.now c.args.left c.args.n c.args.memory.now c.args.children.now c.loop-j.work c.loop-j.slots c.loop-j.children c.loop-j.tried c.loop-j.m c.loop-j.j c.loop-j.invariant.searching in
-    omega (arith, four)
+pub overflow_sub-left : goal.overflow_sub-left
+overflow_sub-left t c = omega (arith, c.loop-j.invariant.some)
 
-pub bounds-children-p : goal.bounds-children-p
-bounds-children-p t c =
-    let (four, e, less) = in_place c.args.work.now c.args.slots.now c.args.own.now c.args.plan.now c.args.asked.now c.args.left c.args.n c.args.memory.now c.args.children.now c.loop-j.work c.loop-j.slots c.loop-j.children c.loop-j.tried c.loop-j.m c.loop-j.j c.loop-j.invariant.searching in
-    omega (arith, four)
+pub slice_bounds-search-end : goal.slice_bounds-search-end
+slice_bounds-search-end t c = search rules
 
 pub search-m-requires : goal.search-m-requires
-search-m-requires t c =
-    let (four, e, less) = in_place c.args.work.now c.args.slots.now c.args.own.now c.args.plan.now c.args.asked.now c.args.left c.args.n c.args.memory.now c.args.children.now c.loop-j.work c.loop-j.slots c.loop-j.children c.loop-j.tried c.loop-j.m c.loop-j.j c.loop-j.invariant.searching in
-    let is = c.decreases in let p = c.requires in
-    (omega (arith, c.loop-j.invariant.searching.some, is), (next_ready c.args.work.now c.args.slots.now c.args.own.now c.args.plan.now c.args.asked.now c.args.left c.args.n c.args.memory.now c.args.children.now c.loop-j.work c.loop-j.slots c.loop-j.children c.loop-j.tried c.loop-j.m c.loop-j.j c.loop-j.invariant.searching, less, c.loop-j.invariant.searching.tried, p.3, more_short c.args.work.now c.args.slots.now c.args.own.now c.args.plan.now c.args.asked.now c.args.left c.args.n c.args.memory.now c.args.children.now c.loop-j.work c.loop-j.slots c.loop-j.children c.loop-j.tried c.loop-j.m c.loop-j.j c.loop-j.invariant.searching c.loop-j-test.true c.joined_with-more.result p.4 c.joined_with-more.ensures, next_windows c.args.work.now c.args.slots.now c.args.own.now c.args.plan.now c.args.asked.now c.args.left c.args.n c.args.memory.now c.args.children.now c.args.heads.now c.args.links.now c.loop-j.work c.loop-j.slots c.loop-j.children c.loop-j.tried c.loop-j.m c.loop-j.j c.loop-j.invariant c.loop-j-test.true))
+search-m-requires t c = (omega (arith, c.loop-j.invariant.some, c.decreases), (next_ready c.args.work.now c.args.own.now c.args.want c.args.left c.args.n c.args.memory.now c.args.children c.loop-j.work c.loop-j.m c.loop-j.j c.loop-j.invariant, c.requires.1, omega arith, omega (arith, c.loop-j.invariant.some, c.loop-j.invariant.within)))
 
-pub shape_of-work-then-m-room : goal.shape_of-work-then-m-room
-shape_of-work-then-m-room t c = c.search-m.auto.work ∙ c.loop-j.invariant.searching.turning.space
+pub shape_of-work-then-m-want : goal.shape_of-work-then-m-want
+shape_of-work-then-m-want t c = c.search-m.auto.work ∙ c.loop-j.invariant.turning.space
 
-pub returns-then-m-room : goal.returns-then-m-room
-returns-then-m-room t c = full c.args.work.now c.args.slots.now c.args.own.now c.args.plan.now c.args.asked.now c.args.left c.args.n c.args.memory.now c.args.children.now c.loop-j.work c.loop-j.slots c.loop-j.children c.loop-j.tried c.loop-j.m c.loop-j.j c.loop-j.invariant.searching c.loop-j-test.true c.choosable.result c.choosable.ensures c.narrow.result c.joined_with-more.result c.search-m.new.work c.search-m.new.slots c.search-m.new.children c.search-m.new.tried c.search-m.result c.if-choosable.true (c.joined_with-more.ensures (tags_in c.args.plan.now) c.loop-j.invariant.searching.ready.few_tags) c.narrow.ensures c.search-m.ensures.0 c.search-m.ensures.1 c.search-m.ensures.2 c.if-m-room.true
+pub returns-then-m-want : goal.returns-then-m-want
+returns-then-m-want t c = full c.args.work.now c.args.own.now c.args.want c.args.left c.args.n c.args.memory.now c.args.children c.loop-j.work c.loop-j.m c.loop-j.j c.loop-j.invariant c.loop-j-test.true c.choosable.result c.choosable.ensures c.joined_with-joined.result c.with_child-with.result c.search-m.new.work c.search-m.result c.if-choosable.true (c.joined_with-joined.ensures c.args.want.tags c.loop-j.invariant.ready.few_tags) c.with_child-with.ensures c.search-m.ensures c.if-m-want.true
 
-pub loop-j-smaller-else-m-room : goal.loop-j-smaller-else-m-room
-loop-j-smaller-else-m-room t c = omega (arith, c.next_in-j.ensures.from, c.next_in-j.ensures.to, c.loop-j-test.true)
+pub loop-j-smaller-else-m-want : goal.loop-j-smaller-else-m-want
+loop-j-smaller-else-m-want t c = search rules
 
-pub loop-j-preserved-else-m-room : goal.loop-j-preserved-else-m-room
-loop-j-preserved-else-m-room t c = choosing_next c.args.work.now c.args.slots.now c.args.own.now c.args.plan.now c.args.asked.now c.args.left c.args.n c.args.memory.now c.args.children.now c.args.heads.now c.args.links.now c.search-m.new.work c.search-m.new.slots c.search-m.new.children c.search-m.new.tried c.search-m.result c.loop-j.j (again c.args.work.now c.args.slots.now c.args.own.now c.args.plan.now c.args.asked.now c.args.left c.args.n c.args.memory.now c.args.children.now c.loop-j.work c.loop-j.slots c.loop-j.children c.loop-j.tried c.loop-j.m c.loop-j.j c.loop-j.invariant.searching c.loop-j-test.true c.choosable.result c.choosable.ensures c.narrow.result c.joined_with-more.result c.search-m.new.work c.search-m.new.slots c.search-m.new.children c.search-m.new.tried c.search-m.result c.if-choosable.true (c.joined_with-more.ensures (tags_in c.args.plan.now) c.loop-j.invariant.searching.ready.few_tags) c.narrow.ensures c.search-m.ensures.0 c.search-m.ensures.1 c.search-m.ensures.2 c.search-m.auto.work c.if-m-room.false) c.loop-j.invariant.windows c.loop-j.invariant.from (class_in c.loop-j.work) (class_known c.args.work.now c.args.slots.now c.args.own.now c.args.plan.now c.args.asked.now c.args.left c.args.n c.args.memory.now c.args.children.now c.loop-j.work c.loop-j.slots c.loop-j.children c.loop-j.tried c.loop-j.m c.loop-j.j c.loop-j.invariant.searching) c.class_of-c.result c.next_in-j.result c.class_of-c.ensures.0 c.next_in-j.ensures
+pub loop-j-preserved-else-m-want : goal.loop-j-preserved-else-m-want
+loop-j-preserved-else-m-want t c = again c.args.work.now c.args.own.now c.args.want c.args.left c.args.n c.args.memory.now c.args.children c.loop-j.work c.loop-j.m c.loop-j.j c.loop-j.invariant c.loop-j-test.true c.choosable.result c.choosable.ensures c.joined_with-joined.result c.with_child-with.result c.search-m.new.work c.search-m.result c.if-choosable.true (c.joined_with-joined.ensures c.args.want.tags c.loop-j.invariant.ready.few_tags) c.with_child-with.ensures c.search-m.ensures c.search-m.auto.work c.if-m-want.false
 
 pub loop-j-smaller : goal.loop-j-smaller
-loop-j-smaller t c = omega (arith, c.next_in-j.ensures.from, c.next_in-j.ensures.to, c.loop-j-test.true)
+loop-j-smaller t c = search rules
 
 pub loop-j-preserved : goal.loop-j-preserved
-loop-j-preserved t c = choosing_next c.args.work.now c.args.slots.now c.args.own.now c.args.plan.now c.args.asked.now c.args.left c.args.n c.args.memory.now c.args.children.now c.args.heads.now c.args.links.now c.loop-j.work c.loop-j.slots c.loop-j.children c.loop-j.tried c.loop-j.m c.loop-j.j (skip c.args.work.now c.args.slots.now c.args.own.now c.args.plan.now c.args.asked.now c.args.left c.args.n c.args.memory.now c.args.children.now c.loop-j.work c.loop-j.slots c.loop-j.children c.loop-j.tried c.loop-j.m c.loop-j.j c.loop-j.invariant.searching c.loop-j-test.true c.choosable.result c.choosable.ensures c.if-choosable.false) c.loop-j.invariant.windows c.loop-j.invariant.from (class_in c.loop-j.work) (class_known c.args.work.now c.args.slots.now c.args.own.now c.args.plan.now c.args.asked.now c.args.left c.args.n c.args.memory.now c.args.children.now c.loop-j.work c.loop-j.slots c.loop-j.children c.loop-j.tried c.loop-j.m c.loop-j.j c.loop-j.invariant.searching) c.class_of-c.result c.next_in-j.result c.class_of-c.ensures.0 c.next_in-j.ensures
-
-pub keep-requires : goal.keep-requires
-keep-requires t c = (c.requires.2.few_rows, c.requires.2.few_rules, omega (arith, c.requires.0.few_children, c.requires.1))
+loop-j-preserved t c = skip c.args.work.now c.args.own.now c.args.want c.args.left c.args.n c.args.memory.now c.args.children c.loop-j.work c.loop-j.m c.loop-j.j c.loop-j.invariant c.loop-j-test.true c.choosable.result c.choosable.ensures c.if-choosable.false
 
 pub shape_of-work : goal.shape_of-work
-shape_of-work t c = c.loop-j.invariant.searching.turning.space
+shape_of-work t c = c.loop-j.invariant.turning.space
 
 pub returns : goal.returns
-returns t c = all c.args.work.now c.args.slots.now c.args.own.now c.args.plan.now c.args.asked.now c.args.left c.args.n c.args.memory.now c.args.children.now c.loop-j.work c.loop-j.slots c.loop-j.children c.loop-j.tried c.loop-j.m c.loop-j.j c.loop-j.invariant.searching c.loop-j-test.false c.keep.new.tried c.keep.ensures
+returns t c = all c.args.work.now c.args.own.now c.args.want c.args.left c.args.n c.args.memory.now c.args.children c.loop-j.work c.loop-j.m c.loop-j.j c.loop-j.invariant c.loop-j-test.false

@@ -2,8 +2,8 @@
 use Rattle.membership.proofs.Storing.{leaves}
 use Rattle.membership.proofs.search.leave.Goals as goal
 
-pub returns-then-forget-eq0 : goal.returns-then-forget-eq0
-returns-then-forget-eq0 c = search leaves
+pub returns-then-want-eq0 : goal.returns-then-want-eq0
+returns-then-want-eq0 c = search leaves
 
 pub returns : goal.returns
 returns c = search leaves

@@ -1,0 +1,122 @@
+// Annotations with their sources in the work space: the test whether one may be chosen, the test for an equal one, and a new one's cells.
+ghost use Rattle.std.specs.Prelude.{◌≡◌, ◌+◌, ◌*◌, ◌≤◌, ◌<◌, length};
+ghost use Rattle.model.specs.Annotation.{annotation, eq_annotation};
+ghost use Rattle.judging.specs.Cells.{memory_of, Short, annotation_in, ShortIn};
+ghost use Rattle.judging.specs.Entries.{Stored};
+ghost use Rattle.judging.specs.Search.{choosable?, JoinedWith};
+
+use crate::memory::{agree, join, same};
+use automaton::State;
+use base::limits::PLACES;
+use base::space::put_cells;
+use document::rows::Row;
+
+pub const ANNOTATION_CELLS: usize = 32;
+
+// The cells of an annotation.
+pub(crate) const ROW: usize = 0;
+
+pub(crate) const STATE: usize = 1;
+
+const MEMORY: usize = 2;
+
+const MEMORY_END: usize = 18;
+
+const MARK: usize = 18;
+
+pub(crate) const RULE: usize = 19;
+
+pub(crate) const CHILD: usize = 20;
+
+// That of the index: the annotation after it in its slot.
+pub(crate) const NEXT: usize = 25;
+
+// Those of the run: 1 where the annotation is reached, and its step's number.
+pub(crate) const REACHED: usize = 26;
+
+pub(crate) const NUMBER: usize = 27;
+
+pub(crate) fn narrow(x: usize) -> u16
+    requires { x < 65536 }
+    ensures { result ≡ x }
+{
+    x as u16
+}
+
+// Annotation j may be chosen for a child in a state, the memory being joined so far.
+pub(crate) fn choosable(
+    work: &[u16],
+    j: usize,
+    state: State,
+    memory: &[u16; 16],
+    tags: usize,
+) -> bool
+    requires { (tags ≤ 16) × (j * 32 + 32 ≤ length work.now) × Short tags memory.now × ShortIn tags work.now j }
+    ensures { result ≡ choosable? state.0 (memory_of tags memory.now) (annotation_in tags work.now j) }
+{
+    let at = j * ANNOTATION_CELLS;
+    if work[at + STATE] != state.0 {
+        return false;
+    }
+    let start = at + MEMORY;
+    let end = at + MEMORY_END;
+    agree(memory, &work[start..end])
+}
+
+// The memory joined so far with that of annotation j.
+pub(crate) fn joined_with(work: &[u16], j: usize, memory: &[u16; 16]) -> [u16; 16]
+    requires { j * 32 + 32 ≤ length work.now }
+    ensures { JoinedWith work.now j memory.now result }
+{
+    let at = j * ANNOTATION_CELLS;
+    let start = at + MEMORY;
+    let end = at + MEMORY_END;
+    join(memory, &work[start..end])
+}
+
+// Annotation j is the one with this row, state and memory.
+pub(crate) fn is_same(
+    work: &[u16],
+    j: usize,
+    row: Row,
+    state: State,
+    memory: &[u16; 16],
+    tags: usize,
+) -> bool
+    requires { (tags ≤ 16) × (j * 32 + 32 ≤ length work.now) × Short tags memory.now × ShortIn tags work.now j }
+    ensures { result ≡ eq_annotation (annotation row.0 state.0 (memory_of tags memory.now)) (annotation_in tags work.now j) }
+{
+    let at = j * ANNOTATION_CELLS;
+    if row.0 != work[at] {
+        return false;
+    }
+    if state.0 != work[at + STATE] {
+        return false;
+    }
+    let start = at + MEMORY;
+    let end = at + MEMORY_END;
+    same(memory, &work[start..end])
+}
+
+// Entry n is written.
+pub(crate) fn put(
+    work: &mut [u16],
+    n: usize,
+    row: Row,
+    state: State,
+    memory: &[u16; 16],
+    rule: u16,
+    children: &[u16; PLACES],
+    tags: usize,
+)
+    requires { (tags ≤ 16) × (n * 32 + 32 ≤ length work.old) × Short tags memory.now }
+    ensures { Stored tags work.old n (record { annotation = annotation row.0 state.0 (memory_of tags memory.now); rule = rule; children = children.now }) work.new }
+{
+    let at = n * ANNOTATION_CELLS;
+    work[at] = row.0;
+    work[at + STATE] = state.0;
+    put_cells(work, at + MEMORY, memory);
+    work[at + MARK] = 0;
+    work[at + RULE] = rule;
+    put_cells(work, at + CHILD, children);
+}
