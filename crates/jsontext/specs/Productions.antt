@@ -22,12 +22,12 @@ pub record SomeDigitsAt (t : List ℕ) (d : Digits) (i : ℕ) (e : Digits) (n : 
   pub first : digit? (byte_at t i) ≡ true
   pub others : DigitsAt t (with_digit d (byte_at t i)) (i + 1) e n
 
--- int = zero / ( digit1_9 *DIGIT ); zero = %x30; digit1_9 = %x31-39
+-- int = zero / ( digit1-9 *DIGIT ); zero = %x30; digit1-9 = %x31-39
 pub data IntAt (t : List ℕ) : ℕ → Digits → ℕ → Type 0 where
   only_zero : {i n : ℕ} → byte_at t i ≡ 48 → n ≡ i + 1 → IntAt t i (with_digit no_digits 48) n
   digit1_9 : {i n : ℕ} {d : Digits} → between 49 57 (byte_at t i) ≡ true → DigitsAt t (with_digit no_digits (byte_at t i)) (i + 1) d n → IntAt t i d n
 
--- frac = decimal_point 1*DIGIT; decimal_point = %x2E
+-- frac = decimal-point 1*DIGIT; decimal-point = %x2E
 pub record FracAt (t : List ℕ) (d : Digits) (i : ℕ) (e : Digits) (n : ℕ) : Type 0 where
   pub decimal_point : byte_at t i ≡ 46
   pub digits : SomeDigitsAt t d (i + 1) e n

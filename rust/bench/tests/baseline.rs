@@ -87,9 +87,19 @@ fn judging() {
         let automaton = sets::any_automaton(random, &sizes);
         let Some(document) = documents::document(random, &automaton, 30) else { continue };
         let room = random.pick(&[0, 5, 100, 4096]);
-        let damaged_percent = random.pick(&[0, 0, 30]);
-        let set = set_bytes::stored(random, &automaton, damaged_percent);
+        let set = set_bytes::stored(random, &automaton, 0);
         judged_alike(&set, &document.cells(), room);
+    }
+}
+
+#[test]
+fn judging_by_damaged_sets() {
+    for seed in 0..SEEDS {
+        let random = &mut Random::new(seed);
+        let automaton = sets::any_automaton(random, &sets::tagged_sizes());
+        let Some(document) = documents::document(random, &automaton, 30) else { continue };
+        let set = set_bytes::stored(random, &automaton, 30);
+        judged_alike(&set, &document.cells(), 100);
     }
 }
 
