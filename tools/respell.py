@@ -83,6 +83,10 @@ ALIAS = re.compile(r" as ([a-z][^\s(){}.;,]*)(?=[,}])")
 
 def main(argv):
     check = "--check" in argv
+    # Names that port.py left are told from those that are turned by this alone, so a second run would turn some again.
+    if not all(os.path.isdir(f"crates/{old}") for old in CRATES):
+        print("the names are turned already: nothing is written")
+        return
     files = {p: read(p) for p in texts("crates", (".antt", ".rt", ".edit"))}
     own = collections.defaultdict(set)
     for p, t in files.items():
