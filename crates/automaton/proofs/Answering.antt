@@ -9,25 +9,27 @@ use Rattle.model.specs.Automaton.{Automaton}
 use Rattle.model.specs.Refusal.{gives, refuses, unless}
 use Rattle.model.specs.Sound.{Sound}
 use Rattle.automaton.specs.declared.Form.{Form}
-use Rattle.automaton.specs.declared.Written.{Written}
-use Rattle.automaton.specs.declared.Written.TheVariants.{Length, Refused}
+use Rattle.std.specs.Prelude.{Result, Ok, Err}
+use Rattle.base.specs.Refusals.{number}
+use Rattle.base.specs.declared.refusal.Refusal.{Refusal}
 use Rattle.automaton.specs.Form.{HasRoom}
 use Rattle.automaton.specs.Encode.{encode, encoded_length, space_of}
 use Rattle.automaton.specs.Answer.{written_answer, Stores}
+use Rattle.base.proofs.Refusing.{some_number}
 use Rattle.automaton.proofs.Encoded.{encode_length}
 use Rattle.automaton.proofs.RoundTrip.{decode_encode, encode_sound}
 
 module _ (form : Form) (A : Automaton) (space : List ℕ) where
   -- the answer and the space afterwards are those of the number k
-  abbrev pub Answered : ℕ → Written → List ℕ → Type 0
+  abbrev pub Answered : ℕ → Result ℕ Refusal → List ℕ → Type 0
   Answered k r after = (written_answer r ≡ unless k (encoded_length form A)) × (after ≡ space_of k form A space)
 
-  pub refused_answer : (k m : ℕ) → m ≡ k → (m ≡ 0 → ⊥) → Answered k (Refused m) space
+  pub refused_answer : (k : ℕ) (w : Refusal) → number w ≡ k → Answered k (Err w) space
   unfolding unless
-  refused_answer zero m e h = absurd (h e)
-  refused_answer (suc k) m e h = (ap refuses e, refl)
+  refused_answer zero w e = let s = some_number w in absurd (omega (arith, s.1))
+  refused_answer (suc k) w e = (ap refuses e, refl)
 
-  pub written_answer_lem : (k r : ℕ) (after : List ℕ) → k ≡ 0 → r ≡ encoded_length form A → after ≡ encode form A ++ drop r space → Answered k (Length r) after
+  pub written_answer_lem : (k r : ℕ) (after : List ℕ) → k ≡ 0 → r ≡ encoded_length form A → after ≡ encode form A ++ drop r space → Answered k (Ok r) after
   unfolding unless
   written_answer_lem zero r after e el es = (ap gives el, es ∙ ap (λ (z : ℕ). encode form A ++ drop z space) el)
   written_answer_lem (suc k) r after e el es = absurd (omega arith)

@@ -13,8 +13,8 @@ use Rattle.model.specs.Refusal.{unless}
 use Rattle.model.specs.Sound.{Sound}
 use Rattle.model.specs.Written.{no_rule, rule_at}
 use Rattle.model.proofs.Rows.{in_get_d}
-use Rattle.automaton.specs.declared.Checked.{Checked}
-use Rattle.automaton.specs.declared.Checked.TheVariants as checked
+use Rattle.std.specs.Prelude.{Result, Ok}
+use Rattle.base.specs.declared.refusal.Refusal.{Refusal}
 use Rattle.automaton.specs.declared.Form.{Form}
 use Rattle.automaton.specs.declared.StoredRule.{StoredRule}
 use Rattle.automaton.specs.Answer.{check_answer, IsRule}
@@ -86,5 +86,5 @@ pub rule_bytes : (form : Form) (x : StoredRule) (r : Rule) → IsRule x r → en
 rule_bytes form x r h = rw (h.symbol, h.target, h.places, h.forget)
 
 -- an answer without a number is of a sound automaton
-pub checked_sound : (s : List ℕ) (r : Checked) → check_answer r ≡ unless (check_of s) tt → r ≡ checked.Passed → Sound (decode s)
+pub checked_sound : (s : List ℕ) (r : Result (Unit {0}) Refusal) → check_answer r ≡ unless (check_of s) tt → r ≡ Ok tt → Sound (decode s)
 checked_sound s r e h = sound_decode s (passed_zero r (check_of s) e h)

@@ -2,14 +2,17 @@
 use mathlib.Core.Path.{◌≡◌, refl, sym, ap, ◌∙◌}
 use mathlib.Core.Bool.{Bool, true, false}
 use mathlib.Core.List.{List}
-use Prim.Native.Nat.{ℕ, zero, suc, ◌≤◌, ◌<◌}
+use Prim.Native.Nat.{ℕ, suc, ◌≤◌, ◌<◌}
 use native.Mathlib.Omega.{arith}
 use lib.Dec.{leb}
 use borrow.Author.Tests.{le-leb, lt-leb, not-true, not-false}
 use Rattle.model.specs.Limits.{max_tags}
 use Rattle.model.specs.Refusal.{demand, and_after, unless}
-use Rattle.automaton.specs.declared.Checked.{Checked}
-use Rattle.automaton.specs.declared.Checked.TheVariants.{Passed, Refused}
+use Rattle.std.specs.Prelude.{Result, Ok, Err}
+use Rattle.base.specs.Refusals.{number, refused_by}
+use Rattle.base.specs.declared.refusal.Refusal.{Refusal}
+use Rattle.base.proofs.Refusing.{some_number}
+use Rattle.base.proofs.Refusing as refusing
 use Rattle.automaton.specs.Stored.{tag_count}
 use Rattle.automaton.specs.Check.{counts_ok}
 use Rattle.automaton.specs.Answer.{check_answer}
@@ -37,56 +40,38 @@ module _ (a b n rest : ℕ) where
 
 pub ruleset verdicts = (pass, stop, pass_at_least, stop_below, not-true, not-false)
 
--- the one answer with that number
-abbrev pub checked_of : ℕ → Checked
-checked_of zero = Passed
-checked_of (suc n) = Refused (suc n)
+-- the answer with the number that the definition gives
+pub answered : (r : Result (Unit {0}) Refusal) (m : ℕ) → refused_by r ≡ m → check_answer r ≡ unless m tt
+answered r m e = refusing.answered (λ u. u) tt r m (λ a h. refl) e
 
--- an answer is that of a number where it says so, and says so where it is
-pub answer_is : (r : Checked) (n : ℕ) → check_answer r ≡ unless n tt → r ≡ checked_of n
-unfolding unless
-answer_is Passed zero e = refl
-answer_is Passed (suc n) e = let z : ◌≡◌ {A = ℕ} 0 1 = cc in absurd (omega arith)
-answer_is (Refused m) zero e = let z : ◌≡◌ {A = ℕ} 0 1 = cc in absurd (omega arith)
-answer_is (Refused m) (suc n) e = cc
+pub refused : (w : Refusal) (n m : ℕ) → number w ≡ n → n ≡ m → check_answer (Err w) ≡ unless m tt
+refused w n m e h = answered (Err w) m (e ∙ h)
 
-pub is_answer : (r : Checked) (n : ℕ) → r ≡ checked_of n → check_answer r ≡ unless n tt
-unfolding unless
-is_answer r zero e = ap check_answer e
-is_answer r (suc n) e = ap check_answer e
+pub passed : (m : ℕ) → 0 ≡ m → check_answer (Ok tt) ≡ unless m tt
+passed m h = answered (Ok tt) m h
 
--- the answer with the number n, where the definition gives m
-pub answered : (n m : ℕ) → n ≡ m → check_answer (checked_of n) ≡ unless m tt
-answered n m e = is_answer (checked_of n) m (ap checked_of e)
+pub answer_is : (r : Result (Unit {0}) Refusal) (m : ℕ) → check_answer r ≡ unless m tt → refused_by r ≡ m
+answer_is r m e = refusing.refused_is (λ u. u) tt r m e
 
 -- a set that passed 2 has few tags
 pub tags_few : (s : List ℕ) (f : Bool) → f ≡ counts_ok s → f ≡ true → tag_count s ≤ max_tags
 tags_few s f e y = (counted s (sym e ∙ y)).few_tags
 
--- What a caller learns: of an answer that passed the number is 0, and a later place decides; of a refusal it is the answer's own.
-module _ (r : Checked) (n : ℕ) (e : check_answer r ≡ unless n tt) where
-  pub passed_zero : r ≡ Passed → n ≡ 0
-  passed_zero = go n (answer_is r n e)
-    where
-      go : (m : ℕ) → r ≡ checked_of m → r ≡ Passed → m ≡ 0
-      go zero d h = refl
-      go (suc m) d h = cc
+-- What a caller learns: of an answer that passed the number is 0, and a later place decides; of a refusal it is the refusal's own.
+module _ (r : Result (Unit {0}) Refusal) (n : ℕ) (e : check_answer r ≡ unless n tt) where
+  pub passed_zero : r ≡ Ok tt → n ≡ 0
+  passed_zero h = sym (answer_is r n e) ∙ ap refused_by h
 
-  pub passed_after : (rest : ℕ) → r ≡ Passed → rest ≡ and_after n rest
+  pub passed_after : (rest : ℕ) → r ≡ Ok tt → rest ≡ and_after n rest
   unfolding and_after
   passed_after rest h = rw (passed_zero h)
 
-  pub refused_after : (m rest : ℕ) → r ≡ Refused m → m ≡ and_after n rest
+  pub refused_after : (w : Refusal) (rest : ℕ) → r ≡ Err w → number w ≡ and_after n rest
   unfolding and_after
-  refused_after m rest = go n (answer_is r n e)
-    where
-      go : (k : ℕ) → r ≡ checked_of k → r ≡ Refused m → m ≡ and_after k rest
-      go zero d h = cc
-      go (suc k) d h = cc
+  refused_after w rest h =
+      let s = some_number w in
+      let m : n ≡ suc s.0 = sym (answer_is r n e) ∙ ap refused_by h ∙ s.1 in
+      rw m s.1
 
-  pub refused_some : (m : ℕ) → r ≡ Refused m → 0 < m
-  refused_some m = go n (answer_is r n e)
-    where
-      go : (k : ℕ) → r ≡ checked_of k → r ≡ Refused m → 0 < m
-      go zero d h = let z : ◌≡◌ {A = ℕ} 0 1 = cc in absurd (omega arith)
-      go (suc k) d h = let z : m ≡ suc k = cc in omega arith
+  pub refused_some : (w : Refusal) → r ≡ Err w → 0 < number w
+  refused_some w h = let s = some_number w in omega (arith, s.1)

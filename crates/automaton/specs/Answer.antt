@@ -1,28 +1,24 @@
 -- What the answers say, and what the accessors' values stand for. Assumes nothing.
-use Rattle.std.specs.Prelude.{◌≡◌, List, map, ℕ, length}
+use Rattle.std.specs.Prelude.{◌≡◌, List, map, ℕ, length, Result}
 use Rattle.model.specs.Limits.{max_children}
 use Rattle.model.specs.Lists.{tab}
 use Rattle.model.specs.Automaton.{Rule, Automaton}
 use Rattle.model.specs.Order.{place}
-use Rattle.model.specs.Refusal.{Answer, gives, refuses}
+use Rattle.model.specs.Refusal.{Answer}
+use Rattle.base.specs.Refusals.{answer}
+use Rattle.base.specs.declared.refusal.Refusal.{Refusal}
 use Rattle.automaton.specs.Stored.{decode, stated_total}
 use Rattle.automaton.specs.Check.{check_of}
-use Rattle.automaton.specs.declared.Checked.{Checked}
-use Rattle.automaton.specs.declared.Checked.TheVariants.{Passed, Refused}
-use Rattle.automaton.specs.declared.Written.{Written}
-use Rattle.automaton.specs.declared.Written.TheVariants.{Length}
 use Rattle.automaton.specs.declared.StoredHeader.{StoredHeader}
 use Rattle.automaton.specs.declared.StoredRule.{StoredRule}
 
 -- what the check answers: passed, or refused with a number
-abbrev pub check_answer : Checked → Answer (Unit {0})
-check_answer Passed = gives tt
-check_answer (Refused n) = refuses n
+abbrev pub check_answer : Result (Unit {0}) Refusal → Answer (Unit {0})
+check_answer = answer (λ u. u)
 
 -- what is answered where a set is written: how many bytes, or a refusal's number
-abbrev pub written_answer : Written → Answer ℕ
-written_answer (Length n) = gives n
-written_answer (Written.Refused n) = refuses n
+abbrev pub written_answer : Result ℕ Refusal → Answer ℕ
+written_answer = answer (λ n. n)
 
 -- bytes that are a sound set, and the automaton that they stand for
 pub record Stores (bytes : List ℕ) (A : Automaton) : Type 0 where

@@ -9,20 +9,17 @@ ghost use Rattle.automaton.specs.Encode.{encode_symbol, encode_rule, encode_stat
 use super::layout::{rules_length, states_length};
 use super::write::{fits, put_rule, put_state, put_symbol};
 use super::{Form, State, arity, header, is_final, rule, tags_of};
-use base::numbers::{size, wide};
 
 pub fn put_symbols(out: &mut [u8], at: usize, set: &[u8]) -> usize
     ensures { Put out.old at (concat_map encode_symbol (decode set.now).arities) out.new result }
 {
     let n = header(set).symbols;
-    if !fits(out.len(), at, size(n)) {
+    if !fits(out.len(), at, usize::from(n)) {
         return at;
     }
     let mut end = at;
-    let mut f = 0;
-    while f < n {
+    for f in 0..n {
         end = put_symbol(out, end, arity(set, f));
-        f += 1;
     }
     end
 }
@@ -32,7 +29,7 @@ pub fn moved_up(mask: u16, t: u16) -> u16
     ensures { result ≡ mask * 2 ^ t % 65536 }
 {
     if t < 16 {
-        ((wide(mask) << t) % 65536) as u16
+        ((u64::from(mask) << t) % 65536) as u16
     } else {
         0
     }
@@ -47,12 +44,10 @@ pub fn put_states(out: &mut [u8], at: usize, form: Form, set: &[u8], t: u16) -> 
         return at;
     }
     let mut end = at;
-    let mut q = 0;
-    while q < n {
+    for q in 0..n {
         let accepting = is_final(set, State(q));
         let mask = moved_up(tags_of(set, State(q)), t);
         end = put_state(out, end, form, accepting, mask);
-        q += 1;
     }
     end
 }
@@ -66,10 +61,8 @@ pub fn put_rules(out: &mut [u8], at: usize, form: Form, set: &[u8]) -> usize
         return at;
     }
     let mut end = at;
-    let mut i = 0;
-    while i < n {
+    for i in 0..n {
         end = put_rule(out, end, form, rule(set, i));
-        i += 1;
     }
     end
 }

@@ -3,7 +3,6 @@ ghost use Rattle.std.specs.Prelude.{◌≡◌, ◌+◌, ◌*◌, ◌<◌};
 ghost use Rattle.automaton.specs.Form.{state_width, tag_bits, rule_numbers, rule_width, isolating?, states_offset, rules_offset, total_length};
 
 use super::{Form, State};
-use base::numbers::size;
 
 // The bytes of the header, in every form.
 pub(crate) const HEADER_WIDTH: usize = 16;
@@ -63,34 +62,34 @@ pub fn isolating(form: Form) -> bool
 pub(crate) fn states_length(form: Form, n: u16) -> usize
     ensures { (result ≡ state_width form * n) × (result < 196608) }
 {
-    state_width(form) * size(n)
+    state_width(form) * usize::from(n)
 }
 
 // The bytes of n rules.
 pub(crate) fn rules_length(form: Form, n: u16) -> usize
     ensures { (result ≡ rule_width form * n) × (result < 917504) }
 {
-    rule_width(form) * size(n)
+    rule_width(form) * usize::from(n)
 }
 
 // The byte at which state q starts, where the states start at byte `first`.
 pub(crate) fn state_place(form: Form, first: u16, q: State) -> usize
     ensures { (result ≡ first + state_width form * q.0) × (result < 262144) }
 {
-    size(first) + states_length(form, q.0)
+    usize::from(first) + states_length(form, q.0)
 }
 
 // The byte at which rule i starts, where the rules start at byte `first`.
 pub(crate) fn rule_place(form: Form, first: u16, i: u16) -> usize
     ensures { (result ≡ first + rule_width form * i) × (result < 983040) }
 {
-    size(first) + rules_length(form, i)
+    usize::from(first) + rules_length(form, i)
 }
 
 pub(crate) fn states_offset(symbols: u16) -> usize
     ensures { (result ≡ states_offset symbols) × (result < 65552) }
 {
-    HEADER_WIDTH + size(symbols)
+    HEADER_WIDTH + usize::from(symbols)
 }
 
 pub(crate) fn rules_offset(form: Form, symbols: u16, states: u16) -> usize

@@ -8,7 +8,7 @@ ghost use Rattle.model.specs.Lists.{tab};
 ghost use Rattle.model.specs.Order.{place};
 ghost use Rattle.model.specs.Refusal.{unless};
 ghost use Rattle.model.specs.Written.{rule_at};
-ghost use Rattle.automaton.specs.Stored.{rules_at, form_of, place_of, decode};
+ghost use Rattle.automaton.specs.Stored.{form_of, place_of, decode};
 ghost use Rattle.automaton.specs.Check.{check_of};
 ghost use Rattle.automaton.specs.Window.{rules_from};
 ghost use Rattle.automaton.specs.Answer.{check_answer, Counts, IsRule};
@@ -19,14 +19,14 @@ mod raw;
 pub mod reader;
 mod slice;
 mod tests;
+mod views;
 pub mod write;
 
 use base::limits::{MAX_CHILDREN, UNUSED};
+use base::refusal::Refusal;
 use layout::HEADER_WIDTH;
-use raw::{
-    final_byte, forget_word, form_at, header_word, place_word, rule_word, rules_at, states_at,
-    symbol_byte, symbols_at, tags_word,
-};
+use raw::{form_at, header_word, symbol_byte, symbols_at};
+use views::{Rules, States};
 
 // A stored form: one byte for a state's tags, or two; and two with rules that may forget tags.
 #[derive(Clone, Copy)]
@@ -59,48 +59,35 @@ pub struct StoredRule {
     pub forget: u16,
 }
 
-// The check's answer: passed, or refused with a number of the documents.
-#[derive(Clone, Copy)]
-pub enum Checked {
-    Passed,
-    Refused(u16),
-}
-
-// The answer of what writes a set: how many bytes were written, or a refusal's number.
-#[derive(Clone, Copy)]
-pub enum Written {
-    Length(usize),
-    Refused(u16),
-}
-
-pub fn check(set: &[u8]) -> Checked
+// Whether bytes are a sound set.
+pub fn check(set: &[u8]) -> Result<(), Refusal>
     ensures { check_answer result ≡ unless (check_of set.now) tt }
 {
     if set.len() < HEADER_WIDTH {
-        return Checked::Refused(1);
+        return Err(Refusal::SetTooShort);
     }
     if !tests::counts(set) {
-        return Checked::Refused(2);
+        return Err(Refusal::SetCounts);
     }
     if !tests::offsets(set) {
-        return Checked::Refused(3);
+        return Err(Refusal::SetLengths);
     }
     if !tests::symbols(set) {
-        return Checked::Refused(4);
+        return Err(Refusal::SetChildren);
     }
     if !tests::states(set) {
-        return Checked::Refused(5);
+        return Err(Refusal::SetState);
     }
     if !tests::rules(set) {
-        return Checked::Refused(6);
+        return Err(Refusal::SetRule);
     }
     if !tests::ascending(set) {
-        return Checked::Refused(7);
+        return Err(Refusal::SetOrder);
     }
     if !tests::forgetting(set) {
-        return Checked::Refused(9);
+        return Err(Refusal::SetForgets);
     }
-    Checked::Passed
+    Ok(())
 }
 
 // The form that the bytes are in.
@@ -143,7 +130,7 @@ pub fn is_final(set: &[u8], q: State) -> bool
     ensures { result ≡ final? (decode set.now) q.0 }
 {
     if q.0 < header_word(set, 2) {
-        final_byte(set, form_at(set), states_at(set), q) == 1
+        States::of(set).final_byte(q) == 1
     } else {
         false
     }
@@ -154,7 +141,7 @@ pub fn tags_of(set: &[u8], q: State) -> u16
     ensures { result ≡ (state_at (decode set.now) q.0).mask }
 {
     if q.0 < header_word(set, 2) {
-        tags_word(set, form_at(set), states_at(set), q)
+        States::of(set).tags(q)
     } else {
         0
     }
@@ -164,7 +151,7 @@ pub fn rule_symbol(set: &[u8], i: u16) -> u16
     ensures { result ≡ (rule_at (decode set.now) i).symbol }
 {
     if i < rules(set) {
-        rule_word(set, form_at(set), rules_at(set), i, 0)
+        Rules::of(set).word(i, 0)
     } else {
         0
     }
@@ -174,7 +161,7 @@ pub fn rule_target(set: &[u8], i: u16) -> State
     ensures { result.0 ≡ (rule_at (decode set.now) i).target }
 {
     if i < rules(set) {
-        State(rule_word(set, form_at(set), rules_at(set), i, 1))
+        State(Rules::of(set).word(i, 1))
     } else {
         State(0)
     }
@@ -185,19 +172,18 @@ pub fn rule_forget(set: &[u8], i: u16) -> u16
     ensures { result ≡ (rule_at (decode set.now) i).forget }
 {
     if i < rules(set) {
-        forget_word(set, form_at(set), rules_at(set), i)
+        Rules::of(set).forget(i)
     } else {
         0
     }
 }
 
-// The state in child place k of rule i, whose symbol has n children, where the rules start at byte `first`; UNUSED where there is no such child.
-fn place_of(set: &[u8], form: Form, first: u16, i: u16, n: u16, k: u16) -> State
-    requires { (form ≡ form_of set.now) × (first ≡ rules_at set.now) }
-    ensures { result.0 ≡ place_of set.now i n k }
+// The state in child place k of rule i, whose symbol has n children; UNUSED where there is no such child.
+fn place_of(stored: Rules, i: u16, n: u16, k: u16) -> State
+    ensures { result.0 ≡ place_of stored.entry.set.now i n k }
 {
     if k < n {
-        State(place_word(set, form, first, i, k))
+        State(stored.place(i, k))
     } else {
         State(UNUSED)
     }
@@ -208,43 +194,33 @@ pub fn rule_child(set: &[u8], i: u16, k: u16) -> State
     ensures { result.0 ≡ place (rule_at (decode set.now) i) k }
 {
     if i < rules(set) {
-        let form = form_at(set);
-        let first = rules_at(set);
-        let n = arity(set, rule_word(set, form, first, i, 0));
-        place_of(set, form, first, i, n, k)
+        let stored = Rules::of(set);
+        let n = arity(set, stored.word(i, 0));
+        place_of(stored, i, n, k)
     } else {
         State(UNUSED)
     }
 }
 
-// The child places of rule i, whose symbol has n children, where the rules start at byte `first`.
-fn places_of(set: &[u8], form: Form, first: u16, i: u16, n: u16) -> [State; 4]
-    requires { (form ≡ form_of set.now) × (first ≡ rules_at set.now) }
-    ensures { map (λ q. q.0) result ≡ tab max_children (place_of set.now i n) }
+// The child places of rule i, whose symbol has n children.
+fn places_of(stored: Rules, i: u16, n: u16) -> [State; 4]
+    ensures { map (λ q. q.0) result ≡ tab max_children (place_of stored.entry.set.now i n) }
 {
-    let mut places = [State(UNUSED); 4];
-    let mut k = 0;
-    while k < MAX_CHILDREN {
-        let at = k as usize;
-        places[at] = place_of(set, form, first, i, n, k);
-        k += 1;
-    }
-    places
+    [0, 1, 2, 3].map(|k| place_of(stored, i, n, k))
 }
 
 pub fn rule(set: &[u8], i: u16) -> StoredRule
     ensures { IsRule result (rule_at (decode set.now) i) }
 {
     if i < rules(set) {
-        let form = form_at(set);
-        let first = rules_at(set);
-        let symbol = rule_word(set, form, first, i, 0);
-        let places = places_of(set, form, first, i, arity(set, symbol));
+        let stored = Rules::of(set);
+        let symbol = stored.word(i, 0);
+        let places = places_of(stored, i, arity(set, symbol));
         StoredRule {
-            symbol: symbol,
-            target: State(rule_word(set, form, first, i, 1)),
-            places: places,
-            forget: forget_word(set, form, first, i),
+            symbol,
+            target: State(stored.word(i, 1)),
+            places,
+            forget: stored.forget(i),
         }
     } else {
         StoredRule {
@@ -267,29 +243,19 @@ fn keeps_all(set: &[u8], i: u16) -> bool
 pub fn forgets_nothing(set: &[u8]) -> bool
     ensures { result ≡ forgets_nothing? (decode set.now) }
 {
-    let n = rules(set);
-    let mut i = 0;
-    while i < n {
-        if keeps_all(set, i) {
-            i += 1;
-        } else {
-            return false;
-        }
-    }
-    true
+    (0..rules(set)).all(|i| keeps_all(set, i))
 }
 
 // Where bisection for the first rule whose symbol is the given one or higher ends; in a sound set that is the rule's number, or the number of rules.
 pub fn rules_from(set: &[u8], symbol: u16) -> u16
     ensures { result ≡ rules_from (decode set.now) symbol }
 {
-    let form = form_at(set);
-    let first = rules_at(set);
+    let stored = Rules::of(set);
     let mut low = 0;
     let mut high = rules(set);
     while low < high {
         let middle = low + (high - low) / 2;
-        if rule_word(set, form, first, middle, 0) < symbol {
+        if stored.word(middle, 0) < symbol {
             low = middle + 1;
         } else {
             high = middle;

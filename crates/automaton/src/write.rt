@@ -15,24 +15,6 @@ pub(crate) fn fits(space: usize, at: usize, n: usize) -> bool
     if n <= space { at <= space - n } else { false }
 }
 
-fn low(x: u16) -> u8
-    ensures { result ≡ x % 256 }
-{
-    (x % 256) as u8
-}
-
-fn high(x: u16) -> u8
-    ensures { result ≡ x / 256 % 256 }
-{
-    (x / 256 % 256) as u8
-}
-
-fn flag(b: bool) -> u8
-    ensures { result ≡ cond b 1 0 }
-{
-    if b { 1 } else { 0 }
-}
-
 // A number's lowest 16 bits.
 fn cut(x: usize) -> u16
     ensures { result ≡ x % 65536 }
@@ -45,12 +27,10 @@ fn paste_words(out: &mut [u8], at: usize, words: &[u16])
     requires { at + 2 * length words.now ≤ length out.old }
     ensures { out.new ≡ take at out.old ++ concat_map encode_word words.now ++ drop (at + 2 * length words.now) out.old }
 {
-    let mut i = 0;
-    while i < words.len() {
-        let x = words[i];
-        out[at + 2 * i] = low(x);
-        out[at + 2 * i + 1] = high(x);
-        i += 1;
+    for (i, x) in words.iter().enumerate() {
+        let [low, high] = x.to_le_bytes();
+        out[at + 2 * i] = low;
+        out[at + 2 * i + 1] = high;
     }
 }
 
@@ -96,7 +76,7 @@ pub fn put_symbol(out: &mut [u8], at: usize, arity: u16) -> usize
     ensures { Put out.old at (encode_symbol arity) out.new result }
 {
     if at < out.len() {
-        out[at] = low(arity);
+        out[at] = (arity % 256) as u8;
         return at + 1;
     }
     at
@@ -107,7 +87,8 @@ pub fn put_state(out: &mut [u8], at: usize, form: Form, accepting: bool, mask: u
 {
     let n = state_width(form);
     if fits(out.len(), at, n) {
-        let bytes = [flag(accepting), low(mask), high(mask)];
+        let [low, high] = mask.to_le_bytes();
+        let bytes = [u8::from(accepting), low, high];
         put(out, at, &bytes[..n]);
         return at + n;
     }

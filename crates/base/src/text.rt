@@ -2,11 +2,15 @@
 ghost use Rattle.std.specs.Prelude.{◌≡◌, ◌+◌};
 ghost use Rattle.base.specs.Text.{byte_at, word_bytes};
 
+// The place of a byte that no rule allows.
+#[derive(Clone, Copy, Debug, PartialEq, Eq)]
+pub struct Fault(pub usize);
+
 // The byte at a place; past the end 0.
 pub fn byte_at(text: &[u8], i: usize) -> u8
     ensures { result ≡ byte_at text.now i }
 {
-    if i < text.len() { text[i] } else { 0 }
+    text.get(i).copied().unwrap_or(0)
 }
 
 // The byte that stands n places behind a place; past the end 0, also where the two together are no 64-bit number.
@@ -26,12 +30,10 @@ fn byte_behind(text: &[u8], at: usize, n: usize) -> u8
 pub fn word_bytes(text: &[u8], at: usize, word: &[u8]) -> usize
     ensures { result ≡ word_bytes word.now text.now at }
 {
-    let mut n = 0;
-    while n < word.len() {
-        if byte_behind(text, at, n) != word[n] {
+    for (n, b) in word.iter().enumerate() {
+        if byte_behind(text, at, n) != *b {
             return n;
         }
-        n += 1;
     }
-    n
+    word.len()
 }

@@ -18,7 +18,7 @@ use Rattle.automaton.specs.Laid.{Laid}
 use Rattle.boolean.specs.Merge.{ordered, merged, merged_at}
 use Rattle.boolean.specs.Ready.{Ready, Keyed}
 use Rattle.automaton.proofs.Laying.{laid_front, laid_length}
-use Rattle.boolean.proofs.Refusing.{ready_union, ready_product}
+use Rattle.boolean.specs.Sounds.{ready_union, ready_product}
 use Rattle.boolean.proofs.Results.{union_keys, product_keys}
 
 -- the keys of all rules, put at the front
@@ -44,10 +44,10 @@ module _ (first second : List ℕ) (h : Ready first second (union (decode first)
   pub firsts_count : length (take n scratch) ≡ n
   firsts_count = length-take-le n scratch firsts_room
 
-  pub space_room : (keys : List ℕ) → length keys ≡ length scratch → n + k ≤ length keys
-  space_room keys e = let r = keys_room in omega arith
+  pub space_room : (keys : List ℕ) → max_rules ≤ length keys → n + k ≤ length keys
+  space_room keys e = omega (arith, h.rules, union_rules_lem A B)
 
-  pub space_count : (keys : List ℕ) → length keys ≡ length scratch → length (take (n + k) keys) ≡ n + k
+  pub space_count : (keys : List ℕ) → max_rules ≤ length keys → length (take (n + k) keys) ≡ n + k
   space_count keys e = length-take-le (n + k) keys (space_room keys e)
 
   module _ (x : List ℕ) (ex : x ≡ map packed (map (shift_rule 0 0) A.rules)) where
@@ -79,7 +79,7 @@ module _ (first second : List ℕ) (h : Ready first second (union (decode first)
       pub both_count : length (take (n + k) both) ≡ n + k
       both_count = length-take-le (n + k) both both_room
 
-      pub merge_room : (keys : List ℕ) → length keys ≡ length scratch → (n ≤ length (take (n + k) both)) × (length (take (n + k) keys) ≡ length (take (n + k) both))
+      pub merge_room : (keys : List ℕ) → max_rules ≤ length keys → (n ≤ length (take (n + k) both)) × (length (take (n + k) keys) ≡ length (take (n + k) both))
       merge_room keys e = let m = both_count in (omega arith, space_count keys e ∙ sym m)
 
       both_front : take (n + k) both ≡ x ++ y
@@ -110,9 +110,6 @@ module _ (first second : List ℕ) (h : Ready first second (product (decode firs
 
   pub pairs_count : length (take n after) ≡ n
   pairs_count = length-take-le n after (let l = p.inside in let e = laid_length p in omega arith)
-
-  pub scratch_count : (scratch : List ℕ) → length before ≡ length scratch → length (take n scratch) ≡ n
-  scratch_count scratch e = length-take-le n scratch (let l = p.inside in omega arith)
 
   pub product_keyed : (z : List ℕ) → z ≡ ordered (take n after) → Keyed (product F S) (z ++ drop n after) n
   product_keyed z ez =

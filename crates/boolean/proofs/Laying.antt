@@ -1,12 +1,13 @@
 -- Loops that put a list number by number. Assumes nothing.
 use mathlib.Core.Path.{◌≡◌, refl, sym, ap, ◌∙◌, subst}
-use mathlib.Core.List.{List, [], ◌∷◌, ◌++◌, append-nil}
+use mathlib.Core.List.{List, [], ◌∷◌, ◌++◌, append-nil, append_assoc}
 use Prim.Native.Nat.{ℕ, ◌+◌, ◌<◌, ◌≤◌}
 use native.Mathlib.Nat.{add-zero}
 use native.Mathlib.Numerals.{add-one}
 use native.Mathlib.Omega.{arith}
 use lib.ListN.{length, get_or, take, drop, set}
-use lib.Seq.{take_all, take-suc, set_split, drop-length, append_snoc}
+use lib.Seq.{take_all, take-suc, set_split, drop-length, append_snoc, drop-drop}
+use borrow.Rule.Slice.PartMut.{put_mid}
 use Rattle.automaton.specs.Laid.{Laid}
 use Rattle.automaton.proofs.Laying.{laid_length, laid_then, laid_nothing}
 
@@ -36,7 +37,7 @@ module _ (all before : List ℕ) (at : ℕ) where
   }
 
   module _ (after : List ℕ) (k : ℕ) (h : Filling all before after at k) where
-    pub filling_more : (x : ℕ) → k < length all → x ≡ get_or all k 0 → Filling all before (set after (at + k) x) at (k + 1)
+    filling_more : (x : ℕ) → k < length all → x ≡ get_or all k 0 → Filling all before (set after (at + k) x) at (k + 1)
     filling_more x l e = record {
       laid =
           subst (λ (j : ℕ). Laid before (set after (at + k) x) at j (take (k + 1) all)) (let z : at + k + 1 ≡ at + (k + 1) = omega arith in z)
@@ -49,8 +50,22 @@ module _ (all before : List ℕ) (at : ℕ) where
         next : take k all ++ x ∷ [] ≡ take (k + 1) all
         next = ap (λ (y : ℕ). take k all ++ y ∷ []) e ∙ sym (take-suc all k 0 l) ∙ ap (λ (n : ℕ). take n all) (sym (add-one k))
 
-    pub filling_front : at ≡ 0 → (x : ℕ) → k < length all → x ≡ get_or all k 0 → Filling all before (set after k x) at (k + 1)
-    filling_front z x l e = subst (λ (j : ℕ). Filling all before (set after j x) at (k + 1)) (let d : at + k ≡ k = omega arith in d) (filling_more x l e)
+    -- the same at an index that was read
+    pub filling_at : (j x : ℕ) → j ≡ k → k < length all → x ≡ get_or all k 0 → Filling all before (set after (at + j) x) at (k + 1)
+    filling_at j x z l e = subst (λ (i : ℕ). Filling all before (set after (at + i) x) at (k + 1)) (sym z) (filling_more x l e)
+
+    pub filling_front : at ≡ 0 → (j x : ℕ) → j ≡ k → k < length all → x ≡ get_or all k 0 → Filling all before (set after j x) at (k + 1)
+    filling_front z j x y l e = subst (λ (i : ℕ). Filling all before (set after i x) at (k + 1)) (let d : at + j ≡ j = omega arith in d) (filling_at j x y l e)
 
     pub filling_all : length all ≤ k → Laid before after at (at + k) all
     filling_all l = subst (Laid before after at (at + k)) (take_all k all l) h.laid
+
+-- a part that is written over a part of its length
+pub laid_part : (space part : List ℕ) (at n : ℕ) → at + n ≤ length space → length part ≡ n → Laid space (put_mid at n space part) at (at + n) part
+laid_part space part at n l e = record {
+  ends = ap (at +◌) (sym e);
+  inside = l;
+  holds =
+      ap (λ (z : List ℕ). take at space ++ (part ++ z)) (drop-drop n at space)
+      ∙ sym (append_assoc (take at space) part (drop (at + n) space));
+}

@@ -5,6 +5,7 @@ pub mod Packing
 pub mod Windows
 pub mod Results
 pub mod Refusing
+pub mod Sorting
 pub mod Stating
 pub mod Keying
 pub mod Writing

@@ -24,7 +24,8 @@ use Rattle.automaton.proofs.Answering.{given_length, given_stores}
 use Rattle.boolean.specs.Combine.{result_form, combine_check_of}
 use Rattle.boolean.specs.Answer.{combined_of, combined_space}
 use Rattle.boolean.specs.Ready.{Ready}
-use Rattle.boolean.proofs.Refusing.{ready, ready_union, ready_product}
+use Rattle.boolean.proofs.Refusing.{ready}
+use Rattle.boolean.specs.Sounds.{ready_union, ready_product}
 
 -- The form of a result has room for it, where it forgets nothing if neither input does.
 result_room : (first second : List ℕ) (R : Automaton) → check_of first ≡ 0 → check_of second ≡ 0 → Sound R → (ForgetsNothing (decode first) → ForgetsNothing (decode second) → ForgetsNothing R) → HasRoom (result_form first second) R

@@ -284,8 +284,13 @@ push_bound x d k l m =
     let e : digit_width * (k + 1) ≡ digit_width * k + digit_width = omega arith in
     subst (x * 2 ^ digit_width + d <◌) (sym (ap (2 ^◌) e ∙ pow-add 2 (digit_width * k) digit_width)) (digits_lt l m)
 
-pub push_fits : (x k : ℕ) → x < 2 ^ (digit_width * (k + 1)) → k ≤ max_children + 1 → x < 2 ^ 64
-push_fits x k l m = lt_of_lt_of_le l (pow_mono (let z : digit_width * (k + 1) ≤ 64 = omega arith in z))
+-- fewer digits are below as many as there is room for
+pub few_digits : (x k n : ℕ) → x < 2 ^ (digit_width * k) → k ≤ n → x < 2 ^ (digit_width * n)
+few_digits x k n l m = lt_of_lt_of_le l (pow_mono (let z : digit_width * k ≤ digit_width * n = omega arith in z))
+
+push_low : (x p k : ℕ) → x < 2 ^ (digit_width * k) → pushed x p < 2 ^ (digit_width * (k + 1))
+unfolding pushed
+push_low x p k l = push_bound x (p % 2 ^ digit_width) k l (mod-lt p (pow_pos digit_width))
 
 -- A loop that makes a key: at its head x has the symbol and k places.
 pub record Pushing (symbol : ℕ) (f : ℕ → ℕ) (x k : ℕ) : Type 0 where
@@ -294,24 +299,54 @@ pub record Pushing (symbol : ℕ) (f : ℕ → ℕ) (x k : ℕ) : Type 0 where
   pub few : k ≤ max_children
 
 module _ (symbol : ℕ) (f : ℕ → ℕ) (x : ℕ) where
-  pub pushing_none : x ≡ pushed 0 symbol → x < 2 ^ (digit_width * (0 + 1)) → Pushing symbol f x 0
-  pushing_none e l = record { is = e; low = l; few = omega arith }
+  pub pushing_none : x ≡ pushed 0 symbol → Pushing symbol f x 0
+  pushing_none e = record { is = e; low = subst (λ (z : ℕ). z < 2 ^ (digit_width * (0 + 1))) (sym e) (push_low 0 symbol 0 (omega arith)); few = omega arith }
 
   module _ (k : ℕ) (h : Pushing symbol f x k) where
-    pub pushing_more : (p y : ℕ) → k < max_children → p ≡ f k → y ≡ pushed x p → y < 2 ^ (digit_width * (k + 1 + 1)) → Pushing symbol f y (k + 1)
-    pushing_more p y l ep ey b = record {
+    pub pushing_more : (p y : ℕ) → k < max_children → p ≡ f k → y ≡ pushed x p → Pushing symbol f y (k + 1)
+    pushing_more p y l ep ey = record {
       is = ey ∙ ap (pushed x) ep ∙ ap (λ (z : ℕ). pushed z (f k)) h.is ∙ ap (λ (n : ℕ). pushed_all (pushed 0 symbol) n f) (sym (add-one k));
-      low = b;
+      low = subst (λ (z : ℕ). z < 2 ^ (digit_width * (k + 1 + 1))) (sym ey) (push_low x p (k + 1) h.low);
       few = omega arith;
     }
 
-    -- .. and with the target and the tags to forget it is whole; what is cut off these is lost in the key too
-    pub pushing_all : (y t z w mask : ℕ) → max_children ≤ k → y ≡ pushed x t → z ≡ masked y w → w % 2 ^ mask_width ≡ mask % 2 ^ mask_width → z ≡ key_of symbol f t mask
-    unfolding masked
-    pushing_all y t z w mask l ey ez ew =
-        ez
-        ∙ ap (λ (m : ℕ). y * 2 ^ mask_width + m) ew
-        ∙ ap (λ (x : ℕ). masked x mask) (ey ∙ ap (λ (z : ℕ). pushed z t) (h.is ∙ ap (λ (n : ℕ). pushed_all (pushed 0 symbol) n f) (let z : k ≡ max_children = (let m = h.few in omega arith) in z)))
+    -- .. with the target it has room for the tags to forget ..
+    pub pushing_last : (y t : ℕ) → y ≡ pushed x t → y < 2 ^ (digit_width * 6)
+    pushing_last y t e = few_digits y (k + 1 + 1) 6 (subst (λ (z : ℕ). z < 2 ^ (digit_width * (k + 1 + 1))) (sym e) (push_low x t (k + 1) h.low)) (let m = h.few in omega arith)
+
+    -- .. and with these it is whole.
+    pub pushing_all : (y t z mask : ℕ) → max_children ≤ k → y ≡ pushed x t → z ≡ masked y mask → z ≡ key_of symbol f t mask
+    pushing_all y t z mask l ey ez =
+        ez ∙ ap (λ (x : ℕ). masked x mask) (ey ∙ ap (λ (z : ℕ). pushed z t) (h.is ∙ ap (λ (n : ℕ). pushed_all (pushed 0 symbol) n f) (let z : k ≡ max_children = (let m = h.few in omega arith) in z)))
+
+-- what is cut off the tags to forget is lost in the key too
+mask_same : (x m n : ℕ) → m % 2 ^ mask_width ≡ n % 2 ^ mask_width → masked x m ≡ masked x n
+unfolding masked
+mask_same x m n e = ap (λ (z : ℕ). x * 2 ^ mask_width + z) e
+
+-- four places, one by one
+four_at : (a b c d : ℕ) (f : ℕ → ℕ) → a ≡ f 0 → b ≡ f 1 → c ≡ f 2 → d ≡ f 3 → (k : ℕ) → k < max_children → get_or (a ∷ b ∷ c ∷ d ∷ []) k 0 ≡ f k
+four_at a b c d f ea eb ec ed zero l = ea
+four_at a b c d f ea eb ec ed (suc zero) l = eb
+four_at a b c d f ea eb ec ed (suc (suc zero)) l = ec
+four_at a b c d f ea eb ec ed (suc (suc (suc zero))) l = ed
+four_at a b c d f ea eb ec ed (suc (suc (suc (suc k)))) l = absurd (omega arith)
+
+pushed_all_same : (x n : ℕ) (f g : ℕ → ℕ) → ((k : ℕ) → k < n → f k ≡ g k) → pushed_all x n f ≡ pushed_all x n g
+pushed_all_same x zero f g h = refl
+pushed_all_same x (suc n) f g h = ap (λ (y : ℕ). pushed y (f n)) (pushed_all_same x n f g (λ k l. h k (omega arith))) ∙ ap (pushed (pushed_all x n g)) (h n (omega arith))
+
+-- keys of the same symbol, places, target and tags to forget
+pub key_same : (s s' t t' m m' : ℕ) (f g : ℕ → ℕ) → s ≡ s' → ((k : ℕ) → k < max_children → f k ≡ g k) → t ≡ t' → m % 2 ^ mask_width ≡ m' % 2 ^ mask_width → key_of s f t m ≡ key_of s' g t' m'
+key_same s s' t t' m m' f g es ef et em =
+    ap (λ (z : ℕ). key_of z f t m) es
+    ∙ ap (λ (z : ℕ). masked (pushed z t) m) (pushed_all_same (pushed 0 s') max_children f g ef)
+    ∙ ap (λ (z : ℕ). key_of s' g z m) et
+    ∙ mask_same (digits_of s' g t') m m' em
+
+-- a key made of four places, for those that they stand for
+pub key_made : (s a b c d t t' m m' : ℕ) (f : ℕ → ℕ) → a ≡ f 0 → b ≡ f 1 → c ≡ f 2 → d ≡ f 3 → t ≡ t' → m % 2 ^ mask_width ≡ m' % 2 ^ mask_width → key_of s (λ k. get_or (a ∷ b ∷ c ∷ d ∷ []) k 0) t m ≡ key_of s f t' m'
+key_made s a b c d t t' m m' f ea eb ec ed et em = key_same s s t t' m m' (λ k. get_or (a ∷ b ∷ c ∷ d ∷ []) k 0) f refl (four_at a b c d f ea eb ec ed) et em
 
 -- a product of two 16-bit numbers
 pub product_low : (p n : ℕ) → p < 65536 → n < 65536 → p * n ≤ 65535 * 65535

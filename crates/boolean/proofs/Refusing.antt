@@ -12,11 +12,7 @@ use Rattle.model.specs.Limits.{max_states, max_tags, max_rules}
 use Rattle.model.specs.Lists.{all_below}
 use Rattle.model.specs.Refusal.{demand, and_after}
 use Rattle.model.specs.Automaton.{Automaton, arity_of}
-use Rattle.model.specs.Sound.{Sound}
-use Rattle.model.specs.Boolean.{union, product}
 use Rattle.model.proofs.Below.{at}
-use Rattle.model.proofs.SoundUnion.{union_states, union_rules_lem, union_sound}
-use Rattle.model.proofs.SoundProduct.{product_states, product_rules, product_sound}
 use Rattle.automaton.specs.Form.{total_length, isolating?}
 use Rattle.automaton.specs.declared.Form.{Form}
 use Rattle.automaton.specs.declared.Form.TheVariants.{Wide, Isolating}
@@ -24,13 +20,16 @@ use Rattle.automaton.specs.Stored.{form_of, decode}
 use Rattle.automaton.specs.Check.{check_of}
 use Rattle.automaton.specs.Encode.{encode, encoded_length}
 use Rattle.automaton.proofs.Passes.{split}
-use Rattle.automaton.proofs.Sound.{sound_decode}
 use Rattle.automaton.proofs.Encoded.{encode_length}
 use Rattle.boolean.specs.Combine.{result_form, same_symbols, within_limits, result_check_of, combine_check_of}
 use Rattle.automaton.specs.Laid.{Laid}
 use Rattle.boolean.specs.Ready.{Ready, Sized}
 use Rattle.boolean.specs.declared.Size.{Size}
-use Rattle.automaton.specs.declared.Written.TheVariants.{Length, Refused}
+use Rattle.std.specs.Prelude.{Result, Ok, Err}
+use Rattle.base.specs.Refusals.{refused_by}
+use Rattle.base.specs.Refusals.{number as its_number}
+use Rattle.base.specs.declared.refusal.Refusal.{Refusal}
+use Rattle.base.proofs.Refusing.{some_number}
 use Rattle.automaton.proofs.Answering.{Answered, refused_answer, written_answer_lem}
 
 -- the form of a result, from what was read of the inputs' forms
@@ -127,16 +126,16 @@ module _ (result : Automaton → Automaton → Automaton) (first second : List �
 
   module _ (n : ℕ) (e : n ≡ and_after (check_of first) (and_after (check_of second) (demand (same_symbols (decode first) (decode second)) 51 0))) where
     -- The inputs' number is the whole number unless it is 0; then the result's is.
-    pub inputs_decide : (n ≡ 0 → ⊥) → n ≡ number
+    inputs_decide : (n ≡ 0 → ⊥) → n ≡ number
     unfolding combine_check_of
     inputs_decide h = e ∙ inputs_refuse (check_of first) (check_of second) (same_symbols (decode first) (decode second)) (result_check_of form R space) (λ z. h (e ∙ z))
 
-    pub inputs_none : n ≡ 0 → result_check_of form R space ≡ number
+    inputs_none : n ≡ 0 → result_check_of form R space ≡ number
     unfolding combine_check_of
     inputs_none h = (inputs_pass (check_of first) (check_of second) (same_symbols (decode first) (decode second)) (result_check_of form R space) (sym e ∙ h)).3
 
-    pub inputs_sound : n ≡ 0 → (check_of first ≡ 0) × (check_of second ≡ 0)
-    inputs_sound h = let p = inputs_pass (check_of first) (check_of second) (same_symbols (decode first) (decode second)) 0 (sym e ∙ h) in (p.0, p.1)
+    sound_inputs : n ≡ 0 → (check_of first ≡ 0) × (check_of second ≡ 0) × ((decode first).arities ≡ (decode second).arities)
+    sound_inputs h = let p = inputs_pass (check_of first) (check_of second) (same_symbols (decode first) (decode second)) 0 (sym e ∙ h) in (p.0, p.1, same_arities (decode first) (decode second) p.2)
 
   number_inputs : number ≡ 0 → and_after (check_of first) (and_after (check_of second) (demand (same_symbols (decode first) (decode second)) 51 0)) ≡ 0
   unfolding combine_check_of and_after demand
@@ -165,7 +164,7 @@ module _ (result : Automaton → Automaton → Automaton) (first second : List �
         l,
       )
 
--- What union and product of two sets answer, from what their parts tell: n is the number of the inputs, m that of the result.
+-- What is answered of two sets, from what their parts tell: p is what is known of the inputs, m of the result.
 module _ (result : Automaton → Automaton → Automaton) (first second out : List ℕ) where
   abbrev made : Automaton
   made = result (decode first) (decode second)
@@ -176,43 +175,39 @@ module _ (result : Automaton → Automaton → Automaton) (first second out : Li
   abbrev refusal : ℕ
   refusal = combine_check_of result first second (length out)
 
-  module _ (n : ℕ) (e : n ≡ and_after (check_of first) (and_after (check_of second) (demand (same_symbols (decode first) (decode second)) 51 0))) where
-    pub inputs_refused : (n ≡ 0 → ⊥) → Answered asked made out refusal (Refused n) out
-    inputs_refused h = refused_answer asked made out refusal n (inputs_decide result first second (length out) n e h) h
+  module _ (p : Result (Unit {0}) Refusal) (e : refused_by p ≡ and_after (check_of first) (and_after (check_of second) (demand (same_symbols (decode first) (decode second)) 51 0))) where
+    pub inputs_refused : (w : Refusal) → p ≡ Err w → Answered asked made out refusal (Err w) out
+    inputs_refused w h =
+        let s = some_number w in
+        let n : its_number w ≡ refused_by p = ap refused_by (sym h) in
+        refused_answer asked made out refusal w (inputs_decide result first second (length out) (its_number w) (n ∙ e) (λ z. absurd (omega (arith, s.1))))
 
-    module _ (none : n ≡ 0) (F : Form) (ef : F ≡ asked) (symbols : ℕ) (size : Size) (m : ℕ) (es : symbols ≡ length made.arities) (s : Sized size made) (em : m ≡ demand (within_limits size.states size.tags size.rules) 52 (demand (leb (total_length F symbols size.states size.rules) (length out)) 53 0)) where
-      decides : m ≡ refusal
-      decides =
-          em
-          ∙ sized_check F made symbols size (length out) es s
-          ∙ ap (λ (z : Form). result_check_of z made (length out)) ef
-          ∙ inputs_none result first second (length out) n e none
+    module _ (none : p ≡ Ok tt) where
+      zero_number : refused_by p ≡ 0
+      zero_number = ap refused_by none
 
-      pub result_refused : (m ≡ 0 → ⊥) → Answered asked made out refusal (Refused m) out
-      result_refused h = refused_answer asked made out refusal m decides h
+      pub inputs_sound : (check_of first ≡ 0) × (check_of second ≡ 0) × ((decode first).arities ≡ (decode second).arities)
+      inputs_sound = sound_inputs result first second 0 (refused_by p) e zero_number
 
-      pub may_write : m ≡ 0 → Ready first second made × Sized size made × (encoded_length F made ≤ length out)
-      may_write h = let (a, b) = ready result first second (length out) (sym decides ∙ h) in (a, s, subst (λ (z : Form). encoded_length z made ≤ length out) (sym ef) b)
+      module _ (F : Form) (ef : F ≡ asked) (symbols : ℕ) (size : Size) (m : Result (Unit {0}) Refusal) (es : symbols ≡ length made.arities) (s : Sized size made) (em : refused_by m ≡ demand (within_limits size.states size.tags size.rules) 52 (demand (leb (total_length F symbols size.states size.rules) (length out)) 53 0)) where
+        decides : refused_by m ≡ refusal
+        decides =
+            em
+            ∙ sized_check F made symbols size (length out) es s
+            ∙ ap (λ (z : Form). result_check_of z made (length out)) ef
+            ∙ inputs_none result first second (length out) (refused_by p) e zero_number
 
-      pub written : m ≡ 0 → (r : ℕ) (after : List ℕ) → Laid out after 0 r (encode F made) → Answered asked made out refusal (Length r) after
-      written h r after p =
-          let q = subst (λ (z : Form). Laid out after 0 r (encode z made)) ef p in
-          written_answer_lem asked made out refusal r after (sym decides ∙ h) (let d = encode_length asked made in let z = q.ends in omega arith) q.holds
+        pub result_refused : (w : Refusal) → m ≡ Err w → Answered asked made out refusal (Err w) out
+        result_refused w h = refused_answer asked made out refusal w (ap refused_by (sym h) ∙ decides)
 
--- The results are sound.
-module _ (first second : List ℕ) where
-  abbrev A : Automaton
-  A = decode first
+        module _ (fits : m ≡ Ok tt) where
+          no_number : refusal ≡ 0
+          no_number = sym decides ∙ ap refused_by fits
 
-  abbrev B : Automaton
-  B = decode second
+          pub may_write : Ready first second made × Sized size made × (encoded_length F made ≤ length out)
+          may_write = let (a, b) = ready result first second (length out) no_number in (a, s, subst (λ (z : Form). encoded_length z made ≤ length out) (sym ef) b)
 
-  pub ready_union : Ready first second (union A B) → Sound (union A B)
-  ready_union h =
-      union_sound A B (sound_decode first h.first_sound) (sound_decode second h.second_sound) h.same
-      (omega (arith, h.states, union_states A B)) h.tags (omega (arith, h.rules, union_rules_lem A B))
-
-  pub ready_product : Ready first second (product A B) → Sound (product A B)
-  ready_product h =
-      product_sound A B (sound_decode first h.first_sound) (sound_decode second h.second_sound) h.same
-      (omega (arith, h.states, product_states A B)) h.tags (omega (arith, h.rules, product_rules A B))
+          pub written : (r : ℕ) (after : List ℕ) → Laid out after 0 r (encode F made) → Answered asked made out refusal (Ok r) after
+          written r after l =
+              let q = subst (λ (z : Form). Laid out after 0 r (encode z made)) ef l in
+              written_answer_lem asked made out refusal r after no_number (let d = encode_length asked made in let z = q.ends in omega arith) q.holds

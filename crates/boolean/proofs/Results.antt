@@ -2,7 +2,7 @@
 use mathlib.Core.Path.{◌≡◌, refl, sym, ap, ◌∙◌}
 use mathlib.Core.List.Memᴰ
 use mathlib.Core.List.{List, [], ◌∷◌, map, Memᴰ as In}
-use Prim.Native.Nat.{ℕ, zero, suc, ◌+◌, ◌-◌, ◌*◌, ◌^◌, ◌<◌}
+use Prim.Native.Nat.{ℕ, zero, suc, ◌+◌, ◌-◌, ◌*◌, ◌%◌, ◌^◌, ◌<◌}
 use native.Mathlib.Nat.{zero-add, mul-one}
 use native.Mathlib.Omega.{arith}
 use native.Mathlib.Decide.{dec_lt}
@@ -24,24 +24,12 @@ use Rattle.automaton.specs.Answer.{IsRule}
 use Rattle.automaton.proofs.Known.{window_in}
 use Rattle.automaton.specs.declared.StoredRule.{StoredRule}
 use Rattle.boolean.specs.Merge.{ordered, merged}
-use Rattle.boolean.specs.Key.{pushed, pushed_all, masked, key_of, packed, shifted_place, paired_place}
+use Rattle.boolean.specs.Key.{mask_width, key_of, packed, shifted_place, paired_place}
 use Rattle.boolean.specs.Ready.{Window, row}
 use Rattle.boolean.proofs.Concat.{map_append}
 use Rattle.boolean.proofs.Merging.{merged_ordered}
-use Rattle.boolean.proofs.Packing.{small_of, ordered_packed, numbers}
+use Rattle.boolean.proofs.Packing.{small_of, ordered_packed, numbers, key_same}
 use Rattle.boolean.proofs.Windows.{row_at_lem}
-
--- keys of the same symbol, places and target
-pushed_all_same : (x n : ℕ) (f g : ℕ → ℕ) → ((k : ℕ) → k < n → f k ≡ g k) → pushed_all x n f ≡ pushed_all x n g
-pushed_all_same x zero f g h = refl
-pushed_all_same x (suc n) f g h = ap (λ (y : ℕ). pushed y (f n)) (pushed_all_same x n f g (λ k l. h k (omega arith))) ∙ ap (pushed (pushed_all x n g)) (h n (omega arith))
-
-key_same : (s s' t t' m m' : ℕ) (f g : ℕ → ℕ) → s ≡ s' → ((k : ℕ) → k < max_children → f k ≡ g k) → t ≡ t' → m ≡ m' → key_of s f t m ≡ key_of s' g t' m'
-key_same s s' t t' m m' f g es ef et em =
-    ap (λ (z : ℕ). key_of z f t m) es
-    ∙ ap (λ (z : ℕ). masked (pushed z t) m) (pushed_all_same (pushed 0 s') max_children f g ef)
-    ∙ ap (λ (z : ℕ). key_of s' g z m) et
-    ∙ ap (key_of s' g t') em
 
 rule_place : (x : StoredRule) (r : Rule) → IsRule x r → (k : ℕ) → k < max_children → get_or (numbers x.places) k 0 ≡ place r k
 rule_place x r h k l = ap (λ (z : List ℕ). get_or z k 0) h.places ∙ tab_at 0 max_children (place r) k l
@@ -80,7 +68,7 @@ module _ (n t : ℕ) where
   pub shifted_key : (x : StoredRule) (r : Rule) → IsRule x r → Low r → key_of x.symbol (λ k. shifted_place n (get_or (numbers x.places) k 0)) (n + x.target.0) (x.forget * 2 ^ t) ≡ packed (shift_rule n t r)
   shifted_key x r h low =
       key_same x.symbol r.symbol (n + x.target.0) (n + r.target) (x.forget * 2 ^ t) (r.forget * 2 ^ t) (λ k. shifted_place n (get_or (numbers x.places) k 0)) (place (shift_rule n t r))
-      h.symbol (λ k l. ap (shifted_place n) (rule_place x r h k l) ∙ shifted_at r low k) (ap (n +◌) h.target) (ap (λ (z : ℕ). z * 2 ^ t) h.forget)
+      h.symbol (λ k l. ap (shifted_place n) (rule_place x r h k l) ∙ shifted_at r low k) (ap (n +◌) h.target) (ap (λ (z : ℕ). z * 2 ^ t % 2 ^ mask_width) h.forget)
 
   numbers_at : (d : ℕ) (ps qs : List ℕ) → length ps ≡ length qs → (k : ℕ) → k < length ps → get_or (pair_numbers n ps qs) k d ≡ get_or ps k d * n + get_or qs k d
   numbers_at d [] qs e k l = absurd (omega arith)
@@ -105,7 +93,7 @@ module _ (n t : ℕ) where
       h.symbol
       (λ k l. ap (λ (z : ℕ). paired_place n z (get_or (numbers y.places) k 0)) (rule_place x r h k l) ∙ ap (paired_place n (place r k)) (rule_place y s g k l) ∙ paired_at r s low same k)
       (ap (λ (z : ℕ). z * n + y.target.0) h.target ∙ ap (λ (z : ℕ). r.target * n + z) g.target)
-      (ap (λ (z : ℕ). z + y.forget * 2 ^ t) h.forget ∙ ap (λ (z : ℕ). r.forget + z * 2 ^ t) g.forget)
+      (ap (λ (z : ℕ). (z + y.forget * 2 ^ t) % 2 ^ mask_width) h.forget ∙ ap (λ (z : ℕ). (r.forget + z * 2 ^ t) % 2 ^ mask_width) g.forget)
 
 -- what stands at an index of the keys of a set's shifted rules, and of a rule's pairs
 module _ (A : Automaton) (sa : Sound A) (i : ℕ) (l : i < length A.rules) (x : StoredRule) (h : IsRule x (rule_at A i)) where

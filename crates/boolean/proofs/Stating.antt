@@ -1,6 +1,6 @@
 -- The states of a result and its parts in the stored form. Assumes nothing.
-use mathlib.Core.Path.{◌≡◌, refl, sym, ap, ◌∙◌}
-use mathlib.Core.List.{List, ◌++◌, map, append_assoc}
+use mathlib.Core.Path.{◌≡◌, sym, ap, ◌∙◌}
+use mathlib.Core.List.{List, ◌++◌, map}
 use mathlib.Core.Bool.{Bool, ◌&&◌}
 use Prim.Native.Nat.{ℕ, ◌+◌, ◌*◌, ◌/◌, ◌%◌, ◌^◌, ◌<◌, ◌≤◌}
 use native.Mathlib.Nat.{lt_of_lt_of_le, mod-eq_of_lt}
@@ -13,7 +13,7 @@ use Rattle.model.specs.Automaton.{State, Automaton, no_state, state_at, final?}
 use Rattle.model.specs.Boolean.{shift_state, union, product}
 use Rattle.model.proofs.Combine.{mask_bound, product_state_at}
 use Rattle.automaton.specs.declared.Form.{Form}
-use Rattle.automaton.specs.Encode.{encode_state, encode_rule, encode_states, encode, encoded_length}
+use Rattle.automaton.specs.Encode.{encode_header, encode_symbol, encode_state, encode_rule, encode_states, encode, encoded_length}
 use Rattle.automaton.proofs.Encoded.{encode_length}
 use Rattle.boolean.specs.Ready.{Sized, front}
 use Rattle.boolean.specs.declared.Size.{Size}
@@ -38,54 +38,28 @@ module _ (form : Form) (A B : Automaton) (i : ℕ) (l : i < length A.states * le
       ∙ ap (λ (z : ℕ). encode_state form (final? A (i / length B.states) && final? B (i % length B.states)) ((state_at A (i / length B.states)).mask + z)) (ex ∙ ap (λ (z : ℕ). z * 2 ^ A.tags) ek)
       ∙ sym (ap (λ (z : State). encode_state form z.final z.mask) (product_state_at A B i l))
 
--- The parts of a union's stored form, and of a product's, in the order in which they are written.
-module _ (form : Form) (A B : Automaton) where
-  abbrev U : Automaton
-  U = union A B
+-- The states of a union, in the order in which they are written.
+pub both_states : (form : Form) (A B : Automaton) → encode_states form (map (shift_state 0) A.states) ++ encode_states form (map (shift_state A.tags) B.states) ≡ encode_states form (union A B).states
+both_states form A B =
+    ap (λ (z : List ℕ). z ++ encode_states form (map (shift_state A.tags) B.states)) (ap (encode_states form) (states_zero A.states))
+    ∙ sym (concat_map_append (λ (q : State). encode_state form q.final q.mask) A.states (map (shift_state A.tags) B.states))
 
-  abbrev P : Automaton
-  P = product A B
+-- The parts of a result's stored form, whose symbols are those of A.
+module _ (form : Form) (A R : Automaton) (same : R.arities ≡ A.arities) where
+  abbrev its_front : List ℕ
+  its_front = front form A (length R.states) R.tags (length R.rules)
 
-  abbrev union_front : List ℕ
-  union_front = front form A (length U.states) U.tags (length U.rules)
-
-  abbrev first_states : List ℕ
-  first_states = encode_states form (map (shift_state 0) A.states)
-
-  abbrev second_states : List ℕ
-  second_states = encode_states form (map (shift_state A.tags) B.states)
-
-  abbrev product_front : List ℕ
-  product_front = front form A (length P.states) P.tags (length P.rules)
-
-  pub union_parts : union_front ++ first_states ++ second_states ++ concat_map (encode_rule form) U.rules ≡ encode form U
+  pub result_parts : its_front ++ encode_states form R.states ++ concat_map (encode_rule form) R.rules ≡ encode form R
   unfolding encode
-  union_parts =
-      ap (◌++ concat_map (encode_rule form) U.rules)
-      (append_assoc union_front first_states second_states
-      ∙ ap (λ (z : List ℕ). union_front ++ (z ++ second_states)) (ap (encode_states form) (states_zero A.states))
-      ∙ ap (union_front ++◌) (sym (concat_map_append (λ (q : State). encode_state form q.final q.mask) A.states (map (shift_state A.tags) B.states))))
-
-  pub product_parts : product_front ++ encode_states form P.states ++ concat_map (encode_rule form) P.rules ≡ encode form P
-  unfolding encode
-  product_parts = refl
+  result_parts = ap (λ (z : List ℕ). encode_header form (length z) (length R.states) R.tags (length R.rules) ++ concat_map encode_symbol z ++ encode_states form R.states ++ concat_map (encode_rule form) R.rules) (sym same)
 
   -- how long the parts are together
-  pub union_lengths : length union_front + length first_states + length second_states + length (concat_map (encode_rule form) U.rules) ≡ encoded_length form U
-  union_lengths =
-      let a = length-append union_front first_states in
-      let b = length-append (union_front ++ first_states) second_states in
-      let c = length-append (union_front ++ first_states ++ second_states) (concat_map (encode_rule form) U.rules) in
-      let e = ap length union_parts in
-      let d = encode_length form U in
-      omega arith
-
-  pub product_lengths : length product_front + length (encode_states form P.states) + length (concat_map (encode_rule form) P.rules) ≡ encoded_length form P
-  product_lengths =
-      let a = length-append product_front (encode_states form P.states) in
-      let b = length-append (product_front ++ encode_states form P.states) (concat_map (encode_rule form) P.rules) in
-      let e = ap length product_parts in
-      let d = encode_length form P in
+  pub result_lengths : length its_front + length (encode_states form R.states) + length (concat_map (encode_rule form) R.rules) ≡ encoded_length form R
+  result_lengths =
+      let a = length-append its_front (encode_states form R.states) in
+      let b = length-append (its_front ++ encode_states form R.states) (concat_map (encode_rule form) R.rules) in
+      let e = ap length result_parts in
+      let d = encode_length form R in
       omega arith
 
 -- the front of a result whose counts were read

@@ -1,5 +1,5 @@
 -- A result put part after part: room for each, and the whole at the end. Assumes nothing.
-use mathlib.Core.Path.{◌≡◌, ap, ◌∙◌, subst}
+use mathlib.Core.Path.{◌≡◌, sym, ap, ◌∙◌, subst}
 use mathlib.Core.List.{List, map}
 use Prim.Native.Nat.{ℕ, ◌+◌, ◌<◌, ◌≤◌}
 use native.Mathlib.Omega.{arith}
@@ -7,17 +7,17 @@ use lib.ListN.{length, take, length-append}
 use Rattle.model.specs.Lists.{concat_map}
 use Rattle.model.specs.Automaton.{Automaton}
 use Rattle.model.specs.Sound.{Sound}
-use Rattle.model.specs.Boolean.{shift_state, union, product}
+use Rattle.model.specs.Boolean.{shift_state, union}
 use Rattle.automaton.specs.declared.Form.{Form}
 use Rattle.automaton.specs.Stored.{decode}
 use Rattle.automaton.specs.Encode.{encode_header, encode_symbol, encode_rule, encode_states, encode, encoded_length, Put}
-use Rattle.boolean.specs.Key.{encode_key}
+use Rattle.boolean.specs.Key.{packed, encode_key}
 use Rattle.automaton.specs.Laid.{Laid}
 use Rattle.boolean.specs.Ready.{Ready, Sized, Keyed, front}
 use Rattle.boolean.specs.declared.Size.{Size}
 use Rattle.automaton.proofs.Laying.{laid_put, laid_then, laid_length}
 use Rattle.boolean.proofs.Packing.{small_of, encode_packed}
-use Rattle.boolean.proofs.Stating.{union_parts, product_parts, union_lengths, product_lengths, sized_front}
+use Rattle.boolean.proofs.Stating.{both_states, result_parts, result_lengths, sized_front}
 
 -- the header, then the symbols
 module _ (form : Form) (A : Automaton) (symbols states tags rules : ℕ) (e : symbols ≡ length A.arities) (out mid : List ℕ) (r : ℕ) (fits : length (front form A states tags rules) ≤ length out) (p : Put out 0 (encode_header form symbols states tags rules) mid r) where
@@ -39,13 +39,16 @@ module _ (form : Form) (A : Automaton) (symbols states tags rules : ℕ) (e : sy
   pub front_laid : (last : List ℕ) (end : ℕ) → Put mid r (concat_map encode_symbol A.arities) last end → Laid out last 0 end (front form A states tags rules)
   front_laid last end q = laid_then header_laid (laid_put mid last r end (concat_map encode_symbol A.arities) q symbols_room)
 
--- rules put from their keys
-module _ (form : Form) (R : Automaton) (sound : Sound R) (keys : List ℕ) (n : ℕ) (h : Keyed R keys n) where
+-- rules put from their keys, with the symbols of a set that has those of the result
+module _ (form : Form) (R : Automaton) (sound : Sound R) (arities : List ℕ) (same : R.arities ≡ arities) (keys : List ℕ) (n : ℕ) (h : Keyed R keys n) where
   abbrev encoded : List ℕ
-  encoded = concat_map (encode_key form R.arities) (take n keys)
+  encoded = concat_map (encode_key form arities) (take n keys)
 
   keyed_bytes : encoded ≡ concat_map (encode_rule form) R.rules
-  keyed_bytes = ap (concat_map (encode_key form R.arities)) h.holds ∙ encode_packed form R.arities R.rules (small_of R sound)
+  keyed_bytes =
+      ap (concat_map (encode_key form arities)) h.holds
+      ∙ ap (λ (z : List ℕ). concat_map (encode_key form z) (map packed R.rules)) (sym same)
+      ∙ encode_packed form R.arities R.rules (small_of R sound)
 
   pub rules_room : (at space : ℕ) → at + length (concat_map (encode_rule form) R.rules) ≤ space → at + length encoded ≤ space
   rules_room at space l = let e = ap length keyed_bytes in omega arith
@@ -71,69 +74,51 @@ module _ (form : Form) (first second : List ℕ) (R : Automaton) (size : Size) (
   front_own : (mid : List ℕ) (end : ℕ) → Laid out mid 0 end (front form A size.states size.tags size.rules) → Laid out mid 0 end own
   front_own mid end l = subst (Laid out mid 0 end) (sized_front form A R size s) l
 
--- A union: front, the first's states, the second's, rules.
-module _ (form : Form) (first second : List ℕ) (size : Size) (out : List ℕ) (p : Ready first second (union (decode first) (decode second)) × Sized size (union (decode first) (decode second)) × (encoded_length form (union (decode first) (decode second)) ≤ length out)) where
+-- The states of a union: the first's, then the second's.
+module _ (form : Form) (A B : Automaton) (out : List ℕ) (at : ℕ) (room : at + length (encode_states form (union A B).states) ≤ length out) where
+  abbrev firsts : List ℕ
+  firsts = encode_states form (map (shift_state 0) A.states)
+
+  abbrev seconds : List ℕ
+  seconds = encode_states form (map (shift_state A.tags) B.states)
+
+  together : at + length firsts + length seconds ≤ length out
+  together = let e = ap length (both_states form A B) in let d = length-append firsts seconds in omega arith
+
+  pub union_states_laid : (mid last : List ℕ) (e end t : ℕ) → Put out at firsts mid e → t ≡ A.tags → Put mid e (encode_states form (map (shift_state t) B.states)) last end → Laid out last at end (encode_states form (union A B).states)
+  union_states_laid mid last e end t p et q = subst (Laid out last at end) (both_states form A B) (laid_then first second)
+    where
+      first : Laid out mid at e firsts
+      first = let l = together in laid_put out mid at e firsts p (omega arith)
+
+      second : Laid mid last e end seconds
+      second =
+          let l = together in let d = first.ends in let m = laid_length first in
+          laid_put mid last e end seconds (subst (λ (z : ℕ). Put mid e (encode_states form (map (shift_state z) B.states)) last end) et q) (omega arith)
+
+-- A result: front, states, rules.
+module _ (form : Form) (first second : List ℕ) (R : Automaton) (same : R.arities ≡ (decode first).arities) (size : Size) (out : List ℕ) (p : Ready first second R × Sized size R × (encoded_length form R ≤ length out)) where
   abbrev F : Automaton
   F = decode first
 
-  abbrev S : Automaton
-  S = decode second
-
-  pub union_front_room : (size.states < 65536) × (size.tags < 65536) × (size.rules < 65536) × (length (front form F size.states size.tags size.rules) ≤ length out)
-  union_front_room = front_room form first second (union F S) size p.0 p.1 out (let n = union_lengths form F S in let l = p.2 in omega arith)
+  pub result_front_room : (size.states < 65536) × (size.tags < 65536) × (size.rules < 65536) × (length (front form F size.states size.tags size.rules) ≤ length out)
+  result_front_room = front_room form first second R size p.0 p.1 out (let n = result_lengths form F R same in let l = p.2 in omega arith)
 
   module _ (one : List ℕ) (e : ℕ) (l : Laid out one 0 e (front form F size.states size.tags size.rules)) where
-    l' : Laid out one 0 e (front form F (length (union F S).states) (union F S).tags (length (union F S).rules))
-    l' = front_own form first second (union F S) size p.0 p.1 out one e l
+    whole : Laid out one 0 e (front form F (length R.states) R.tags (length R.rules))
+    whole = front_own form first second R size p.0 p.1 out one e l
 
-    module _ (two : List ℕ) (e₂ : ℕ) (put : Put one e (encode_states form (map (shift_state 0) F.states)) two e₂) (t : ℕ) (et : t ≡ F.tags) where
-      q : Laid one two e e₂ (encode_states form (map (shift_state 0) F.states))
-      q =
-          let n = union_lengths form F S in let b = p.2 in let d = l'.ends in let m = laid_length l' in
-          laid_put one two e e₂ (encode_states form (map (shift_state 0) F.states)) put (omega arith)
-
-      module _ (three : List ℕ) (e₃ : ℕ) (put₂ : Put two e₂ (encode_states form (map (shift_state t) S.states)) three e₃) where
-        r' : Laid two three e₂ e₃ (encode_states form (map (shift_state F.tags) S.states))
-        r' =
-            let n = union_lengths form F S in let b = p.2 in
-            let d = l'.ends in let m = laid_length l' in let d₂ = q.ends in let m₂ = laid_length q in
-            laid_put two three e₂ e₃ (encode_states form (map (shift_state F.tags) S.states)) (subst (λ (z : ℕ). Put two e₂ (encode_states form (map (shift_state z) S.states)) three e₃) et put₂) (omega arith)
-
-        pub union_rules_room : Ready first second (union F S) × (e₃ + length (concat_map (encode_rule form) (union F S).rules) ≤ length three)
-        union_rules_room =
-            let n = union_lengths form F S in let b = p.2 in
-            let d = l'.ends in let m = laid_length l' in let d₂ = q.ends in let m₂ = laid_length q in let d₃ = r'.ends in let m₃ = laid_length r' in
-            (p.0, omega arith)
-
-        pub union_laid : (last : List ℕ) (end : ℕ) → Laid three last e₃ end (concat_map (encode_rule form) (union F S).rules) → Laid out last 0 end (encode form (union F S))
-        union_laid last end s = subst (Laid out last 0 end) (union_parts form F S) (laid_then (laid_then (laid_then l' q) r') s)
-
--- A product: front, states, rules.
-module _ (form : Form) (first second : List ℕ) (size : Size) (out : List ℕ) (p : Ready first second (product (decode first) (decode second)) × Sized size (product (decode first) (decode second)) × (encoded_length form (product (decode first) (decode second)) ≤ length out)) where
-  abbrev F₂ : Automaton
-  F₂ = decode first
-
-  abbrev S₂ : Automaton
-  S₂ = decode second
-
-  pub product_front_room : (size.states < 65536) × (size.tags < 65536) × (size.rules < 65536) × (length (front form F₂ size.states size.tags size.rules) ≤ length out)
-  product_front_room = front_room form first second (product F₂ S₂) size p.0 p.1 out (let n = product_lengths form F₂ S₂ in let l = p.2 in omega arith)
-
-  module _ (one : List ℕ) (e : ℕ) (l : Laid out one 0 e (front form F₂ size.states size.tags size.rules)) where
-    whole : Laid out one 0 e (front form F₂ (length (product F₂ S₂).states) (product F₂ S₂).tags (length (product F₂ S₂).rules))
-    whole = front_own form first second (product F₂ S₂) size p.0 p.1 out one e l
-
-    pub pairs_room : Ready first second (product F₂ S₂) × (e + length (encode_states form (product F₂ S₂).states) ≤ length one)
-    pairs_room =
-        let n = product_lengths form F₂ S₂ in let b = p.2 in let d = whole.ends in let m = laid_length whole in
+    pub states_room : Ready first second R × (e + length (encode_states form R.states) ≤ length one)
+    states_room =
+        let n = result_lengths form F R same in let b = p.2 in let d = whole.ends in let m = laid_length whole in
         (p.0, omega arith)
 
-    module _ (two : List ℕ) (e₂ : ℕ) (q : Laid one two e e₂ (encode_states form (product F₂ S₂).states)) where
-      pub product_rules_room : Ready first second (product F₂ S₂) × (e₂ + length (concat_map (encode_rule form) (product F₂ S₂).rules) ≤ length two)
-      product_rules_room =
-          let n = product_lengths form F₂ S₂ in let b = p.2 in
+    module _ (two : List ℕ) (e₂ : ℕ) (q : Laid one two e e₂ (encode_states form R.states)) where
+      pub result_rules_room : e₂ + length (concat_map (encode_rule form) R.rules) ≤ length two
+      result_rules_room =
+          let n = result_lengths form F R same in let b = p.2 in
           let d = whole.ends in let m = laid_length whole in let d₂ = q.ends in let m₂ = laid_length q in
-          (p.0, omega arith)
+          omega arith
 
-      pub product_laid : (last : List ℕ) (end : ℕ) → Laid two last e₂ end (concat_map (encode_rule form) (product F₂ S₂).rules) → Laid out last 0 end (encode form (product F₂ S₂))
-      product_laid last end s = subst (Laid out last 0 end) (product_parts form F₂ S₂) (laid_then (laid_then whole q) s)
+      pub result_laid : (last : List ℕ) (end : ℕ) → Laid two last e₂ end (concat_map (encode_rule form) R.rules) → Laid out last 0 end (encode form R)
+      result_laid last end s = subst (Laid out last 0 end) (result_parts form F R same) (laid_then (laid_then whole q) s)

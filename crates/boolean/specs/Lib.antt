@@ -3,3 +3,4 @@ pub mod Answer
 pub mod Merge
 pub mod Key
 pub mod Ready
+pub mod Sounds

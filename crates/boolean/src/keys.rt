@@ -10,8 +10,7 @@ ghost use Rattle.boolean.specs.Key.{digit_width, pushed, masked, key_of, packed,
 
 use automaton::copy::moved_up;
 use automaton::{State, StoredRule};
-use base::limits::{MAX_CHILDREN, MAX_STATES, UNUSED};
-use base::numbers::wide;
+use base::limits::{MAX_CHILDREN, MAX_STATES, PLACES, UNUSED};
 
 // The bits of a digit: enough for every state.
 const DIGIT_WIDTH: u64 = 8;
@@ -23,10 +22,10 @@ const MASK_WIDTH: u64 = 16;
 
 const MASKS: u64 = 65536;
 
-// The digits x, at most k, with one more.
-fn push(x: u64, p: u64, k: u64) -> u64
-    requires { (x < 2 ^ (digit_width * k)) × (k ≤ 5) }
-    ensures { (result ≡ pushed x p) × (result < 2 ^ (digit_width * (k + 1))) }
+// The digits x with one more.
+fn push(x: u64, p: u64) -> u64
+    requires { x < 2 ^ (digit_width * 7) }
+    ensures { result ≡ pushed x p }
 {
     x * DIGITS + p % DIGITS
 }
@@ -39,76 +38,84 @@ fn with_mask(x: u64, mask: u64) -> u64
     x * MASKS + mask % MASKS
 }
 
+// The key of a symbol, child places, a target and the tags to forget.
+fn key(symbol: u16, places: [u64; PLACES], target: u64, forget: u64) -> u64
+    ensures { result ≡ key_of symbol (λ k. get_or places k 0) target forget }
+{
+    let mut x = push(0, u64::from(symbol));
+    for p in &places {
+        x = push(x, *p);
+    }
+    with_mask(push(x, target), forget)
+}
+
 // A place with its state shifted by n.
-fn shifted_place(p: State, n: u64) -> u64
-    requires { n < 65536 }
+fn shifted_place(p: State, n: u16) -> u64
     ensures { result ≡ shifted_place n p.0 }
 {
     if p.0 < MAX_STATES {
-        n + wide(p.0)
+        u64::from(n) + u64::from(p.0)
     } else {
-        UNUSED as u64
+        u64::from(UNUSED)
     }
 }
 
 // The key of a rule with its states shifted by n and its tags by t.
-fn shifted_key(r: StoredRule, n: u64, t: u16) -> u64
-    requires { n < 65536 }
+fn shifted_key(r: StoredRule, n: u16, t: u16) -> u64
     ensures { result ≡ key_of r.symbol (λ k. shifted_place n (get_or (map (λ q. q.0) r.places) k 0)) (n + r.target.0) (r.forget * 2 ^ t) }
 {
-    let places = r.places;
-    let mut x = push(0, wide(r.symbol), 0);
-    let mut k = 0;
-    while k < MAX_CHILDREN {
-        let at = k as usize;
-        x = push(x, shifted_place(places[at], n), wide(k) + 1);
-        k += 1;
-    }
-    let digits = push(x, n + wide(r.target.0), 5);
-    with_mask(digits, wide(moved_up(r.forget, t)))
+    let p = r.places;
+    key(
+        r.symbol,
+        [
+            shifted_place(p[0], n),
+            shifted_place(p[1], n),
+            shifted_place(p[2], n),
+            shifted_place(p[3], n),
+        ],
+        u64::from(n) + u64::from(r.target.0),
+        u64::from(moved_up(r.forget, t)),
+    )
 }
 
 // The place of a pair of states, n being the number of the second's states.
-fn paired_place(p: State, q: State, n: u64) -> u64
-    requires { n < 65536 }
+fn paired_place(p: State, q: State, n: u16) -> u64
     ensures { result ≡ paired_place n p.0 q.0 }
 {
     if p.0 < MAX_STATES {
-        wide(p.0) * n + wide(q.0)
+        u64::from(p.0) * u64::from(n) + u64::from(q.0)
     } else {
-        UNUSED as u64
+        u64::from(UNUSED)
     }
 }
 
 // The key of the rule that pairs two rules, n being the number of the second's states and t that of the first's tags.
-pub(crate) fn paired_key(r: StoredRule, s: StoredRule, n: u64, t: u16) -> u64
-    requires { n < 65536 }
+pub(crate) fn paired_key(r: StoredRule, s: StoredRule, n: u16, t: u16) -> u64
     ensures { result ≡ key_of r.symbol (λ k. paired_place n (get_or (map (λ q. q.0) r.places) k 0) (get_or (map (λ q. q.0) s.places) k 0)) (r.target.0 * n + s.target.0) (r.forget + s.forget * 2 ^ t) }
 {
-    let firsts = r.places;
-    let seconds = s.places;
-    let mut x = push(0, wide(r.symbol), 0);
-    let mut k = 0;
-    while k < MAX_CHILDREN {
-        let at = k as usize;
-        x = push(x, paired_place(firsts[at], seconds[at], n), wide(k) + 1);
-        k += 1;
-    }
-    let digits = push(x, wide(r.target.0) * n + wide(s.target.0), 5);
-    with_mask(digits, wide(r.forget) + wide(moved_up(s.forget, t)))
+    let p = r.places;
+    let q = s.places;
+    key(
+        r.symbol,
+        [
+            paired_place(p[0], q[0], n),
+            paired_place(p[1], q[1], n),
+            paired_place(p[2], q[2], n),
+            paired_place(p[3], q[3], n),
+        ],
+        u64::from(r.target.0) * u64::from(n) + u64::from(s.target.0),
+        u64::from(r.forget) + u64::from(moved_up(s.forget, t)),
+    )
 }
 
 // The keys of a set's rules with their states shifted by n and their tags by t, which fill a space.
-pub(crate) fn shifted_keys(set: &[u8], n: u64, t: u16, keys: &mut [u64])
-    requires { (check_of set.now ≡ 0) × (length keys.old ≡ length (decode set.now).rules) × (n < 65536) }
+pub(crate) fn shifted_keys(set: &[u8], n: u16, t: u16, keys: &mut [u64])
+    requires { (check_of set.now ≡ 0) × (length keys.old ≡ length (decode set.now).rules) }
     ensures { keys.new ≡ map packed (map (shift_rule n t) (decode set.now).rules) }
 {
     let count = automaton::header(set).rules;
-    let mut i = 0;
-    while i < count {
-        let at = i as usize;
-        keys[at] = shifted_key(automaton::rule(set, i), n, t);
-        i += 1;
+    for i in 0..count {
+        keys[usize::from(i)] = shifted_key(automaton::rule(set, i), n, t);
     }
 }
 
@@ -117,33 +124,25 @@ fn digit_at(x: u64, k: u16) -> u16
     requires { k ≤ 5 }
     ensures { result ≡ digit_at x k }
 {
-    ((x >> (MASK_WIDTH + DIGIT_WIDTH * k as u64)) % DIGITS) as u16
+    ((x >> (MASK_WIDTH + DIGIT_WIDTH * u64::from(k))) % DIGITS) as u16
 }
 
 // Child place k of a key whose symbol has n children.
 fn place_of(x: u64, n: u16, k: u16) -> State
-    requires { k ≤ 4 }
     ensures { result.0 ≡ place_at x n k }
 {
     if k < n {
-        State(digit_at(x, MAX_CHILDREN - k))
+        State(digit_at(x, MAX_CHILDREN.saturating_sub(k)))
     } else {
         State(UNUSED)
     }
 }
 
 // The child places of a key whose symbol has n children.
-fn places_of(x: u64, n: u16) -> [State; 4]
+fn places_of(x: u64, n: u16) -> [State; PLACES]
     ensures { map (λ q. q.0) result ≡ tab max_children (place_at x n) }
 {
-    let mut places = [State(UNUSED); 4];
-    let mut k = 0;
-    while k < MAX_CHILDREN {
-        let at = k as usize;
-        places[at] = place_of(x, n, k);
-        k += 1;
-    }
-    places
+    [0, 1, 2, 3].map(|k| place_of(x, n, k))
 }
 
 // The rule of a key, with the symbols of a set.
@@ -153,9 +152,9 @@ pub(crate) fn unpack(x: u64, set: &[u8]) -> StoredRule
     let symbol = digit_at(x, MAX_CHILDREN + 1);
     let places = places_of(x, automaton::arity(set, symbol));
     StoredRule {
-        symbol: symbol,
+        symbol,
         target: State(digit_at(x, 0)),
-        places: places,
+        places,
         forget: (x % MASKS) as u16,
     }
 }

@@ -5,23 +5,27 @@ ghost use Rattle.std.specs.Prelude.{◌≡◌, eqb, leb};
 ghost use Rattle.model.specs.Automaton.{arity_of};
 ghost use Rattle.model.specs.Boolean.{union, product};
 ghost use Rattle.model.specs.Refusal.{demand, and_after};
+ghost use Rattle.base.specs.Refusals.{refused_by};
 ghost use Rattle.automaton.specs.Form.{total_length};
 ghost use Rattle.automaton.specs.Stored.{decode};
 ghost use Rattle.automaton.specs.Check.{check_of};
 ghost use Rattle.automaton.specs.Answer.{written_answer};
 ghost use Rattle.boolean.specs.Combine.{result_form, same_symbols, within_limits};
 ghost use Rattle.boolean.specs.Answer.{combined_of, combined_space};
-ghost use Rattle.boolean.specs.Ready.{Sized};
 
+mod combination;
 mod keys;
+mod merge;
 mod pairs;
 mod rules;
-mod sort;
+mod states;
 mod write;
 
+use automaton::Form;
 use automaton::layout::{isolating, total_length};
-use automaton::{Checked, Form, Written};
 use base::limits::{MAX_RULES, MAX_STATES, MAX_TAGS};
+use base::refusal::Refusal;
+use combination::{Combination, Product, Union};
 
 // How large a result is; the numbers of two sets' states and rules may be multiplied.
 #[derive(Clone, Copy)]
@@ -29,6 +33,16 @@ struct Size {
     states: usize,
     tags: usize,
     rules: usize,
+}
+
+// Two sound sets with the same symbols.
+#[derive(Clone, Copy)]
+pub(crate) struct Sets<'a> {
+    pub(crate) first: &'a [u8],
+    pub(crate) second: &'a [u8],
+    ghost first_sound: { check_of first.now ≡ 0 },
+    ghost second_sound: { check_of second.now ≡ 0 },
+    ghost same: { (decode first.now).arities ≡ (decode second.now).arities },
 }
 
 // Whether symbol f has as many children in both sets.
@@ -42,52 +56,41 @@ fn same_symbols(first: &[u8], second: &[u8]) -> bool
     ensures { result ≡ same_symbols (decode first.now) (decode second.now) }
 {
     let n = automaton::header(first).symbols;
-    if n != automaton::header(second).symbols {
-        return false;
-    }
-    let mut f = 0;
-    while f < n {
-        if same_arity(first, second, f) {
-            f += 1;
-        } else {
-            return false;
-        }
-    }
-    true
+    n == automaton::header(second).symbols && (0..n).all(|f| same_arity(first, second, f))
 }
 
-// The number for the two sets, before their result is looked at.
-fn inputs(first: &[u8], second: &[u8]) -> u16
-    ensures { result ≡ and_after (check_of first.now) (and_after (check_of second.now) (demand (same_symbols (decode first.now) (decode second.now)) 51 0)) }
+// Why the two sets are refused, before their result is looked at.
+fn inputs(first: &[u8], second: &[u8]) -> Result<(), Refusal>
+    ensures { refused_by result ≡ and_after (check_of first.now) (and_after (check_of second.now) (demand (same_symbols (decode first.now) (decode second.now)) 51 0)) }
 {
-    if let Checked::Refused(n) = automaton::check(first) {
-        return n;
+    automaton::check(first)?;
+    automaton::check(second)?;
+    if same_symbols(first, second) {
+        Ok(())
+    } else {
+        Err(Refusal::SetsDiffer)
     }
-    if let Checked::Refused(n) = automaton::check(second) {
-        return n;
-    }
-    if same_symbols(first, second) { 0 } else { 51 }
 }
 
 fn within_limits(size: Size) -> bool
     ensures { result ≡ within_limits size.states size.tags size.rules }
 {
-    (size.states <= MAX_STATES as usize)
-        & (size.tags <= MAX_TAGS as usize)
-        & (size.rules <= MAX_RULES as usize)
+    (size.states <= usize::from(MAX_STATES))
+        & (size.tags <= usize::from(MAX_TAGS))
+        & (size.rules <= usize::from(MAX_RULES))
 }
 
-// The number for a result of so many symbols and this size, in a form and a space of so many bytes.
-fn result(form: Form, symbols: u16, size: Size, space: usize) -> u16
-    ensures { result ≡ demand (within_limits size.states size.tags size.rules) 52 (demand (leb (total_length form symbols size.states size.rules) space) 53 0) }
+// Why a result of so many symbols and this size is refused, in a form and a space of so many bytes.
+fn result(form: Form, symbols: u16, size: Size, space: usize) -> Result<(), Refusal>
+    ensures { refused_by result ≡ demand (within_limits size.states size.tags size.rules) 52 (demand (leb (total_length form symbols size.states size.rules) space) 53 0) }
 {
     if !within_limits(size) {
-        return 52;
+        return Err(Refusal::ResultLimits);
     }
     if total_length(form, symbols, size.states as u16, size.rules as u16) <= space {
-        0
+        Ok(())
     } else {
-        53
+        Err(Refusal::ResultSpace)
     }
 }
 
@@ -102,64 +105,30 @@ fn result_form(first: &[u8], second: &[u8]) -> Form
     }
 }
 
-fn union_size(first: &[u8], second: &[u8]) -> Size
-    ensures { Sized result (union (decode first.now) (decode second.now)) }
+fn combine<C: Combination>(first: &[u8], second: &[u8], out: &mut [u8]) -> Result<usize, Refusal>
+    ensures answer { written_answer result ≡ combined_of C.made first.now second.now out.old }
+    ensures space { out.new ≡ combined_space C.made first.now second.now out.old }
 {
-    let a = automaton::header(first);
-    let b = automaton::header(second);
-    Size {
-        states: a.states as usize + b.states as usize,
-        tags: a.tags as usize + b.tags as usize,
-        rules: a.rules as usize + b.rules as usize,
-    }
-}
-
-fn product_size(first: &[u8], second: &[u8]) -> Size
-    requires { (check_of first.now ≡ 0) × (check_of second.now ≡ 0) }
-    ensures { Sized result (product (decode first.now) (decode second.now)) }
-{
-    let a = automaton::header(first);
-    let b = automaton::header(second);
-    let rules = pairs::count(first, second);
-    Size {
-        states: a.states as usize * b.states as usize,
-        tags: a.tags as usize + b.tags as usize,
-        rules: rules,
-    }
+    inputs(first, second)?;
+    let sets = Sets { first, second };
+    let size = C::size(sets);
+    let form = result_form(first, second);
+    result(form, automaton::header(first).symbols, size, out.len())?;
+    Ok(write::put_result::<C>(sets, form, size, out))
 }
 
 // The union: what either set accepts.
-pub fn union(first: &[u8], second: &[u8], out: &mut [u8]) -> Written
+pub fn union(first: &[u8], second: &[u8], out: &mut [u8]) -> Result<usize, Refusal>
     ensures answer { written_answer result ≡ combined_of union first.now second.now out.old }
     ensures space { out.new ≡ combined_space union first.now second.now out.old }
 {
-    let refused = inputs(first, second);
-    if refused != 0 {
-        return Written::Refused(refused);
-    }
-    let size = union_size(first, second);
-    let form = result_form(first, second);
-    let too_large = result(form, automaton::header(first).symbols, size, out.len());
-    if too_large != 0 {
-        return Written::Refused(too_large);
-    }
-    Written::Length(write::put_union(first, second, form, size, out))
+    combine::<Union>(first, second, out)
 }
 
 // The product: what both sets accept.
-pub fn product(first: &[u8], second: &[u8], out: &mut [u8]) -> Written
+pub fn product(first: &[u8], second: &[u8], out: &mut [u8]) -> Result<usize, Refusal>
     ensures answer { written_answer result ≡ combined_of product first.now second.now out.old }
     ensures space { out.new ≡ combined_space product first.now second.now out.old }
 {
-    let refused = inputs(first, second);
-    if refused != 0 {
-        return Written::Refused(refused);
-    }
-    let size = product_size(first, second);
-    let form = result_form(first, second);
-    let too_large = result(form, automaton::header(first).symbols, size, out.len());
-    if too_large != 0 {
-        return Written::Refused(too_large);
-    }
-    Written::Length(write::put_product(first, second, form, size, out))
+    combine::<Product>(first, second, out)
 }

@@ -9,71 +9,57 @@ ghost use Rattle.boolean.specs.Key.{packed};
 ghost use Rattle.automaton.specs.Laid.{Laid};
 ghost use Rattle.boolean.specs.Ready.{Ready, Window, row};
 
+use super::Sets;
 use super::keys::paired_key;
+use std::ops::Range;
 
-// The rules of one symbol: from one rule up to another.
-#[derive(Clone, Copy)]
-pub(crate) struct Range {
-    from: u16,
-    to: u16,
-}
-
-fn window(set: &[u8], symbol: u16) -> Range
+// The rules of one symbol.
+fn window(set: &[u8], symbol: u16) -> Range<u16>
     requires { (check_of set.now ≡ 0) × (symbol < 65535) }
-    ensures { Window (decode set.now) symbol result.from result.to }
+    ensures { Window (decode set.now) symbol result.start result.end }
 {
-    Range {
-        from: automaton::rules_from(set, symbol),
-        to: automaton::rules_from(set, symbol + 1),
-    }
+    automaton::rules_from(set, symbol)..automaton::rules_from(set, symbol + 1)
 }
 
 // How many pairs there are.
-pub(crate) fn count(first: &[u8], second: &[u8]) -> usize
-    requires { (check_of first.now ≡ 0) × (check_of second.now ≡ 0) }
-    ensures { result ≡ length (product (decode first.now) (decode second.now)).rules }
+pub(crate) fn count(sets: Sets) -> usize
+    ensures { result ≡ length (product (decode sets.entry.first.now) (decode sets.entry.second.now)).rules }
 {
-    let n = automaton::header(first).rules;
+    let n = automaton::header(sets.first).rules;
     let mut total = 0;
-    let mut i = 0;
-    while i < n {
-        let w = window(second, automaton::rule_symbol(first, i));
-        total += (w.to - w.from) as usize;
-        i += 1;
+    for i in 0..n {
+        let w = window(sets.second, automaton::rule_symbol(sets.first, i));
+        total += usize::from(w.end - w.start);
     }
     total
 }
 
 // The keys of rule i of the first set paired with the second's rules, put at a place.
-fn row_keys(first: &[u8], second: &[u8], i: u16, keys: &mut [u64], at: usize) -> usize
-    requires { (check_of first.now ≡ 0) × (check_of second.now ≡ 0) × ((decode first.now).arities ≡ (decode second.now).arities) × (i < length (decode first.now).rules) × (at + length (row (decode first.now).tags (decode second.now) (rule_at (decode first.now) i)) ≤ length keys.old) }
-    ensures { Laid keys.old keys.new at result (map packed (row (decode first.now).tags (decode second.now) (rule_at (decode first.now) i))) }
+fn row_keys(sets: Sets, i: u16, keys: &mut [u64], at: usize) -> usize
+    requires { (i < length (decode sets.first.now).rules) × (at + length (row (decode sets.first.now).tags (decode sets.second.now) (rule_at (decode sets.first.now) i)) ≤ length keys.old) }
+    ensures { Laid keys.old keys.new at result (map packed (row (decode sets.entry.first.now).tags (decode sets.entry.second.now) (rule_at (decode sets.entry.first.now) i))) }
 {
-    let r = automaton::rule(first, i);
-    let tags = automaton::header(first).tags;
-    let states = automaton::header(second).states as u64;
-    let w = window(second, r.symbol);
-    let n = w.to - w.from;
-    let mut k = 0;
-    while k < n {
-        let s = automaton::rule(second, w.from + k);
-        keys[at + k as usize] = paired_key(r, s, states, tags);
-        k += 1;
+    let r = automaton::rule(sets.first, i);
+    let tags = automaton::header(sets.first).tags;
+    let states = automaton::header(sets.second).states;
+    let w = window(sets.second, r.symbol);
+    let n = w.end - w.start;
+    for k in 0..n {
+        let s = automaton::rule(sets.second, w.start + k);
+        keys[at + usize::from(k)] = paired_key(r, s, states, tags);
     }
-    at + n as usize
+    at + usize::from(n)
 }
 
 // The keys of all pairs, at the front of a space; answers how many.
-pub(crate) fn pair_keys(first: &[u8], second: &[u8], keys: &mut [u64]) -> usize
-    requires { Ready first.now second.now (product (decode first.now) (decode second.now)) × (max_rules ≤ length keys.old) }
-    ensures { Laid keys.old keys.new 0 result (map packed (pair_rules (length (decode second.now).states) (decode first.now).tags (decode first.now).rules (decode second.now).rules)) }
+pub(crate) fn pair_keys(sets: Sets, keys: &mut [u64]) -> usize
+    requires { Ready sets.first.now sets.second.now (product (decode sets.first.now) (decode sets.second.now)) × (max_rules ≤ length keys.old) }
+    ensures { Laid keys.old keys.new 0 result (map packed (pair_rules (length (decode sets.entry.second.now).states) (decode sets.entry.first.now).tags (decode sets.entry.first.now).rules (decode sets.entry.second.now).rules)) }
 {
-    let n = automaton::header(first).rules;
+    let n = automaton::header(sets.first).rules;
     let mut at = 0;
-    let mut i = 0;
-    while i < n {
-        at = row_keys(first, second, i, keys, at);
-        i += 1;
+    for i in 0..n {
+        at = row_keys(sets, i, keys, at);
     }
     at
 }

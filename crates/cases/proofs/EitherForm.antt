@@ -29,8 +29,8 @@ use Rattle.document.specs.Check.{document_check_of}
 use Rattle.runs.specs.Steps.{step_cells}
 use Rattle.runs.specs.Check.{check_run_of}
 use Rattle.membership.specs.Judge.{judge_check_of, work_after, Judging, RunAfter}
-use Rattle.membership.specs.declared.Judged.{Judged}
-use Rattle.membership.specs.declared.Judged.TheVariants.{Yes, No, Refused}
+use Rattle.std.specs.Prelude.{Result, Ok, Err, Some, None, Option as Maybe}
+use Rattle.base.specs.declared.refusal.Refusal.{Refusal}
 use Rattle.boolean.specs.Combine.{result_form, combine_check_of}
 use Rattle.boolean.specs.Answer.{combined_of, combined_space}
 use Rattle.boolean.proofs.Meaning.{union_stored, product_stored}
@@ -74,17 +74,17 @@ module _ (s s' : List ℕ) (m : SameSet s s') where
   unfolding judge_check_of
   same_judge cells work run = rw (m.checked, m.decoded)
 
-  handed_alike : (cells before after : List ℕ) (r : Judged) → RunAfter s cells before after r → RunAfter s' cells before after r
-  handed_alike cells before after (Yes k) h = record {
+  handed_alike : (cells before after : List ℕ) (r : Result (Maybe ℕ) Refusal) → RunAfter s cells before after r → RunAfter s' cells before after r
+  handed_alike cells before after (Ok (Some k)) h = record {
     some = h.some;
     few = subst (λ (A : Automaton). k ≤ length (annotations A (decode_rows cells))) m.decoded h.few;
     passes = sym (same_run cells (take (k * step_cells) after)) ∙ h.passes;
     rest = h.rest;
   }
-  handed_alike cells before after No h = h
-  handed_alike cells before after (Refused n) h = h
+  handed_alike cells before after (Ok None) h = h
+  handed_alike cells before after (Err w) h = h
 
-  pub same_judging : (cells work run : List ℕ) (r : Judged) (work' run' : List ℕ) → Judging s cells work run r work' run' → Judging s' cells work run r work' run'
+  pub same_judging : (cells work run : List ℕ) (r : Result (Maybe ℕ) Refusal) (work' run' : List ℕ) → Judging s cells work run r work' run' → Judging s' cells work run r work' run'
   same_judging cells work run r work' run' j = record {
     answer =
         j.answer

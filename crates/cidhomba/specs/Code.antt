@@ -1,8 +1,11 @@
 -- How answers become one 64-bit number in the C interface. Assumes nothing.
-use Rattle.std.specs.Prelude.{◌≡◌, List, ℕ, ◌+◌, ◌-◌, ◌*◌, ◌^◌, min}
+use Rattle.std.specs.Prelude.{◌≡◌, List, ℕ, ◌+◌, ◌-◌, ◌*◌, ◌^◌, min, Result, Ok, Err}
+use Rattle.std.specs.Prelude as std
 use Rattle.std.proofs.Math.Option.{Option, none, some}
 use Rattle.model.specs.Refusal.{Answer, gives, refuses}
-use Rattle.membership.specs.declared.Judged.{Judged}
+use Rattle.base.specs.declared.refusal.Refusal.{Refusal}
+use Rattle.base.specs.declared.refusal.TextRefusal.{TextRefusal}
+use Rattle.base.specs.Refusals.{number}
 use Rattle.membership.specs.Judge.{Judging}
 use Rattle.term.specs.Read.{Reading, rows_read, refused_at}
 use Rattle.jsonrows.specs.Read.{Reading as JsonReading, rows_read as json_rows, refused_at as json_refused}
@@ -42,14 +45,19 @@ abbrev pub json_code : JsonReading ℕ → ℕ
 json_code (json_rows n) = n
 json_code (json_refused n p) = refusal_code n p
 
+-- a text: what is answered, whichever reader it is
+abbrev pub text_code : Result ℕ TextRefusal → ℕ
+text_code (Ok n) = n
+text_code (Err t) = refusal_code (number t.refusal) t.place
+
 -- a judging: 0 for no, the number of steps for a yes, which is never 0; its refusals have no place
-abbrev pub judged_code : Judged → ℕ
-judged_code (Judged.Yes s) = s
-judged_code Judged.No = 0
-judged_code (Judged.Refused n) = refusal_code n 0
+abbrev pub judged_code : Result (std.Option ℕ) Refusal → ℕ
+judged_code (Ok (std.Some s)) = s
+judged_code (Ok std.None) = 0
+judged_code (Err r) = refusal_code (number r) 0
 
 -- the number r stands for an answer of the judge, which leaves the spaces as that answer asks
 pub record JudgingCode (set cells work run : List ℕ) (r : ℕ) (work' run' : List ℕ) : Type 0 where
-  pub answer : Judged
+  pub answer : Result (std.Option ℕ) Refusal
   pub coded : r ≡ judged_code answer
   pub judging : Judging set cells work run answer work' run'

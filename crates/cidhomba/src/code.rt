@@ -1,14 +1,11 @@
 // Answers as one 64-bit number.
-ghost use Rattle.std.specs.Prelude.{◌≡◌, ◌-◌, ◌^◌, ◌<◌, min};
-ghost use Rattle.automaton.specs.Answer.{check_answer, written_answer};
-ghost use Rattle.emptiness.specs.Answer.{emptiness_answer};
-ghost use Rattle.spelling.specs.Write.{write_answer};
-ghost use Rattle.cidhomba.specs.Code.{refusal_code, check_code, judged_code, count_code, witness_code};
+ghost use Rattle.std.specs.Prelude.{◌≡◌, ℕ, unwrap_or, ◌-◌, ◌^◌, min};
+ghost use Rattle.base.specs.Refusals.{number, answer};
+ghost use Rattle.cidhomba.specs.Code.{refusal_code, code_of, text_code};
+ghost use Rattle.cidhomba.specs.Value.{sample_value};
 
-use automaton::{Checked, Written};
-use emptiness::Emptiness;
-use membership::Judged;
-use spelling::TermWritten;
+use base::refusal::{Refusal, TextRefusal};
+use emptiness::Sample;
 
 // The highest bit tells a refusal.
 const REFUSED: u64 = 9223372036854775808;
@@ -20,60 +17,78 @@ const LAST_PLACE: u64 = 36028797018963967;
 fn cut_place(place: usize) -> u64
     ensures { result ≡ min place (2 ^ 55 - 1) }
 {
-    let p = place as u64;
-    if p < LAST_PLACE { p } else { LAST_PLACE }
+    (place as u64).min(LAST_PLACE)
 }
 
-pub(crate) fn refusal_code(number: u16, place: usize) -> u64
-    requires { number < 256 }
-    ensures { result ≡ refusal_code number place }
+fn refusal_code(refusal: Refusal, place: usize) -> u64
+    ensures { result ≡ refusal_code (number refusal) place }
 {
-    REFUSED + cut_place(place) * 256 + number as u64
+    REFUSED + cut_place(place) * 256 + u64::from(refusal.number())
 }
 
-pub(crate) fn check_code(c: Checked) -> u64
-    ensures { result ≡ check_code (check_answer c) }
-{
-    match c {
-        Checked::Passed => 0,
-        Checked::Refused(n) => REFUSED + n as u64,
+// What an answer gives, as a number.
+pub(crate) trait Value: Sized {
+    ghost value: { Self → ℕ };
+
+    fn value(self) -> u64
+        ensures { result ≡ value self };
+}
+
+// What passed a check.
+impl Value for () {
+    ghost value = { λ _. 0 };
+
+    fn value(self) -> u64 {
+        0
     }
 }
 
-pub(crate) fn judged_code(j: Judged) -> u64
-    ensures { result ≡ judged_code j }
-{
-    match j {
-        Judged::Yes(s) => s as u64,
-        Judged::No => 0,
-        Judged::Refused(n) => REFUSED + n as u64,
+// How many bytes were written.
+impl Value for usize {
+    ghost value = { λ n. n };
+
+    fn value(self) -> u64 {
+        self as u64
     }
 }
 
-pub(crate) fn written_code(w: Written) -> u64
-    ensures { result ≡ count_code (written_answer w) }
-{
-    match w {
-        Written::Length(n) => n as u64,
-        Written::Refused(n) => REFUSED + n as u64,
+// The steps of a yes, which are never 0, or a no.
+impl Value for Option<u16> {
+    ghost value = { λ o. unwrap_or o 0 };
+
+    fn value(self) -> u64 {
+        u64::from(self.unwrap_or(0))
     }
 }
 
-pub(crate) fn witness_code(e: Emptiness) -> u64
-    ensures { result ≡ witness_code (emptiness_answer e) }
-{
-    match e {
-        Emptiness::Dead => 0,
-        Emptiness::Live(n, h) => n as u64 + 65536 * (h as u64),
-        Emptiness::Refused(n) => REFUSED + n as u64,
+// The rows of a sample and, above the lowest 16 bits, its levels; 0 where the set is dead.
+impl Value for Option<Sample> {
+    ghost value = { sample_value };
+
+    fn value(self) -> u64 {
+        match self {
+            Some(sample) => u64::from(sample.rows) + 65536 * u64::from(sample.levels),
+            None => 0,
+        }
     }
 }
 
-pub(crate) fn write_code(w: TermWritten) -> u64
-    ensures { result ≡ count_code (write_answer w) }
+// An answer: its value, or its refusal, which has no place.
+pub(crate) fn code<V: Value>(given: Result<V, Refusal>) -> u64
+    ensures { result ≡ code_of V.value (answer (λ v. v) given) }
 {
-    match w {
-        TermWritten::Bytes(n) => n as u64,
-        TermWritten::Refused(n) => REFUSED + n as u64,
+    match given {
+        Ok(value) => value.value(),
+        Err(refusal) => refusal_code(refusal, 0),
+    }
+}
+
+// The number of rows that were read, or the refusal with its place.
+pub(crate) fn text_code(given: Result<u16, TextRefusal>) -> u64
+    ensures { result ≡ text_code given }
+{
+    match given {
+        Ok(rows) => u64::from(rows),
+        Err(fault) => refusal_code(fault.refusal, fault.place),
     }
 }

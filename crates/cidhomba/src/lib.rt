@@ -22,16 +22,14 @@ ghost use Rattle.spelling.specs.Write.{write_of};
 ghost use Rattle.spelling.specs.Write.{space_after as write_space};
 ghost use Rattle.cidhomba.specs.Code.{check_code, JudgingCode, count_code, witness_code, read_code, json_code};
 
-use code::{check_code, judged_code, refusal_code, witness_code, write_code, written_code};
-use jsonrows::JsonRead;
-use term::TermRead;
+use code::{code, text_code};
 
 // 0, or the refusal of the set.
 #[unsafe(no_mangle)]
 pub extern "C" fn cidhomba_check_automaton(set: &[u8]) -> u64
     ensures { result ≡ check_code (unless (check_of set.now) tt) }
 {
-    check_code(automaton::check(set))
+    code(automaton::check(set))
 }
 
 // 0, or the refusal of the set or of the table.
@@ -39,7 +37,7 @@ pub extern "C" fn cidhomba_check_automaton(set: &[u8]) -> u64
 pub extern "C" fn cidhomba_check_document(set: &[u8], rows: &[u16]) -> u64
     ensures { result ≡ check_code (unless (document_check_of set.now rows.now) tt) }
 {
-    check_code(document::check(set, rows))
+    code(document::check(set, rows))
 }
 
 // 0, or the refusal of the set, of the table or of the run.
@@ -47,7 +45,7 @@ pub extern "C" fn cidhomba_check_document(set: &[u8], rows: &[u16]) -> u64
 pub extern "C" fn cidhomba_check_run(set: &[u8], rows: &[u16], run: &[u16]) -> u64
     ensures { result ≡ check_code (unless (check_run_of set.now rows.now run.now) tt) }
 {
-    check_code(runs::check(set, rows, run))
+    code(runs::check(set, rows, run))
 }
 
 // The number of steps of the run handed back for a yes, 0 for a no, or the refusal of the set, of the table or of the judging.
@@ -60,7 +58,7 @@ pub extern "C" fn cidhomba_membership(
 ) -> u64
     ensures { JudgingCode set.now rows.now work.old run.old result work.new run.new }
 {
-    judged_code(membership::judge(set, rows, work, run))
+    code(membership::judge(set, rows, work, run))
 }
 
 // The length of the union written, or the refusal of the first set, of the second, or of both.
@@ -69,7 +67,7 @@ pub extern "C" fn cidhomba_union(first: &[u8], second: &[u8], out: &mut [u8]) ->
     ensures answer { result ≡ count_code (combined_of union first.now second.now out.old) }
     ensures space { out.new ≡ combined_space union first.now second.now out.old }
 {
-    written_code(boolean::union(first, second, out))
+    code(boolean::union(first, second, out))
 }
 
 // The length of the product written, or the refusal of the first set, of the second, or of both.
@@ -78,7 +76,7 @@ pub extern "C" fn cidhomba_product(first: &[u8], second: &[u8], out: &mut [u8]) 
     ensures answer { result ≡ count_code (combined_of product first.now second.now out.old) }
     ensures space { out.new ≡ combined_space product first.now second.now out.old }
 {
-    written_code(boolean::product(first, second, out))
+    code(boolean::product(first, second, out))
 }
 
 // The length of the set written in the wide form, or its refusal.
@@ -87,7 +85,7 @@ pub extern "C" fn cidhomba_widen_states(set: &[u8], out: &mut [u8]) -> u64
     ensures answer { result ≡ count_code (moved_of Narrow Wide set.now out.old) }
     ensures space { out.new ≡ moved_space Narrow Wide set.now out.old }
 {
-    written_code(forms::widen_states(set, out))
+    code(forms::widen_states(set, out))
 }
 
 // The length of the set written in the narrow form, or its refusal.
@@ -96,7 +94,7 @@ pub extern "C" fn cidhomba_narrow_states(set: &[u8], out: &mut [u8]) -> u64
     ensures answer { result ≡ count_code (moved_of Wide Narrow set.now out.old) }
     ensures space { out.new ≡ moved_space Wide Narrow set.now out.old }
 {
-    written_code(forms::narrow_states(set, out))
+    code(forms::narrow_states(set, out))
 }
 
 // The length of the set written with rules of 14 bytes, or its refusal.
@@ -105,7 +103,7 @@ pub extern "C" fn cidhomba_widen_rules(set: &[u8], out: &mut [u8]) -> u64
     ensures answer { result ≡ count_code (moved_of Wide Isolating set.now out.old) }
     ensures space { out.new ≡ moved_space Wide Isolating set.now out.old }
 {
-    written_code(forms::widen_rules(set, out))
+    code(forms::widen_rules(set, out))
 }
 
 // The length of the set written with rules of 12 bytes, or its refusal.
@@ -114,7 +112,7 @@ pub extern "C" fn cidhomba_narrow_rules(set: &[u8], out: &mut [u8]) -> u64
     ensures answer { result ≡ count_code (moved_of Isolating Wide set.now out.old) }
     ensures space { out.new ≡ moved_space Isolating Wide set.now out.old }
 {
-    written_code(forms::narrow_rules(set, out))
+    code(forms::narrow_rules(set, out))
 }
 
 // 0 for dead; for live the number of rows, which stand at the front of the space, and 65536 times the levels; or the refusal.
@@ -123,7 +121,7 @@ pub extern "C" fn cidhomba_witness(set: &[u8], rows: &mut [u16]) -> u64
     ensures answer { result ≡ witness_code (emptiness_of set.now (length rows.old)) }
     ensures space { rows.new ≡ witness_space set.now rows.old }
 {
-    witness_code(emptiness::witness(set, rows))
+    code(emptiness::witness(set, rows))
 }
 
 // The number of rows written, or the refusal of the set, of the names or of the text.
@@ -138,10 +136,7 @@ pub extern "C" fn cidhomba_read_term<'a>(
     ensures answer { result ≡ read_code (reading_map length (read_of set.now site.now built_in.now text.now (length rows.old))) }
     ensures space { rows.new ≡ read_space (read_of set.now site.now built_in.now text.now (length rows.old)) rows.old }
 {
-    match term::read(set, site, built_in, text, rows) {
-        TermRead::Rows(n) => n as u64,
-        TermRead::Refused(n, p) => refusal_code(n, p),
-    }
+    text_code(term::read(set, site, built_in, text, rows))
 }
 
 // The number of rows written, or the refusal of the key list or of the text.
@@ -150,10 +145,7 @@ pub extern "C" fn cidhomba_read_json(keys: &[u8], text: &[u8], rows: &mut [u16])
     ensures answer { result ≡ json_code (json_map length (json_of keys.now text.now (length rows.old))) }
     ensures space { rows.new ≡ json_space (json_of keys.now text.now (length rows.old)) rows.old }
 {
-    match jsonrows::read(keys, text, rows) {
-        JsonRead::Rows(n) => n as u64,
-        JsonRead::Refused(n, p) => refusal_code(n, p),
-    }
+    text_code(jsonrows::read(keys, text, rows))
 }
 
 // The number of bytes written, or the refusal of the set, of the names, of the table or of the space.
@@ -168,5 +160,5 @@ pub extern "C" fn cidhomba_write_term<'a>(
     ensures answer { result ≡ count_code (answer_map length (write_of set.now site.now built_in.now rows.now (length text.old))) }
     ensures space { text.new ≡ write_space (write_of set.now site.now built_in.now rows.now (length text.old)) text.old }
 {
-    write_code(spelling::write(set, site, built_in, rows, text))
+    code(spelling::write(set, site, built_in, rows, text))
 }

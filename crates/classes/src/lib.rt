@@ -36,7 +36,7 @@ fn is_in(table: &[u8; 256], b: u8, k: u8) -> bool
     ensures told { result ≡ bit? (get_or table.now b 0) k }
     ensures compared { table.now ≡ class_table → result ≡ in_class? k b }
 {
-    (table[b as usize] >> k) % 2 == 1
+    (table[usize::from(b)] >> k) % 2 == 1
 }
 
 // Whether a byte is a letter a to z.

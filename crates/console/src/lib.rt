@@ -9,13 +9,10 @@ ghost use Rattle.console.specs.Output.{Printed, output_bytes, text_space, live_l
 
 use crate::line::{put_alive, put_answer, put_refusal, put_refused};
 use base::limits::{MAX_ROWS, MAX_STATES};
-use base::numbers::smaller;
+use base::refusal::Refusal;
 use document::rows::ROW_CELLS;
-use emptiness::Emptiness;
-use membership::{ANNOTATION_CELLS, Judged};
+use membership::ANNOTATION_CELLS;
 use runs::steps::STEP_CELLS;
-use spelling::TermWritten;
-use term::TermRead;
 
 // The most bytes that a program prints: `alive`, a height and a text, each line with its end, fit.
 pub const OUTPUT: usize = 32800;
@@ -47,8 +44,8 @@ fn live(set: &[u8], rows: &[u16], height: u16, out: &mut [u8]) -> usize
 {
     let mut text = [0u8; TEXT];
     match spelling::write(set, b"", b"", rows, &mut text) {
-        TermWritten::Bytes(n) => put_alive(out, height, &text[..n]),
-        TermWritten::Refused(n) => put_refused(out, n),
+        Ok(n) => put_alive(out, height, &text[..n]),
+        Err(refusal) => put_refused(out, refusal),
     }
 }
 
@@ -58,16 +55,16 @@ pub fn sample(input: &[u8], out: &mut [u8; OUTPUT]) -> usize
     ensures fits { result ≤ length out.new }
 {
     if input.len() > MAX_INPUT {
-        return put_refused(out, 69);
+        return put_refused(out, Refusal::InputLength);
     }
     let mut rows = [0u16; SAMPLE_CELLS];
     match emptiness::witness(input, &mut rows) {
-        Emptiness::Dead => put_answer(out, b"dead\n"),
-        Emptiness::Live(n, height) => {
-            let cells = n as usize * ROW_CELLS;
-            live(input, &rows[..cells], height, out)
+        Ok(None) => put_answer(out, b"dead\n"),
+        Ok(Some(sample)) => {
+            let cells = usize::from(sample.rows) * ROW_CELLS;
+            live(input, &rows[..cells], sample.levels, out)
         },
-        Emptiness::Refused(n) => put_refused(out, n),
+        Err(refusal) => put_refused(out, refusal),
     }
 }
 
@@ -79,9 +76,9 @@ fn judge_rows(set: &[u8], rows: &[u16], out: &mut [u8]) -> usize
     let mut work = [0u16; WORK];
     let mut run = [0u16; RUN];
     match membership::judge(set, rows, &mut work, &mut run) {
-        Judged::Yes(_) => put_answer(out, b"yes\n"),
-        Judged::No => put_answer(out, b"no\n"),
-        Judged::Refused(n) => put_refused(out, n),
+        Ok(Some(_)) => put_answer(out, b"yes\n"),
+        Ok(None) => put_answer(out, b"no\n"),
+        Err(refusal) => put_refused(out, refusal),
     }
 }
 
@@ -92,11 +89,11 @@ fn judge_text(set: &[u8], text: &[u8], out: &mut [u8]) -> usize
 {
     let mut rows = [0u16; CELLS];
     match term::read(set, b"", b"", text, &mut rows) {
-        TermRead::Rows(n) => {
-            let cells = n as usize * ROW_CELLS;
+        Ok(n) => {
+            let cells = usize::from(n) * ROW_CELLS;
             judge_rows(set, &rows[..cells], out)
         },
-        TermRead::Refused(n, p) => put_refusal(out, n, p),
+        Err(refusal) => put_refusal(out, refusal),
     }
 }
 
@@ -106,9 +103,9 @@ pub fn judge(input: &[u8], out: &mut [u8; OUTPUT]) -> usize
     ensures fits { result ≤ length out.new }
 {
     if input.len() > MAX_INPUT {
-        return put_refused(out, 69);
+        return put_refused(out, Refusal::InputLength);
     }
-    let h = automaton::header(input);
-    let total = smaller(h.total as usize, input.len());
+    let stated = usize::from(automaton::header(input).total);
+    let total = stated.min(input.len());
     judge_text(&input[..total], &input[total..], out)
 }

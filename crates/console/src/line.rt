@@ -1,10 +1,12 @@
-// The pieces of a line, each put at a place of the output, and whole lines at its front; the place after them comes back.
+// The pieces of a line, each put at a place of the output, and whole lines at its front; the place after them comes back. Space and place are no struct: it would hold them for one call, and each clause would still tell of both.
 ghost use Rattle.std.specs.Prelude.{[], ◌∷◌, ◌++◌, ◌+◌, ◌<◌, ◌≤◌, length};
+ghost use Rattle.base.specs.Refusals.{number};
 ghost use Rattle.names.specs.Names.{decimal};
 ghost use Rattle.spelling.specs.Parts.{Wrote};
 ghost use Rattle.console.specs.Output.{Printed};
 ghost use Rattle.console.specs.Words.{refused_word, at_word, numbered, line_of, refused_line, refused_at_line, refusal_line, alive_lines};
 
+use base::refusal::{Refusal, TextRefusal};
 use base::space::put;
 use spelling::number::put_decimal;
 
@@ -77,11 +79,11 @@ fn put_number_line(out: &mut [u8], at: usize, word: &[u8], n: u64) -> usize
 }
 
 // A refusal at the front of the output.
-pub(crate) fn put_refused(out: &mut [u8], number: u16) -> usize
+pub(crate) fn put_refused(out: &mut [u8], refusal: Refusal) -> usize
     requires { 28 < length out.old }
-    ensures { Printed (refused_line number) out.old out.new result }
+    ensures { Printed (refused_line (number refusal)) out.old out.new result }
 {
-    put_number_line(out, 0, b"refused ", number as u64)
+    put_number_line(out, 0, b"refused ", u64::from(refusal.number()))
 }
 
 // A refusal's number and place.
@@ -90,7 +92,7 @@ fn put_numbers(out: &mut [u8], number: u16, place: u64) -> usize
     ensures wrote { Wrote out.old 0 (numbered refused_word number ++ numbered at_word place) out.new result }
     ensures few { result ≤ 52 }
 {
-    let end = put_numbered(out, 0, b"refused ", number as u64);
+    let end = put_numbered(out, 0, b"refused ", u64::from(number));
     put_numbered(out, end, b" at ", place)
 }
 
@@ -103,18 +105,16 @@ fn put_refused_at(out: &mut [u8], number: u16, place: u64) -> usize
     put_end(out, end)
 }
 
-// The same, with the place where the number has one.
-pub(crate) fn put_refusal(out: &mut [u8], number: u16, place: usize) -> usize
+// The same, with the place where the refusal has one.
+pub(crate) fn put_refusal(out: &mut [u8], text: TextRefusal) -> usize
     requires { 52 < length out.old }
-    ensures { Printed (refusal_line number place) out.old out.new result }
+    ensures { Printed (refusal_line (number text.refusal) text.place) out.old out.new result }
 {
-    if number < FIRST_PLACED {
-        return put_refused(out, number);
+    let number = text.refusal.number();
+    if number < FIRST_PLACED || number > LAST_PLACED {
+        return put_refused(out, text.refusal);
     }
-    if number > LAST_PLACED {
-        return put_refused(out, number);
-    }
-    put_refused_at(out, number, place as u64)
+    put_refused_at(out, number, text.place as u64)
 }
 
 // A height, and a text in a line of its own, at the front of the output.
@@ -122,6 +122,6 @@ pub(crate) fn put_alive(out: &mut [u8], height: u16, text: &[u8]) -> usize
     requires { 28 + length text.now ≤ length out.old }
     ensures { Printed (alive_lines height text.now) out.old out.new result }
 {
-    let end = put_number_line(out, 0, b"alive ", height as u64);
+    let end = put_number_line(out, 0, b"alive ", u64::from(height));
     put_line(out, end, text)
 }

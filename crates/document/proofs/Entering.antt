@@ -1,4 +1,5 @@
 -- Rows entered into the index one after the other: a row is found exactly where an earlier one equals it. Assumes nothing.
+use Rattle.std.specs.Prelude.{Some, None}
 use mathlib.Core.Path.{◌≡◌, refl, sym, ap, ◌∙◌, subst}
 use mathlib.Core.Bool.{Bool, true, false, not, cond}
 use mathlib.Core.Logic.{⊎_elim}
@@ -19,7 +20,6 @@ use Rattle.model.proofs.Members.{T_true}
 use Rattle.model.proofs.Below.{Passed, passed_none, passed_more, passed_all, stopped, at, fails}
 use Rattle.model.proofs.Build.{eq_row→eq}
 use Rattle.automaton.proofs.Parts.{all_of}
-use Rattle.document.specs.declared.scalar.Decoded.TheVariants.{Is, Not}
 use Rattle.document.specs.declared.rows.Row as number
 use Rattle.document.specs.declared.index.Probed.{Probed}
 use Rattle.document.specs.declared.index.Probed.TheVariants.{Found, Free, Crowded}
@@ -44,7 +44,7 @@ fields_row_lem cells i t =
     λ x. record { symbol = (row_in cells i).symbol; kind = (ap kind_of scalar ∙ b.kind) x; payload = (ap payload_of scalar ∙ b.payload) x; children = (row_in cells i).children }
   where
     scalar : or_bare (decode_scalar (row_in cells i).kind (row_in cells i).payload) ≡ scalar_at (row_in cells i).kind (row_in cells i).payload
-    scalar = ap (λ b. or_bare (cond b (Is (scalar_at (row_in cells i).kind (row_in cells i).payload)) Not)) ((T_true (scalar? (row_in cells i).kind (row_in cells i).payload)).0 t)
+    scalar = ap (λ b. or_bare (cond b (Some (scalar_at (row_in cells i).kind (row_in cells i).payload)) None)) ((T_true (scalar? (row_in cells i).kind (row_in cells i).payload)).0 t)
 
 -- so a probe for the row by value is one for the row
 pub probed_row : (cells slots : List ℕ) (j : ℕ) (f : RowFields) (ten : List ℕ) (s : ℕ) (p : Probed) → T (scalar? (row_in cells j).kind (row_in cells j).payload) → f ≡ fields_in cells j → ten ≡ encode_row (fields_row f) → s ≡ row_hash ten % slot_count → p ≡ probe slots (λ i. eq_row (fields_row f) (row_in cells i)) s → p ≡ probe slots (same_as cells j) (start_of cells j)

@@ -11,7 +11,7 @@ use lib.ListN.{length, get_or, drop, replicate, drop_of_length-le}
 use lib.Seq.{drop-cons}
 use Rattle.document.specs.Rows.{split_cells, encode_row}
 use Rattle.document.specs.Words.{words_cells}
-use Rattle.document.specs.Hash.{fnv_byte, fnv_cell, fnv_from, fnv1a, cell_bytes, row_hash}
+use Rattle.document.specs.Hash.{fnv_cell, fnv_from, fnv1a, cell_bytes, row_hash}
 
 -- some cells, then others
 pub cells_append : (h : ℕ) (xs ys : List ℕ) → fnv_from h (cell_bytes (xs ++ ys)) ≡ fnv_from (fnv_from h (cell_bytes xs)) (cell_bytes ys)
@@ -51,11 +51,6 @@ zeros_at_once n factor h e l =
     ∙ ap (λ t. t % 2 ^ 32) (mul_comm h (16777619 ^ n))
     ∙ sym (mod_times (16777619 ^ n) h (2 ^ 32))
     ∙ ap (λ t. t % 2 ^ 32) (mul_comm (16777619 ^ n % 2 ^ 32) h ∙ ap (λ t. h * t) (sym e))
-
--- a cell of one byte; y is the hash with that byte taken in
-pub small_cell : (y r : ℕ) → y < 2 ^ 32 → r ≡ y * 637696617 % 2 ^ 32 → r ≡ fnv_byte (y * 16777619 % 2 ^ 32) 0
-unfolding fnv_from
-small_cell y r l e = e ∙ sym (zeros_at_once 2 637696617 y refl l) ∙ ap (λ t. fnv_byte (t * 16777619 % 2 ^ 32) 0) (xor_zero_r y)
 
 -- ---- the words of a row
 

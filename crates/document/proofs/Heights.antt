@@ -4,7 +4,7 @@ use mathlib.Core.List.Memᴰ.{head as here}
 use mathlib.Core.List.Memᴰ.{tail as there}
 use mathlib.Core.List.{List, [], ◌∷◌, map, Memᴰ as In}
 use mathlib.Core.Bool.{Bool, true, false, cond}
-use Prim.Native.Nat.{ℕ, suc, ◌+◌, ◌-◌, ◌<◌, ◌≤◌}
+use Prim.Native.Nat.{ℕ, suc, ◌+◌, ◌-◌, ◌<◌, ◌≤◌, max}
 use native.Mathlib.Numerals.{add-one}
 use native.Mathlib.Omega.{arith}
 use borrow.Author.Count.{below_more}
@@ -39,6 +39,9 @@ larger_le a b l = simp (le-leb a b l)
 larger_gt : (a b : ℕ) → b < a → larger a b ≡ a
 larger_gt a b l = simp (lt-leb a b l)
 
+max_larger : (a b : ℕ) → max a b ≡ larger a b
+max_larger a b = larger_cases (λ x. max a b ≡ x) a b (λ l. omega arith) (λ l. omega arith)
+
 larger_zero : (a : ℕ) → larger a 0 ≡ a
 larger_zero a = larger_cases (λ x. x ≡ a) a 0 (λ l. omega arith) (λ l. refl)
 
@@ -65,11 +68,11 @@ module _ (cells heights : List ℕ) (i : ℕ) where
   pub risen_all : (h k : ℕ) → Rising cells heights i h k → max_children ≤ k → h ≡ highest_of heights (row_in cells i).children
   risen_all h k r l = risen h k r (rest_last cells i k l)
 
-  pub rising_more : (h h' k x y : ℕ) → Rising cells heights i h k → k < max_children → x ≡ place_in cells i k → (x ≡ unused → ⊥) → y ≡ get_or heights x 0 → h' ≡ larger h y → Rising cells heights i h' (k + 1)
+  pub rising_more : (h h' k x y : ℕ) → Rising cells heights i h k → k < max_children → x ≡ place_in cells i k → (x ≡ unused → ⊥) → y ≡ get_or heights x 0 → h' ≡ max h y → Rising cells heights i h' (k + 1)
   rising_more h h' k x y r l e u f g =
       record {
         so_far =
-            ap (λ z. larger z (highest_of heights (rest_in cells i (k + 1)))) (g ∙ ap (larger h) f)
+            ap (λ z. larger z (highest_of heights (rest_in cells i (k + 1)))) (g ∙ max_larger h y ∙ ap (larger h) f)
             ∙ larger_assoc h (get_or heights x 0) (highest_of heights (rest_in cells i (k + 1)))
             ∙ ap (λ cs. larger h (highest_of heights cs)) (sym (rest_more cells i k x l e u))
             ∙ r.so_far;

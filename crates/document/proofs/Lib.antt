@@ -4,7 +4,6 @@ pub mod Hashing
 pub mod Places
 pub mod Numbers
 pub mod Children
-pub mod Equality
 pub mod Encoding
 pub mod WordCells
 pub mod Probing
@@ -14,7 +13,6 @@ pub mod Encoded
 pub mod Putting
 pub mod Marking
 pub mod Heights
-pub mod Decoding
 pub mod Refusals
 pub mod Form
 pub mod Whole

@@ -1,6 +1,6 @@
 -- Marks of what is used: what one number's places add, and that a mark stands where some later number has it in a place. Assumes nothing.
 use mathlib.Core.Path.{◌≡◌, refl, sym, ap, ◌∙◌}
-use mathlib.Core.List.{List, [], ◌∷◌}
+use mathlib.Core.List.{List, [], ◌∷◌, map}
 use mathlib.Core.Bool.{Bool, true, false, ◌&&◌, ◌||◌}
 use Prim.Native.Nat.{ℕ, zero, suc, ◌+◌, ◌-◌, ◌<◌, ◌≤◌}
 use native.Mathlib.Numerals.{add-one}
@@ -8,9 +8,9 @@ use native.Mathlib.Omega.{arith}
 use borrow.Author.Rules.{rules}
 use borrow.Author.Tests.{eqb-true, eqb-false, eq-eqb, ne_eqb, lt-ltb, le-ltb}
 use lib.Dec.{eqb, ltb}
-use lib.ListN.{length, get_or, set, drop, replicate, length-set, length-replicate, get_or-replicate, drop_of_length-le}
-use lib.Seq.{get_or-set_same, get_or-set_other, drop-cons, set_out}
-use Rattle.model.specs.Limits.{max_children, max_rows, unused}
+use lib.ListN.{length, length-map, get_or, set, drop, replicate, length-set, length-replicate, get_or-replicate, drop_of_length-le}
+use lib.Seq.{get_or-set_same, get_or-set_other, drop-cons}
+use Rattle.model.specs.Limits.{max_rows, unused}
 use Rattle.model.specs.Table.{Row, row_at}
 use Rattle.model.specs.Lists.{all_below, any_below, uses?}
 use Rattle.document.specs.Rows.{used, places_in, decode_rows}
@@ -57,38 +57,46 @@ module _ (ps : List ℕ) (k : ℕ) where
   rest_more : k < length ps → (get_or ps k 0 ≡ unused → ⊥) → used (drop k ps) ≡ get_or ps k 0 ∷ used (drop (k + 1) ps)
   rest_more l u = ap used (drop-cons ps k 0 l) ∙ simp (ne_eqb (get_or ps k 0) unused u, add-one)
 
+-- the number v of item k
+pub item_number : {A : Type 0} (f : A → ℕ) (xs : List A) (k : ℕ) (x : A) (v : ℕ) → k < length xs → x ≡ get_or xs k x → v ≡ f x → v ≡ get_or (map f xs) k 0
+item_number f [] k x v l e q = absurd (omega arith)
+item_number f (y ∷ xs) zero x v l e q = q ∙ ap f e
+item_number f (y ∷ xs) (suc k) x v l e q = item_number f xs k x v (omega arith) e q
+
+pub item_inside : {A : Type 0} (f : A → ℕ) (xs : List A) (k : ℕ) → k < length xs → k < length (map f xs)
+item_inside f xs k l = rw length-map l
+
+pub items_passed : {A : Type 0} (f : A → ℕ) (xs : List A) (k : ℕ) → length xs ≤ k → length (map f xs) ≤ k
+items_passed f xs k l = rw length-map l
+
 -- at the head of the loop over the places ps of j: the marks, and what the places from k on add
 pub record Marking (ps : List ℕ) (j : ℕ) (before marks : List Bool) (k : ℕ) : Type 0 where
-  pub wide : length ps ≡ max_children
   pub long : length marks ≡ length before
   pub so_far : (i : ℕ) → i < length before → (get_or marks i false || uses? j (used (drop k ps)) i) ≡ (get_or before i false || uses? j (used ps) i)
 
 module _ (ps : List ℕ) (j : ℕ) (before : List Bool) where
-  pub marking_none : length ps ≡ max_children → Marking ps j before before 0
-  marking_none w = record { wide = w; long = refl; so_far = λ i l. refl }
+  pub marking_none : Marking ps j before before 0
+  marking_none = record { long = refl; so_far = λ i l. refl }
 
   module _ (marks : List Bool) (k : ℕ) (h : Marking ps j before marks k) where
     marked_when : used (drop k ps) ≡ [] → Marked j (used ps) before marks
     marked_when e i l =
         sym (or_false (get_or marks i false)) ∙ ap (λ (b : Bool). get_or marks i false || b) (sym (uses_none j i) ∙ ap (λ (cs : List ℕ). uses? j cs i) (sym e)) ∙ h.so_far i l
 
-    pub marked_all : max_children ≤ k → Marked j (used ps) before marks
-    marked_all l = marked_when (rest_last ps k (omega (arith, h.wide)))
+    pub marked_all : length ps ≤ k → Marked j (used ps) before marks
+    marked_all l = marked_when (rest_last ps k l)
 
     -- place k holds x
-    module _ (x : ℕ) (l : k < max_children) (e : x ≡ get_or ps k 0) where
-      inside : k < length ps
-      inside = omega (arith, h.wide)
-
+    module _ (x : ℕ) (l : k < length ps) (e : x ≡ get_or ps k 0) where
       pub marked_stop : x ≡ unused → Marked j (used ps) before marks
-      marked_stop u = marked_when (rest_stop ps k inside (sym e ∙ u))
+      marked_stop u = marked_when (rest_stop ps k l (sym e ∙ u))
 
       -- in use: the marks marks' have it too where it is lower than j
       module _ (u : x ≡ unused → ⊥) where
         step : (marks' : List Bool) → ((i : ℕ) → i < length before → (get_or marks' i false || uses? j (used (drop (k + 1) ps)) i) ≡ (get_or marks i false || uses? j (x ∷ used (drop (k + 1) ps)) i)) → length marks' ≡ length before → Marking ps j before marks' (k + 1)
         step marks' g w =
-            let more : used (drop k ps) ≡ x ∷ used (drop (k + 1) ps) = rest_more ps k inside (λ q. u (e ∙ q)) ∙ ap (λ (y : ℕ). y ∷ used (drop (k + 1) ps)) (sym e) in
-            record { wide = h.wide; long = w; so_far = λ i m. g i m ∙ ap (λ (cs : List ℕ). get_or marks i false || uses? j cs i) (sym more) ∙ h.so_far i m }
+            let more : used (drop k ps) ≡ x ∷ used (drop (k + 1) ps) = rest_more ps k l (λ q. u (e ∙ q)) ∙ ap (λ (y : ℕ). y ∷ used (drop (k + 1) ps)) (sym e) in
+            record { long = w; so_far = λ i m. g i m ∙ ap (λ (cs : List ℕ). get_or marks i false || uses? j cs i) (sym more) ∙ h.so_far i m }
 
         pub marking_more : (marks' : List Bool) (a : ℕ) → x < j → a ≡ x → marks' ≡ set marks a true → Marking ps j before marks' (k + 1)
         marking_more marks' a low f g =
@@ -154,15 +162,7 @@ module _ (at : ℕ → List ℕ) (n m : ℕ) where
         ∙ any_same n (λ j. uses? j (used (at j)) i) (λ j. uses? j (cs j) i) (λ y ly. ap (λ (xs : List ℕ). uses? y xs i) (same y ly)))
         ∙ ap (λ (z : ℕ). all_below z (λ i. any_below n (λ j. uses? j (cs j) i))) f
 
--- the mark at a place that is i
-pub marked_at : (marks : List Bool) (a i : ℕ) (r : Bool) → r ≡ get_or marks a false → a ≡ i → r ≡ get_or marks i false
-marked_at marks a i r e q = e ∙ ap (λ (n : ℕ). get_or marks n false) q
-
--- a mark past the end is none
-pub set_past : (marks : List Bool) (a i : ℕ) → a ≡ i → length marks ≤ a → marks ≡ set marks i true
-set_past marks a i e l = sym (set_out marks i true (omega arith))
-
-pub ruleset markings = (set_past, marking_none, marked_stop, marked_all, marking_more, marking_same, below_first, below_next, rules)
+pub ruleset markings = (marking_none, marked_stop, marked_all, marking_more, marking_same, below_first, below_next, rules)
 
 -- 16: the marks of the rows of a table
 pub rows_marked : (cells : List ℕ) (n : ℕ) (marks : List Bool) (j k : ℕ) (r : Bool) → Counted cells n → MarkedBelow (places_in cells) n max_rows marks j → n ≤ j → k ≡ n - 1 → r ≡ all_below k (λ i. get_or marks i false) → r ≡ all_below (length (decode_rows cells) - 1) (used? (decode_rows cells))

@@ -1,7 +1,7 @@
 -- Cells and child places of lent rows, as the accessors read them. Assumes nothing.
 use mathlib.Core.Path.{◌≡◌, refl, sym, ap, ◌∙◌}
 use mathlib.Core.List.{List, [], ◌∷◌}
-use Prim.Native.Nat.{ℕ, suc, ◌+◌, ◌*◌, ◌/◌, ◌<◌, ◌≤◌}
+use Prim.Native.Nat.{ℕ, suc, ◌+◌, ◌/◌, ◌<◌, ◌≤◌}
 use native.Mathlib.Numerals.{add-one}
 use borrow.Author.Tests.{eq-eqb, ne_eqb}
 use lib.ListN.{length, get_or, drop, get_or-eq_default, drop_of_length-le}
@@ -21,10 +21,6 @@ row_at_lem cells i l = tab_at no_row (length cells / row_cells) (row_in cells) i
 -- an element past the end is the default
 pub past : {A : Type 0} (l : List A) (d : A) (a i : ℕ) → a ≡ i → length l ≤ a → d ≡ get_or l i d
 past l d a i e h = rw (← e) (sym (get_or-eq_default l d h))
-
-pub cell_past : (cells : List ℕ) (i k a b : ℕ) → a ≡ i → b ≡ k → length cells ≤ a * row_cells + b → 0 ≡ cell_in cells i k
-unfolding cell_in
-cell_past cells i k a b e f h = past cells 0 (a * row_cells + b) (i * row_cells + k) (cc) h
 
 module _ (cells : List ℕ) (i k : ℕ) where
   pub place_cell : (x : ℕ) → k < max_children → x ≡ cell_in cells i (1 + k) → x ≡ place_in cells i k

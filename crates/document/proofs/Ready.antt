@@ -1,16 +1,15 @@
 -- What the builder's answer means to a reader: the row that a plain scan finds, one row more, or none of it at the limit. Assumes nothing.
 use mathlib.Core.Path.{◌≡◌, refl, sym, ap, subst, ◌∙◌}
-use mathlib.Core.Bool.{Bool, true, false, ◌&&◌}
+use mathlib.Core.Bool.{Bool, true, false}
 use mathlib.Core.List.{List, [], ◌∷◌, ◌++◌, append_assoc, append-nil}
 use mathlib.Core.Option.{Option, none, some}
 use Prim.Native.Nat.{ℕ, ◌+◌, ◌*◌, ◌<◌, ◌≤◌}
 use native.Mathlib.Numerals.{add-one}
 use native.Mathlib.Omega.{arith}
-use borrow.Author.Tests.{lt-ltb, le-leb, ltb-true, ltb-false}
-use lib.Dec.{ltb, leb}
+use borrow.Author.Tests.{ltb-true, ltb-false}
+use lib.Dec.{ltb}
 use lib.ListN.{length, take, drop, length-append}
 use lib.Seq.{take_at, length-take-le}
-use Rattle.model.specs.Limits.{max_rows}
 use Rattle.model.specs.Space.{put_at}
 use Rattle.model.specs.Table.{Row}
 use Rattle.model.specs.Build.{eq_row, find_row, placed}
@@ -25,7 +24,7 @@ use Rattle.document.specs.Rows.{row_cells, row_in, rows_below, encode_row, encod
 use Rattle.document.specs.Index.{probe, start_slot}
 use Rattle.document.specs.Builder.{Built, room_for?, place_at, find_or_add, Did, Grows, Ready}
 use Rattle.document.proofs.Putting.{rows_put}
-use Rattle.document.proofs.Placement.{room}
+use Rattle.document.proofs.Placement.{room, room_at}
 use Rattle.document.proofs.Building.{grows}
 
 encode_more : (rows : List Row) (r : Row) → encode_rows (rows ++ r ∷ []) ≡ encode_rows rows ++ encode_row r
@@ -60,16 +59,7 @@ module _ (cells slots : List ℕ) (n limit : ℕ) (r : Row) where
 
 -- room is a matter of the limit alone
 pub room_is : (cells slots : List ℕ) (n limit : ℕ) → Ready cells slots n limit → room_for? cells n limit ≡ ltb n limit
-unfolding room_for?
-room_is cells slots n limit h = go (ltb n limit) refl
-  where
-    go : (b : Bool) → ltb n limit ≡ b → (ltb n limit && ltb n max_rows && leb (n * row_cells + row_cells) (length cells)) ≡ b
-    go true e =
-        let l = ltb-true n limit e in
-        let f : ltb n max_rows ≡ true = lt-ltb n max_rows (omega (arith, h.few)) in
-        let g : leb (n * row_cells + row_cells) (length cells) ≡ true = le-leb (n * row_cells + row_cells) (length cells) (omega (arith, h.room)) in
-        rw (e, f, g)
-    go false e = rw e
+room_is cells slots n limit h = room_at cells n limit h.few h.room
 
 -- A row was there; it was added; there was no room.
 pub data Put (cells slots cs ss : List ℕ) (n limit : ℕ) (r : Row) : Placed → Type 0 where

@@ -1,32 +1,19 @@
 -- What `held` compares; and a kind and a payload that are a scalar's go to it and back unchanged. Assumes nothing.
 use mathlib.Core.Path.{◌≡◌, refl, sym}
-use mathlib.Core.Bool.{Bool, true, false, ◌&&◌}
 use Prim.Native.Nat.{ℕ, zero, suc, ◌<◌}
 use native.Mathlib.Omega.{arith}
-use borrow.Author.Tests.{eq-eqb, ne_eqb, eqb-true, eqb-false}
 use lib.Dec.{T, eqb, ltb, eqb→eq, ltb→lt}
 use Rattle.model.specs.Table.{rate?, scalar?}
 use Rattle.model.proofs.Scalars.{by_kind, rate_below}
 use Rattle.document.specs.declared.scalar.Scalar.{Scalar}
 use Rattle.document.specs.declared.scalar.Scalar.TheVariants.{Flag}
-use Rattle.document.specs.Scalars.{kind_of, payload_of, has_kind_payload, scalar_at}
+use Rattle.document.specs.Scalars.{kind_of, payload_of, scalar_at}
 use Rattle.document.proofs.Rates.{kind_rate, payload_rate}
 
 -- the kind and the payload of s are k and p
 pub record Back (k p : ℕ) (s : Scalar) : Type 0 where
   pub kind : kind_of s ≡ k
   pub payload : payload_of s ≡ p
-
-either_side : (a b : ℕ) → eqb a b ≡ eqb b a
-either_side a b = go (eqb a b) refl
-  where
-    go : (t : Bool) → eqb a b ≡ t → t ≡ eqb b a
-    go true e = sym (eq-eqb b a (sym (eqb-true a b e)))
-    go false e = sym (ne_eqb b a (λ q. eqb-false a b e (sym q)))
-
--- what `held` compares: the scalar is t, and q its payload
-pub held_as : {s t : Scalar} (k p q : ℕ) → s ≡ t → q ≡ payload_of t → (eqb k (kind_of t) && eqb p q) ≡ has_kind_payload s k p
-held_as {s} {t} k p q e f = rw (e, f, either_side k (kind_of t), either_side p (payload_of t))
 
 flag_back : (p : ℕ) → p < 2 → payload_of (Flag (eqb p 1)) ≡ p
 flag_back zero h = refl

@@ -21,13 +21,6 @@ use Rattle.document.specs.Words.{words_cells, Words, cells_at, same_words}
 
 -- ---- numbers of cells
 
-pub split_pair : (x y : ℕ) → x < 65536 → y < 65536 → split_cells 2 (x + y * 65536) ≡ x ∷ y ∷ []
-split_pair x y h l =
-    let a : (x + y * 65536) % 65536 ≡ x = omega arith in
-    let b : (x + y * 65536) / 65536 ≡ y = omega arith in
-    let d : y % 65536 ≡ y = omega arith in
-    rw (a, b, d)
-
 -- the lower half of four cells, and the upper
 pub split_four : (x : ℕ) → split_cells 4 x ≡ split_cells 2 x ++ split_cells 2 (x / 4294967296)
 split_four x =
@@ -41,19 +34,6 @@ split_low x =
     let d : x % 4294967296 ≡ x / 65536 % 65536 * 65536 + x % 65536 = mod-mul x {m = 65536} {c = 65536} (omega arith) (omega arith) in
     let b : x % 4294967296 / 65536 ≡ x / 65536 % 65536 = omega arith in
     rw (a, b, mod-mod (x / 65536) 65536)
-
-pub split_join : (x y : ℕ) → x < 4294967296 → split_cells 4 (x + y * 4294967296) ≡ split_cells 2 x ++ split_cells 2 y
-split_join x y h =
-    let a : (x + y * 4294967296) % 4294967296 ≡ x = omega arith in
-    let b : (x + y * 4294967296) / 4294967296 ≡ y = omega arith in
-    split_four (x + y * 4294967296) ∙ ap (λ l. l ++ split_cells 2 ((x + y * 4294967296) / 4294967296)) (sym (split_low (x + y * 4294967296)) ∙ ap (split_cells 2) a) ∙ ap (λ n. split_cells 2 x ++ split_cells 2 n) b
-
--- the cells that stand at a place
-pub cells_two : (cells : List ℕ) (at : ℕ) → get_or cells at 0 ∷ get_or cells (at + 1) 0 ∷ [] ≡ cells_at 2 cells at
-cells_two cells at = let z : at + 0 ≡ at = omega arith in rw z
-
-pub cells_four : (cells : List ℕ) (at : ℕ) → get_or cells at 0 ∷ get_or cells (at + 1) 0 ∷ get_or cells (at + 2) 0 ∷ get_or cells (at + 3) 0 ∷ [] ≡ cells_at 4 cells at
-cells_four cells at = let z : at + 0 ≡ at = omega arith in rw z
 
 -- ---- two numbers are the same where their cells are
 

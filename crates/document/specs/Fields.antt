@@ -1,12 +1,10 @@
 -- Rows by value, also as read from a lent space of rows. Assumes nothing.
-use Rattle.std.specs.Prelude.{List, map, cond, ℕ, eqb}
+use Rattle.std.specs.Prelude.{List, map, cond, ℕ, eqb, Option, Some, None}
 use Rattle.model.specs.Limits.{unused}
 use Rattle.model.specs.Table.{Row}
 use Rattle.document.specs.declared.rows.Row as number
 use Rattle.document.specs.declared.scalar.Scalar.{Scalar}
 use Rattle.document.specs.declared.scalar.Scalar.TheVariants.{Bare}
-use Rattle.document.specs.declared.scalar.Decoded.{Decoded}
-use Rattle.document.specs.declared.scalar.Decoded.TheVariants.{Is, Not}
 use Rattle.document.specs.declared.fields.RowFields.{RowFields}
 use Rattle.document.specs.Rows.{used, places_in, row_in}
 use Rattle.document.specs.Scalars.{kind_of, payload_of, decode_scalar}
@@ -30,9 +28,9 @@ abbrev pub place_after : ℕ → ℕ → ℕ
 place_after last x = cond (eqb last unused) unused x
 
 -- the scalar, bare where there is none
-abbrev pub or_bare : Decoded → Scalar
-or_bare (Is s) = s
-or_bare Not = Bare
+abbrev pub or_bare : Option Scalar → Scalar
+or_bare (Some s) = s
+or_bare None = Bare
 
 -- row i by value
 unfoldable pub fields_in : List ℕ → ℕ → RowFields

@@ -1,12 +1,10 @@
 -- Scalars as values, and what a row's kind and payload say of them (document 01, section "Documents"; the two zeros: document 02, Wish 6). Assumes nothing.
-use Rattle.std.specs.Prelude.{Bool, ◌&&◌, cond, ℕ, zero, suc, eqb}
+use Rattle.std.specs.Prelude.{Bool, ◌&&◌, cond, ℕ, zero, suc, eqb, Option, Some, None}
 use Rattle.std.specs.Float.{binary64}
 use Rattle.std.specs.Float.Ieee.{nan_bits, of_bits, to_bits}
 use Rattle.model.specs.Table.{one_zero, scalar?}
 use Rattle.document.specs.declared.scalar.Scalar.{Scalar}
 use Rattle.document.specs.declared.scalar.Scalar.TheVariants.{Bare, Flag, Count, Rate, NanRate, Name}
-use Rattle.document.specs.declared.scalar.Decoded.{Decoded}
-use Rattle.document.specs.declared.scalar.Decoded.TheVariants.{Is, Not}
 
 -- the rate of any 64 bits; those of a NaN are kept as a number
 unfoldable pub rate_of : ℕ → Scalar
@@ -47,5 +45,5 @@ scalar_at (suc (suc (suc zero))) p = rate_of p
 scalar_at (suc (suc (suc (suc k)))) p = Name p
 
 -- a scalar exactly where the kind and the payload are those of one
-abbrev pub decode_scalar : ℕ → ℕ → Decoded
-decode_scalar k p = cond (scalar? k p) (Is (scalar_at k p)) Not
+abbrev pub decode_scalar : ℕ → ℕ → Option Scalar
+decode_scalar k p = cond (scalar? k p) (Some (scalar_at k p)) None

@@ -8,9 +8,8 @@ use crate::fields::{RowFields, cells_of};
 use crate::index::{Probed, SLOTS, look_up, start_slot};
 use crate::rows::{ROW_CELLS, Row, put_cells};
 use base::limits::MAX_ROWS;
-use base::numbers::size;
 
-// A row that was there, one that was added, or no room for one.
+// A row that was there, one that was added, or no room for one. Who asks does something of its own in each case, so an Option of two cases would only be matched twice.
 #[derive(Clone, Copy)]
 pub enum Placed {
     Known(Row),
@@ -18,11 +17,13 @@ pub enum Placed {
     Full,
 }
 
+// Rows, slots, their number and the limit are no struct: a reader lends the first two out of tables of its own, so it would build one for each call and take it apart again.
+
 // Room for a row more, after n.
 pub(crate) fn has_room(rows: &[u16], n: u16, limit: u16) -> bool
     ensures { result ≡ room_for? rows.now n limit }
 {
-    let m = size(n);
+    let m = usize::from(n);
     (n < limit) & (n < MAX_ROWS) & (m * ROW_CELLS + ROW_CELLS <= rows.len())
 }
 

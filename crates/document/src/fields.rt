@@ -32,10 +32,8 @@ fn settled(places: [Row; PLACES]) -> [Row; PLACES]
     ensures { result ≡ as_rows (places_of (used (numbers_of places))) }
 {
     let mut p = places;
-    let mut k = 0;
-    while k < LAST_PLACE {
+    for k in 0..LAST_PLACE {
         p[k + 1] = place_after(p[k], p[k + 1]);
-        k += 1;
     }
     p
 }
@@ -71,11 +69,9 @@ pub fn cells_of(f: RowFields) -> [u16; ROW_CELLS]
 fn same_places(rows: &[u16], i: Row, places: [Row; PLACES]) -> bool
     ensures { result ≡ eq_list (used (numbers_of places)) (row_in rows.now i.0).children }
 {
-    let mut k = 0;
-    while k < PLACES {
+    for k in 0..PLACES {
         let x = places[k];
         let y = place(rows, i, k as u16);
-        k += 1;
         if x.0 != y.0 {
             return false;
         }

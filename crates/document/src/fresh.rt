@@ -11,7 +11,7 @@ ghost use Rattle.document.specs.Builder.{find_or_add, Did, Ready};
 use crate::builder::{Placed, has_room};
 use crate::index::{Probed, SLOTS, free_slot};
 use crate::rows::Row;
-use crate::words::{CELLS, put_words};
+use crate::words::{CELLS, RowWords, put_words};
 
 // Adds, as row n, the row of the hash and with the cells of the words, which none of the first n has, where there is room: only an empty slot is looked for.
 pub fn add_new(
@@ -20,11 +20,9 @@ pub fn add_new(
     n: u16,
     limit: u16,
     hash: u32,
-    a: u64,
-    b: u64,
-    c: u64,
+    w: RowWords,
 ) -> Placed
-    ensures { (x : table.Row) → Words x a b c → hash ≡ row_hash (encode_row x) → Ready rows.old slots.old n limit → find_row x (rows_below rows.old n) ≡ none → Did (find_or_add rows.old slots.old n limit x) result rows.new slots.new }
+    ensures { (x : table.Row) → Words x w.a w.b w.c → hash ≡ row_hash (encode_row x) → Ready rows.old slots.old n limit → find_row x (rows_below rows.old n) ≡ none → Did (find_or_add rows.old slots.old n limit x) result rows.new slots.new }
 {
     match free_slot(&*slots, hash as usize % SLOTS) {
         Probed::Found(i) => Placed::Known(i),
@@ -32,7 +30,7 @@ pub fn add_new(
             if !has_room(&*rows, n, limit) {
                 return Placed::Full;
             }
-            put_words(&mut *rows, Row(n), a, b, c);
+            put_words(&mut *rows, Row(n), w);
             slots[t] = n + 1;
             Placed::Added(Row(n))
         },

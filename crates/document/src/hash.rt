@@ -5,7 +5,7 @@ ghost use Rattle.document.specs.Hash.{fnv_byte, fnv_cell, fnv_from, fnv1a, cell_
 ghost use Rattle.document.specs.Words.{words_cells};
 
 use crate::rows::ROW_CELLS;
-use crate::words::{TWO_CELLS, low_cell};
+use crate::words::{RowWords, TWO_CELLS, low_cell};
 use base::limits::UNUSED;
 
 pub const FNV_START: u32 = 2166136261;
@@ -42,11 +42,11 @@ const NAME_MIDDLE: u64 = 0x0004_ffff;
 
 const NAME_HASH: u32 = 834638206;
 
-// The product wraps modulo 2^32.
+// The product wraps modulo 2^32: it is taken in 64 bits, then the remainder, which is the form of it that the pages promise.
 fn times(h: u32, factor: u32) -> u32
     ensures { result ≡ h * factor % 2 ^ 32 }
 {
-    (h as u64 * factor as u64 % MODULUS) as u32
+    (u64::from(h) * u64::from(factor) % MODULUS) as u32
 }
 
 // A byte more; a wider number is taken whole.
@@ -60,7 +60,7 @@ pub fn add_byte(h: u32, b: u32) -> u32
 fn add_cell(h: u32, x: u16) -> u32
     ensures { result ≡ fnv_cell h x }
 {
-    add_byte(add_byte(h, (x % 256) as u32), (x / 256) as u32)
+    add_byte(add_byte(h, u32::from(x % 256)), u32::from(x / 256))
 }
 
 // The same, at once where the cell is one byte, as a symbol and a kind are.
@@ -68,7 +68,7 @@ fn add_small(h: u32, x: u16) -> u32
     ensures { result ≡ fnv_cell h x }
 {
     if x < 256 {
-        return times(h ^ x as u32, FACTOR_2);
+        return times(h ^ u32::from(x), FACTOR_2);
     }
     add_cell(h, x)
 }
@@ -124,10 +124,10 @@ fn add_rest(h: u32, x: u64, c: u64) -> u32
 }
 
 // The hash of a row's words.
-pub fn words_hash(a: u64, b: u64, c: u64) -> u32
-    ensures { result ≡ row_hash (words_cells a b c) }
+pub fn words_hash(w: RowWords) -> u32
+    ensures { result ≡ row_hash (words_cells w.a w.b w.c) }
 {
-    add_rest(middle_hash(a, b % TWO_CELLS), b / TWO_CELLS, c)
+    add_rest(middle_hash(w.a, w.b % TWO_CELLS), w.b / TWO_CELLS, w.c)
 }
 
 // The hash of a row of up to three children and no scalar, by its first four cells, which then need not be taken out of words.
@@ -143,10 +143,8 @@ pub fn row_hash(cells: [u16; ROW_CELLS]) -> u32
     ensures { result ≡ row_hash cells }
 {
     let mut h = FNV_START;
-    let mut i = 0;
-    while i < ROW_CELLS {
-        h = add_cell(h, cells[i]);
-        i += 1;
+    for x in cells {
+        h = add_cell(h, x);
     }
     h
 }

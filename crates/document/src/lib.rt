@@ -18,24 +18,13 @@ ghost use Rattle.model.specs.Refusal.{unless};
 ghost use Rattle.automaton.specs.Answer.{check_answer};
 ghost use Rattle.document.specs.Check.{document_check_of};
 
-use automaton::Checked;
+use base::refusal::Refusal;
 pub use scalar::Scalar;
 
-fn answer(n: u16) -> Checked
-    ensures { check_answer result ≡ unless n tt }
-{
-    if n == 0 {
-        return Checked::Passed;
-    }
-    Checked::Refused(n)
-}
-
-// Whether rows are a sound table for a sound set: the number that refuses the set, else the one that refuses the table.
-pub fn check(set: &[u8], rows: &[u16]) -> Checked
+// Whether rows are a sound table for a sound set: else what refuses the set, or else what refuses the table.
+pub fn check(set: &[u8], rows: &[u16]) -> Result<(), Refusal>
     ensures { check_answer result ≡ unless (document_check_of set.now rows.now) tt }
 {
-    match automaton::check(set) {
-        Checked::Passed => answer(tests::table(set, rows)),
-        Checked::Refused(n) => Checked::Refused(n),
-    }
+    automaton::check(set)?;
+    tests::table(set, rows)
 }

@@ -1,5 +1,5 @@
 // Lent rows, cell by cell: every function answers for every slice, a cell past the end counting as 0.
-ghost use Rattle.std.specs.Prelude.{◌≡◌, ◌*◌, ◌/◌, length};
+ghost use Rattle.std.specs.Prelude.{◌≡◌, ℕ, ◌*◌, ◌/◌, length};
 ghost use Rattle.model.specs.Space.{put_at};
 ghost use Rattle.document.specs.Rows.{row_cells, cell_in, places_in, row_in, encode_row};
 ghost use Rattle.document.specs.Scalars.{decode_scalar};
@@ -7,9 +7,8 @@ ghost use Rattle.document.specs.Fields.{as_rows, fields_row, or_bare, fields_in}
 ghost use Rattle.document.specs.Check.{place_in};
 
 use crate::fields::{RowFields, cells_of};
-use crate::scalar::{Decoded, Scalar, from_cells};
+use crate::scalar::{Scalar, from_cells};
 use base::limits::{MAX_CHILDREN, PLACES, UNUSED};
-use base::numbers::{size, wide};
 use base::space;
 
 // A row's number.
@@ -20,17 +19,38 @@ pub struct Row(pub u16);
 #[derive(Clone, Copy)]
 pub struct Step(pub u16);
 
+// What goes by a number, as a row or a step does.
+pub trait Numbered: Copy {
+    ghost number: { Self → ℕ };
+
+    fn number(self) -> u16
+        ensures { result ≡ number self };
+}
+
+impl Numbered for Row {
+    ghost number = { λ r. r.0 };
+
+    fn number(self) -> u16 {
+        self.0
+    }
+}
+
+impl Numbered for Step {
+    ghost number = { λ s. s.0 };
+
+    fn number(self) -> u16 {
+        self.0
+    }
+}
+
 pub const ROW_CELLS: usize = 10;
 
 // Cell k of row i.
 pub fn cell(rows: &[u16], i: Row, k: u16) -> u16
     ensures { result ≡ cell_in rows.now i.0 k }
 {
-    let at = size(i.0) * ROW_CELLS + size(k);
-    if at < rows.len() {
-        return rows[at];
-    }
-    0
+    let at = usize::from(i.0) * ROW_CELLS + usize::from(k);
+    rows.get(at).copied().unwrap_or(0)
 }
 
 // As many rows as fit whole.
@@ -46,7 +66,7 @@ pub fn symbol(rows: &[u16], i: Row) -> u16
     cell(rows, i, 0)
 }
 
-// Place k of row i: a child's number, or UNUSED.
+// Place k of row i: a child's number, or UNUSED. It is no Option, since the clause says the number that the cell holds.
 pub fn place(rows: &[u16], i: Row, k: u16) -> Row
     ensures { result.0 ≡ place_in rows.now i.0 k }
 {
@@ -65,19 +85,16 @@ pub fn kind(rows: &[u16], i: Row) -> u16
 pub fn payload(rows: &[u16], i: Row) -> u64
     ensures { result ≡ (row_in rows.now i.0).payload }
 {
-    wide(cell(rows, i, 6))
+    u64::from(cell(rows, i, 6))
         + 65536
-            * (wide(cell(rows, i, 7))
-                + 65536 * (wide(cell(rows, i, 8)) + 65536 * wide(cell(rows, i, 9))))
+            * (u64::from(cell(rows, i, 7))
+                + 65536 * (u64::from(cell(rows, i, 8)) + 65536 * u64::from(cell(rows, i, 9))))
 }
 
 fn scalar_of(kind: u16, payload: u64) -> Scalar
     ensures { result ≡ or_bare (decode_scalar kind payload) }
 {
-    match from_cells(kind, payload) {
-        Decoded::Is(s) => s,
-        Decoded::Not => Scalar::Bare,
-    }
+    from_cells(kind, payload).unwrap_or(Scalar::Bare)
 }
 
 // The four places of row i.
@@ -109,7 +126,7 @@ pub fn fields_at(rows: &[u16], i: Row) -> RowFields
 pub fn put_cells(out: &mut [u16], i: Row, cells: [u16; ROW_CELLS])
     ensures { out.new ≡ put_at out.old (i.0 * row_cells) cells }
 {
-    space::put_cells(out, size(i.0) * ROW_CELLS, &cells);
+    space::put(out, usize::from(i.0) * ROW_CELLS, &cells);
 }
 
 // The same with a row by value.

@@ -3,7 +3,6 @@ ghost use Rattle.std.specs.Prelude.{◌≡◌};
 ghost use Rattle.std.specs.Float.{binary64};
 ghost use Rattle.std.specs.Float.Ieee.{to_bits};
 ghost use Rattle.model.specs.Table.{one_zero};
-ghost use Rattle.document.specs.declared.scalar.Scalar.TheVariants.{Flag};
 ghost use Rattle.document.specs.Scalars.{rate_of, row_rate, kind_of, payload_of, decode_scalar, has_kind_payload};
 
 // A bit pattern without its sign is a NaN where it is above that of infinity.
@@ -54,7 +53,7 @@ pub fn row_rate(bits: u64) -> Scalar
     rate_of(one_zero(bits))
 }
 
-// The kind of a rate.
+// The kind of a rate, as a row's cell has it.
 pub const RATE: u16 = 3;
 
 // The payload of that rate.
@@ -71,12 +70,7 @@ pub fn bits_of(x: f64) -> u64
     if x != x { NAN } else { f64::to_bits(x) }
 }
 
-fn flag_bits(b: bool) -> u64
-    ensures { result ≡ payload_of (Flag b) }
-{
-    if b { 1 } else { 0 }
-}
-
+// The kind's number, as a row's cell has it.
 pub fn kind(s: Scalar) -> u16
     ensures { result ≡ kind_of s }
 {
@@ -95,47 +89,41 @@ pub fn payload(s: Scalar) -> u64
 {
     match s {
         Scalar::Bare => 0,
-        Scalar::Flag(b) => flag_bits(b),
+        Scalar::Flag(b) => u64::from(b),
         Scalar::Count(n) => n,
         Scalar::Rate(x) => bits_of(x),
         Scalar::NanRate(bits) => bits,
-        Scalar::Name(n) => n as u64,
+        Scalar::Name(n) => u64::from(n),
     }
 }
 
-// What a kind and a payload hold: a scalar, or nothing that is one.
-#[derive(Clone, Copy)]
-pub enum Decoded {
-    Is(Scalar),
-    Not,
-}
-
-pub fn from_cells(kind: u16, payload: u64) -> Decoded
+// The scalar that a kind and a payload hold, where they hold one.
+pub fn from_cells(kind: u16, payload: u64) -> Option<Scalar>
     ensures { result ≡ decode_scalar kind payload }
 {
     match kind {
         0 => if payload == 0 {
-            Decoded::Is(Scalar::Bare)
+            Some(Scalar::Bare)
         } else {
-            Decoded::Not
+            None
         },
         1 => if payload < 2 {
-            Decoded::Is(Scalar::Flag(payload == 1))
+            Some(Scalar::Flag(payload == 1))
         } else {
-            Decoded::Not
+            None
         },
-        2 => Decoded::Is(Scalar::Count(payload)),
+        2 => Some(Scalar::Count(payload)),
         3 => if payload == MINUS_ZERO {
-            Decoded::Not
+            None
         } else {
-            Decoded::Is(rate_of(payload))
+            Some(rate_of(payload))
         },
         4 => if payload < NAMES {
-            Decoded::Is(Scalar::Name(payload as u32))
+            Some(Scalar::Name(payload as u32))
         } else {
-            Decoded::Not
+            None
         },
-        _ => Decoded::Not,
+        _ => None,
     }
 }
 
@@ -145,10 +133,10 @@ pub fn held(s: Scalar, kind: u16, bits: u64) -> bool
 {
     match s {
         Scalar::Bare => (kind == 0) & (bits == 0),
-        Scalar::Flag(b) => (kind == 1) & (bits == flag_bits(b)),
+        Scalar::Flag(b) => (kind == 1) & (bits == u64::from(b)),
         Scalar::Count(n) => (kind == 2) & (bits == n),
         Scalar::Rate(x) => (kind == 3) & (bits == bits_of(x)),
         Scalar::NanRate(own) => (kind == 3) & (bits == own),
-        Scalar::Name(n) => (kind == 4) & (bits == n as u64),
+        Scalar::Name(n) => (kind == 4) & (bits == u64::from(n)),
     }
 }

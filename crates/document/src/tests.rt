@@ -1,35 +1,28 @@
 // The four tests of a table of lent rows: its form (11 to 14), equal rows (15), unused rows (16), its height (17).
-ghost use Rattle.std.specs.Prelude.{◌≡◌, false, ◌-◌, ◌<◌, ◌≤◌, T, length, get_or};
+ghost use Rattle.std.specs.Prelude.{◌≡◌, false, ◌-◌, ◌<◌, ◌≤◌, T, length, get_or, is_some, IfSome, IfOk};
 ghost use Rattle.model.specs.Limits.{max_children, max_rows};
 ghost use Rattle.model.specs.Lists.{all_below, larger};
 ghost use Rattle.model.specs.Tree.{levels};
 ghost use Rattle.model.specs.Table.{tree_of, scalar?, Lower};
 ghost use Rattle.automaton.specs.Stored.{decode};
+ghost use Rattle.base.specs.Refusals.{refused_by};
 ghost use Rattle.automaton.specs.Check.{check_of};
 ghost use Rattle.document.specs.Rows.{row_in, decode_rows};
 ghost use Rattle.document.specs.Index.{probe};
 ghost use Rattle.document.specs.Check.{row_count, counted?, known?, place?, child?, children?, scalar_for?, scalar_fits?, form_check_of, fresh?, distinct_check_of, used?, used_check_of, levels_check_of, table_check_of};
-ghost use Rattle.document.specs.Marks.{Counted, AllScalars, same_as, start_of, highest_of};
+ghost use Rattle.document.specs.Marks.{AllScalars, same_as, start_of, highest_of};
 
 use crate::fields::cells_of;
 use crate::index::{Probed, SLOTS, look_up, start_slot};
 use crate::marks::{all_marked, mark};
 use crate::rows::{ROW_CELLS, Row, count, fields_at, kind, payload, place, places_of, symbol};
-use crate::scalar::{Decoded, from_cells};
+use crate::scalar::from_cells;
 use automaton::{arity, header};
 use base::limits::{MAX_CHILDREN, MAX_LEVELS, MAX_ROWS, UNUSED};
-use base::numbers::size;
+use base::refusal::Refusal;
 
 // The length of a scratch over all rows.
 const ROWS: usize = MAX_ROWS as usize;
-
-// 11: 1 to 1,024 rows, none cut short.
-fn counted(rows: &[u16]) -> bool
-    ensures { result ≡ counted? rows.now }
-{
-    let n = count(rows);
-    (1 <= n) & ((n <= ROWS) & (rows.len() % ROW_CELLS == 0))
-}
 
 // 12 at row i.
 fn symbol_known(set: &[u8], rows: &[u16], i: Row) -> bool
@@ -37,21 +30,6 @@ fn symbol_known(set: &[u8], rows: &[u16], i: Row) -> bool
 {
     let h = header(set);
     symbol(rows, i) < h.symbols
-}
-
-fn symbols_known(set: &[u8], rows: &[u16], n: u16) -> bool
-    requires { n ≡ row_count rows.now }
-    ensures { result ≡ all_below (row_count rows.now) (known? (decode set.now) rows.now) }
-{
-    let mut i = 0;
-    while i < n {
-        if symbol_known(set, rows, Row(i)) {
-            i += 1;
-        } else {
-            return false;
-        }
-    }
-    true
 }
 
 fn place_fits(in_use: bool, i: Row, x: Row) -> bool
@@ -69,16 +47,7 @@ fn child_fits(rows: &[u16], i: Row, arity: u16, k: u16) -> bool
 fn places_fit(rows: &[u16], i: Row, arity: u16) -> bool
     ensures { result ≡ all_below max_children (child? rows.now i.0 arity) }
 {
-    let n = MAX_CHILDREN;
-    let mut k = 0;
-    while k < n {
-        if child_fits(rows, i, arity, k) {
-            k += 1;
-        } else {
-            return false;
-        }
-    }
-    true
+    (0..MAX_CHILDREN).all(|k| child_fits(rows, i, arity, k))
 }
 
 // 13 at row i.
@@ -89,28 +58,10 @@ fn children_fit(set: &[u8], rows: &[u16], i: Row) -> bool
     places_fit(rows, i, a)
 }
 
-fn all_children_fit(set: &[u8], rows: &[u16], n: u16) -> bool
-    requires { n ≡ row_count rows.now }
-    ensures { result ≡ all_below (row_count rows.now) (children? (decode set.now) rows.now) }
-{
-    let mut i = 0;
-    while i < n {
-        if children_fit(set, rows, Row(i)) {
-            i += 1;
-        } else {
-            return false;
-        }
-    }
-    true
-}
-
 fn is_scalar(kind: u16, payload: u64) -> bool
     ensures { result ≡ scalar? kind payload }
 {
-    match from_cells(kind, payload) {
-        Decoded::Is(_) => true,
-        Decoded::Not => false,
-    }
+    from_cells(kind, payload).is_some()
 }
 
 fn fits_arity(arity: u16, kind: u16, payload: u64) -> bool
@@ -130,41 +81,6 @@ fn scalar_fits(set: &[u8], rows: &[u16], i: Row) -> bool
     fits_arity(a, kind(rows, i), payload(rows, i))
 }
 
-fn all_scalars_fit(set: &[u8], rows: &[u16], n: u16) -> bool
-    requires { n ≡ row_count rows.now }
-    ensures { result ≡ all_below (row_count rows.now) (scalar_fits? (decode set.now) rows.now) }
-{
-    let mut i = 0;
-    while i < n {
-        if scalar_fits(set, rows, Row(i)) {
-            i += 1;
-        } else {
-            return false;
-        }
-    }
-    true
-}
-
-// 11 to 14, or 0: the form of the rows, each by itself.
-pub(crate) fn form(set: &[u8], rows: &[u16]) -> u16
-    ensures { result ≡ form_check_of (decode set.now) rows.now }
-{
-    if !counted(rows) {
-        return 11;
-    }
-    let n = count(rows) as u16;
-    if !symbols_known(set, rows, n) {
-        return 12;
-    }
-    if !all_children_fit(set, rows, n) {
-        return 13;
-    }
-    if !all_scalars_fit(set, rows, n) {
-        return 14;
-    }
-    0
-}
-
 // Looks for row j among the rows that the slots index.
 fn probe_row(rows: &[u16], slots: &[u16; SLOTS], j: Row) -> Probed
     requires { T (scalar? (row_in rows.now j.0).kind (row_in rows.now j.0).payload) }
@@ -174,145 +90,173 @@ fn probe_row(rows: &[u16], slots: &[u16; SLOTS], j: Row) -> Probed
     look_up(rows, slots, start_slot(cells_of(f)), f)
 }
 
-// 15: each row is looked for among the earlier ones, then entered.
-fn all_distinct(rows: &[u16], n: u16) -> bool
-    requires { Counted rows.now n × AllScalars rows.now n }
-    ensures { result ≡ all_below (length (decode_rows rows.now)) (fresh? (decode_rows rows.now)) }
-{
-    let mut slots = [0u16; SLOTS];
-    let mut j = 0;
-    while j < n {
-        let found = probe_row(rows, &slots, Row(j));
-        j += 1;
-        match found {
-            Probed::Found(_) => return false,
-            Probed::Free(t) => slots[t] = j,
-            Probed::Crowded => return false,
-        }
-    }
-    true
-}
-
-// 15, or 0.
-pub(crate) fn distinct(rows: &[u16], n: u16) -> u16
-    requires { Counted rows.now n × AllScalars rows.now n }
-    ensures { result ≡ distinct_check_of (decode_rows rows.now) }
-{
-    if all_distinct(rows, n) { 0 } else { 15 }
-}
-
-// 16: one pass marks the children of every row, then every row but the last must be marked.
-fn all_used(rows: &[u16], n: u16) -> bool
-    requires { Counted rows.now n }
-    ensures { result ≡ all_below (length (decode_rows rows.now) - 1) (used? (decode_rows rows.now)) }
-{
-    let mut used = [false; ROWS];
-    let mut j = 0;
-    while j < n {
-        let places = places_of(rows, Row(j));
-        mark(&mut used, Row(j), places);
-        j += 1;
-    }
-    all_marked(&used, n - 1)
-}
-
-fn larger_of(a: u16, b: u16) -> u16
-    ensures { result ≡ larger a b }
-{
-    if a <= b {
-        return b;
-    }
-    a
-}
-
 fn height_at(heights: &[u16], c: Row) -> u16
     ensures { result ≡ get_or heights.now c.0 0 }
 {
-    let at = size(c.0);
-    if at < heights.len() {
-        return heights[at];
-    }
-    0
+    heights.get(usize::from(c.0)).copied().unwrap_or(0)
 }
 
 // The height of row i's highest child, 0 where it has none.
 fn highest_child(rows: &[u16], heights: &[u16], i: Row) -> u16
     ensures { result ≡ highest_of heights.now (row_in rows.now i.0).children }
 {
-    let n = MAX_CHILDREN;
-    let mut k = 0;
     let mut h = 0;
-    while k < n {
+    for k in 0..MAX_CHILDREN {
         let c = place(rows, i, k);
-        k += 1;
         if c.0 == UNUSED {
             return h;
         }
-        h = larger_of(h, height_at(heights, c));
+        h = h.max(height_at(heights, c));
     }
     h
 }
 
-// The levels of the last row's tree: each row's height from those of its children, which are lower.
-fn levels_of(rows: &[u16], n: u16) -> u16
-    requires { Counted rows.now n × Lower (decode_rows rows.now) }
-    ensures { result ≡ levels (tree_of (decode_rows rows.now)) }
-{
-    let mut heights = [0u16; ROWS];
-    let mut i = 0;
-    while i < n {
-        let h = highest_child(rows, &heights, Row(i)) + 1;
-        heights[size(i)] = h;
-        i += 1;
+// Rows that passed 11, and how many they are.
+#[derive(Clone, Copy)]
+struct WholeRows<'a> {
+    rows: &'a [u16],
+    n: u16,
+    ghost counted: { n ≡ row_count rows.now },
+    ghost some: { 0 < n },
+    ghost few: { n ≤ max_rows },
+}
+
+impl<'a> WholeRows<'a> {
+    // 11: 1 to 1,024 rows, none cut short.
+    fn counted(rows: &'a [u16]) -> Option<WholeRows<'a>>
+        ensures told { is_some result ≡ counted? rows.now }
+        ensures same { IfSome result (λ whole. whole.rows.now ≡ rows.now) }
+    {
+        let n = count(rows);
+        if (1 <= n) & ((n <= ROWS) & (rows.len() % ROW_CELLS == 0)) {
+            return Some(WholeRows { rows, n: n as u16 });
+        }
+        None
     }
-    height_at(&heights, Row(n - 1))
-}
 
-// 16, or 0.
-pub(crate) fn used(rows: &[u16], n: u16) -> u16
-    requires { Counted rows.now n }
-    ensures { result ≡ used_check_of (decode_rows rows.now) }
-{
-    if all_used(rows, n) { 0 } else { 16 }
-}
+    fn symbols_known(&self, set: &[u8]) -> bool
+        ensures { result ≡ all_below (row_count self.now.rows.now) (known? (decode set.now) self.now.rows.now) }
+    {
+        let rows = self.rows;
+        (0..self.n).all(|i| symbol_known(set, rows, Row(i)))
+    }
 
-// 17, or 0: heights need lower children only.
-pub(crate) fn low(rows: &[u16], n: u16) -> u16
-    requires { Counted rows.now n × Lower (decode_rows rows.now) }
-    ensures { result ≡ levels_check_of (decode_rows rows.now) }
-{
-    if levels_of(rows, n) <= MAX_LEVELS {
-        0
-    } else {
-        17
+    fn all_children_fit(&self, set: &[u8]) -> bool
+        ensures { result ≡ all_below (row_count self.now.rows.now) (children? (decode set.now) self.now.rows.now) }
+    {
+        let rows = self.rows;
+        (0..self.n).all(|i| children_fit(set, rows, Row(i)))
+    }
+
+    fn all_scalars_fit(&self, set: &[u8]) -> bool
+        ensures { result ≡ all_below (row_count self.now.rows.now) (scalar_fits? (decode set.now) self.now.rows.now) }
+    {
+        let rows = self.rows;
+        (0..self.n).all(|i| scalar_fits(set, rows, Row(i)))
+    }
+
+    // 11 to 14: the form of the rows, each by itself.
+    fn formed(set: &[u8], rows: &'a [u16]) -> Result<WholeRows<'a>, Refusal>
+        ensures told { refused_by result ≡ form_check_of (decode set.now) rows.now }
+        ensures same { IfOk result (λ whole. whole.rows.now ≡ rows.now) }
+    {
+        let Some(whole) = WholeRows::counted(rows) else {
+            return Err(Refusal::TableLength);
+        };
+        if !whole.symbols_known(set) {
+            return Err(Refusal::RowSymbol);
+        }
+        if !whole.all_children_fit(set) {
+            return Err(Refusal::RowChildren);
+        }
+        if !whole.all_scalars_fit(set) {
+            return Err(Refusal::RowScalar);
+        }
+        Ok(whole)
+    }
+
+    // 15: each row is looked for among the earlier ones, then entered.
+    fn all_distinct(&self) -> bool
+        requires { AllScalars self.now.rows.now self.now.n }
+        ensures { result ≡ all_below (length (decode_rows self.now.rows.now)) (fresh? (decode_rows self.now.rows.now)) }
+    {
+        let mut slots = [0u16; SLOTS];
+        for j in 0..self.n {
+            match probe_row(self.rows, &slots, Row(j)) {
+                Probed::Found(_) => return false,
+                Probed::Free(t) => slots[t] = j + 1,
+                Probed::Crowded => return false,
+            }
+        }
+        true
+    }
+
+    // 15.
+    fn distinct(&self) -> Result<(), Refusal>
+        requires { AllScalars self.now.rows.now self.now.n }
+        ensures { refused_by result ≡ distinct_check_of (decode_rows self.now.rows.now) }
+    {
+        if self.all_distinct() {
+            Ok(())
+        } else {
+            Err(Refusal::RowsEqual)
+        }
+    }
+
+    // 16: one pass marks the children of every row, then every row but the last must be marked.
+    fn all_used(&self) -> bool
+        ensures { result ≡ all_below (length (decode_rows self.now.rows.now) - 1) (used? (decode_rows self.now.rows.now)) }
+    {
+        let mut used = [false; ROWS];
+        for j in 0..self.n {
+            mark(&mut used, Row(j), &places_of(self.rows, Row(j)));
+        }
+        all_marked(&used, self.n - 1)
+    }
+
+    // 16.
+    fn used(&self) -> Result<(), Refusal>
+        ensures { refused_by result ≡ used_check_of (decode_rows self.now.rows.now) }
+    {
+        if self.all_used() {
+            Ok(())
+        } else {
+            Err(Refusal::RowUnused)
+        }
+    }
+
+    // The levels of the last row's tree: each row's height from those of its children, which are lower.
+    fn levels_of(&self) -> u16
+        requires { Lower (decode_rows self.now.rows.now) }
+        ensures { result ≡ levels (tree_of (decode_rows self.now.rows.now)) }
+    {
+        let mut heights = [0u16; ROWS];
+        for i in 0..self.n {
+            heights[usize::from(i)] = highest_child(self.rows, &heights, Row(i)) + 1;
+        }
+        height_at(&heights, Row(self.n - 1))
+    }
+
+    // 17: heights need lower children only.
+    fn low(&self) -> Result<(), Refusal>
+        requires { Lower (decode_rows self.now.rows.now) }
+        ensures { refused_by result ≡ levels_check_of (decode_rows self.now.rows.now) }
+    {
+        if self.levels_of() <= MAX_LEVELS {
+            Ok(())
+        } else {
+            Err(Refusal::TableHeight)
+        }
     }
 }
 
-// The rows of a table that passed 11.
-fn row_count(rows: &[u16]) -> u16
-    requires { row_count rows.now ≤ max_rows }
-    ensures { result ≡ row_count rows.now }
-{
-    count(rows) as u16
-}
-
-// 11 to 17, or 0: each test over the whole table before the next.
-pub(crate) fn table(set: &[u8], rows: &[u16]) -> u16
+// 11 to 17: each test over the whole table before the next.
+pub(crate) fn table(set: &[u8], rows: &[u16]) -> Result<(), Refusal>
     requires { check_of set.now ≡ 0 }
-    ensures { result ≡ table_check_of (decode set.now) rows.now }
+    ensures { refused_by result ≡ table_check_of (decode set.now) rows.now }
 {
-    let f = form(set, rows);
-    if f != 0 {
-        return f;
-    }
-    let n = row_count(rows);
-    let d = distinct(rows, n);
-    if d != 0 {
-        return d;
-    }
-    let u = used(rows, n);
-    if u != 0 {
-        return u;
-    }
-    low(rows, n)
+    let whole = WholeRows::formed(set, rows)?;
+    whole.distinct()?;
+    whole.used()?;
+    whole.low()
 }

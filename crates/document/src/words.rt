@@ -7,10 +7,17 @@ ghost use Rattle.document.specs.Words.{words_cells, cells_at, same_words};
 
 use crate::rows::{ROW_CELLS, Row};
 use base::limits::MAX_ROWS;
-use base::numbers::{size, wide};
 
 // The cells of as many rows as a table may have.
 pub const CELLS: usize = MAX_ROWS as usize * ROW_CELLS;
+
+// A row's cells: four, four, and two.
+#[derive(Clone, Copy)]
+pub struct RowWords {
+    pub a: u64,
+    pub b: u64,
+    pub c: u64,
+}
 
 // What is above two cells counts times this.
 pub(crate) const TWO_CELLS: u64 = 4294967296;
@@ -19,7 +26,7 @@ pub(crate) const TWO_CELLS: u64 = 4294967296;
 fn pair(x: u16, y: u16) -> u64
     ensures { (split_cells 2 result ≡ x ∷ y ∷ []) × (result < 4294967296) }
 {
-    wide(x) + wide(y) * 65536
+    u64::from(x) + u64::from(y) * 65536
 }
 
 // Four cells as one number: a word to place a row by.
@@ -46,14 +53,14 @@ pub(crate) fn four(cells: &[u16], at: usize) -> u64
 }
 
 // Whether row i has the cells of the words; none past the last row that a table may have.
-pub(crate) fn same_words(rows: &[u16; CELLS], i: Row, a: u64, b: u64, c: u64) -> bool
-    ensures { result ≡ same_words rows.now a b c i.0 }
+pub(crate) fn same_words(rows: &[u16; CELLS], i: Row, w: RowWords) -> bool
+    ensures { result ≡ same_words rows.now w.a w.b w.c i.0 }
 {
     if i.0 >= MAX_ROWS {
         return false;
     }
-    let at = size(i.0) * ROW_CELLS;
-    (four(rows, at) == a) & (four(rows, at + 4) == b) & (two(rows, at + 8) == c % TWO_CELLS)
+    let at = usize::from(i.0) * ROW_CELLS;
+    (four(rows, at) == w.a) & (four(rows, at + 4) == w.b) & (two(rows, at + 8) == w.c % TWO_CELLS)
 }
 
 // A number's lowest cell.
@@ -80,12 +87,12 @@ fn put_four(rows: &mut [u16], at: usize, x: u64)
 }
 
 // Makes the words' cells row i.
-pub(crate) fn put_words(rows: &mut [u16], i: Row, a: u64, b: u64, c: u64)
+pub(crate) fn put_words(rows: &mut [u16], i: Row, w: RowWords)
     requires { i.0 * row_cells + row_cells ≤ length rows.old }
-    ensures { rows.new ≡ put_at rows.old (i.0 * row_cells) (words_cells a b c) }
+    ensures { rows.new ≡ put_at rows.old (i.0 * row_cells) (words_cells w.a w.b w.c) }
 {
-    let at = size(i.0) * ROW_CELLS;
-    put_four(&mut *rows, at, a);
-    put_four(&mut *rows, at + 4, b);
-    put_two(&mut *rows, at + 8, c);
+    let at = usize::from(i.0) * ROW_CELLS;
+    put_four(&mut *rows, at, w.a);
+    put_four(&mut *rows, at + 4, w.b);
+    put_two(&mut *rows, at + 8, w.c);
 }

@@ -3,17 +3,14 @@
 
 ghost use Rattle.std.specs.Prelude.{◌≤◌};
 
-use automaton::{Checked, Written};
 use base::limits::UNUSED;
+use base::refusal::Refusal;
 use base::space::put;
 use classes::{class_table, is_control, is_digit, is_hex_digit, is_letter, is_mark, is_space};
 use console::OUTPUT;
 use document::Scalar;
 use document::fields::RowFields;
 use document::rows::{Row, put_row};
-use membership::Judged;
-use spelling::TermWritten;
-use term::TermRead;
 
 // Set E: state 0 with tag 0, state 1 final; pair(0,0) to 1, a to 0, b to 0.
 const E: [u8; 59] =
@@ -55,14 +52,15 @@ fn show(rt: &impl Print, bytes: &[u8]) {
     let _ = rt.write_all(bytes);
 }
 
-fn refused(rt: &impl Print, n: u16) {
+fn refused(rt: &impl Print, refusal: Refusal) {
+    let n = refusal.number();
     let _ = println!(rt; "refused {n}");
 }
 
-fn checked(rt: &impl Print, c: Checked) {
-    match c {
-        Checked::Passed => say(rt, "sound\n"),
-        Checked::Refused(n) => refused(rt, n),
+fn checked(rt: &impl Print, answer: Result<(), Refusal>) {
+    match answer {
+        Ok(()) => say(rt, "sound\n"),
+        Err(refusal) => refused(rt, refusal),
     }
 }
 
@@ -93,13 +91,13 @@ fn sample(rt: &impl Print, case: &str, set: &[u8]) {
 }
 
 // How many bytes of a space of 128 a set was written to.
-fn moved(rt: &impl Print, answer: Written) -> usize
+fn moved(rt: &impl Print, answer: Result<usize, Refusal>) -> usize
     ensures { result ≤ 128 }
 {
     match answer {
-        Written::Length(n) => if n > 128 { 128 } else { n },
-        Written::Refused(n) => {
-            refused(rt, n);
+        Ok(n) => n.min(128),
+        Err(refusal) => {
+            refused(rt, refusal);
             0
         },
     }
@@ -178,9 +176,9 @@ fn little_room(rt: &impl Print) {
     let mut run = [0u16; 6];
     say(rt, "E, pair(a=7,a=7), room 1: ");
     match membership::judge(&E, &cells, &mut work, &mut run) {
-        Judged::Yes(_) => say(rt, "yes\n"),
-        Judged::No => say(rt, "no\n"),
-        Judged::Refused(n) => refused(rt, n),
+        Ok(Some(_)) => say(rt, "yes\n"),
+        Ok(None) => say(rt, "no\n"),
+        Err(refusal) => refused(rt, refusal),
     }
 }
 
@@ -213,7 +211,7 @@ fn symbols(rt: &impl Print, case: &str, n: u8) {
             0,
         ],
     );
-    let end = 18 + n as usize;
+    let end = 18 + usize::from(n);
     checked(rt, automaton::check(&set[..end]));
 }
 
@@ -221,7 +219,7 @@ fn leaf(count: u16) -> RowFields {
     RowFields {
         symbol: 1,
         places: [Row(UNUSED); 4],
-        scalar: Scalar::Count(count as u64),
+        scalar: Scalar::Count(u64::from(count)),
     }
 }
 
@@ -252,7 +250,7 @@ fn table(rt: &impl Print, case: &str, rows: u16) {
     for i in 0..rows {
         put_row(&mut cells, Row(i), fields(i));
     }
-    let n = rows as usize * 10;
+    let n = usize::from(rows) * 10;
     if n > CELLS {
         return;
     }
@@ -266,15 +264,14 @@ fn zeros(rt: &impl Print) {
     checked(rt, document::check(&E, &row));
     say(rt, "the two zeros, written back: ");
     let mut cells = [0u16; 20];
-    match term::read(&E, b"", b"", &TWO_ZEROS, &mut cells) {
-        TermRead::Rows(_) => (),
-        TermRead::Refused(n, _) => refused(rt, n),
+    if let Err(fault) = term::read(&E, b"", b"", &TWO_ZEROS, &mut cells) {
+        refused(rt, fault.refusal);
     }
     let mut text = [0u8; 64];
     let n = match spelling::write(&E, b"", b"", &cells, &mut text) {
-        TermWritten::Bytes(n) => n,
-        TermWritten::Refused(n) => {
-            refused(rt, n);
+        Ok(n) => n,
+        Err(refusal) => {
+            refused(rt, refusal);
             0
         },
     };
@@ -319,23 +316,18 @@ fn equal_pairs(rt: &impl Print) {
     judge(rt, "P and P, two pairs: ", &out[..n], &TWO_PAIRS);
 }
 
-// What the test of class k says of a byte.
-fn is_member(table: &[u8; 256], k: u8, b: u8) -> bool {
-    match k {
-        0 => is_letter(table, b),
-        1 => is_digit(table, b),
-        2 => is_hex_digit(table, b),
-        3 => is_space(table, b),
-        4 => is_mark(table, b),
-        _ => is_control(table, b),
-    }
-}
-
-// A class's name, and its bytes.
-fn members(rt: &impl Print, case: &str, table: &[u8; 256], k: u8) {
+// A class's name, and the bytes that its test passes.
+fn members<F: Fn(&[u8; 256], u8) -> bool>(
+    rt: &impl Print,
+    case: &str,
+    table: &[u8; 256],
+    is_member: F,
+)
+    requires { F.IsAlwaysCallable is_member }
+{
     say(rt, case);
     for b in 0..=255 {
-        if is_member(table, k, b) {
+        if is_member(table, b) {
             let _ = print!(rt; " {b}");
         }
     }
@@ -344,12 +336,12 @@ fn members(rt: &impl Print, case: &str, table: &[u8; 256], k: u8) {
 
 fn byte_classes(rt: &impl Print) {
     let table = class_table();
-    members(rt, "letters:", &table, 0);
-    members(rt, "digits:", &table, 1);
-    members(rt, "hex digits:", &table, 2);
-    members(rt, "spaces:", &table, 3);
-    members(rt, "structural marks:", &table, 4);
-    members(rt, "controls:", &table, 5);
+    members(rt, "letters:", &table, is_letter);
+    members(rt, "digits:", &table, is_digit);
+    members(rt, "hex digits:", &table, is_hex_digit);
+    members(rt, "spaces:", &table, is_space);
+    members(rt, "structural marks:", &table, is_mark);
+    members(rt, "controls:", &table, is_control);
 }
 
 fn main(rt: HostRuntime) {

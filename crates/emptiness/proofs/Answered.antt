@@ -1,35 +1,29 @@
--- The one answer with a number and a witness, and that an answer is that one exactly where it says the same. Assumes nothing.
-use mathlib.Core.Path.{◌≡◌, refl, ap}
-use mathlib.Core.Option.{Option, none, some}
+-- What an answer with a number and a witness says: it has that number, and a sample of the witness's shape; and that it says so only there. Assumes nothing.
+use mathlib.Core.Path.{◌≡◌}
+use mathlib.Core.Option.{Option}
 use Prim.Native.Nat.{ℕ, zero, suc}
 use native.Mathlib.Omega.{arith}
-use lib.ListN.{length}
+use Rattle.std.specs.Prelude.{Result, Ok}
+use Rattle.std.specs.Prelude.{Option as Perhaps}
 use Rattle.model.specs.Refusal.{unless}
-use Rattle.model.specs.Tree.{Tree, levels}
-use Rattle.model.specs.Build.{rows_of}
-use Rattle.emptiness.specs.declared.Emptiness.{Emptiness}
-use Rattle.emptiness.specs.declared.Emptiness.TheVariants.{Dead, Live, Refused}
-use Rattle.emptiness.specs.Answer.{emptiness_answer, shape_of}
+use Rattle.model.specs.Tree.{Tree}
+use Rattle.base.specs.Refusals.{refused_by}
+use Rattle.base.specs.declared.refusal.Refusal.{Refusal}
+use Rattle.base.proofs.Refusing.{answered, refused_is}
+use Rattle.emptiness.specs.declared.Sample.{Sample}
+use Rattle.emptiness.specs.Answer.{sampled, emptiness_answer, shape_of}
 
-abbrev pub answer_of : ℕ → Option Tree → Emptiness
-answer_of zero none = Dead
-answer_of zero (some w) = Live (length (rows_of w)) (levels w)
-answer_of (suc n) o = Refused (suc n)
+-- the answer has the number n, and where it is a value that value is the witness's shape
+abbrev pub Says : ℕ → Option Tree → Result (Perhaps Sample) Refusal → Type 0
+Says n o r = (refused_by r ≡ n) × ((v : Perhaps Sample) → r ≡ Ok v → sampled v ≡ shape_of o)
 
-pub answer_is : (r : Emptiness) (n : ℕ) (o : Option Tree) → emptiness_answer r ≡ unless n (shape_of o) → r ≡ answer_of n o
+value_is : (n : ℕ) (o : Option Tree) (v : Perhaps Sample) → emptiness_answer (Ok v) ≡ unless n (shape_of o) → sampled v ≡ shape_of o
 unfolding unless
-answer_is Dead zero none e = refl
-answer_is Dead zero (some w) e = let z : ◌≡◌ {A = ℕ} 0 1 = cc in absurd (omega arith)
-answer_is Dead (suc n) o e = let z : ◌≡◌ {A = ℕ} 0 1 = cc in absurd (omega arith)
-answer_is (Live m h) zero none e = let z : ◌≡◌ {A = ℕ} 0 1 = cc in absurd (omega arith)
-answer_is (Live m h) zero (some w) e = let p : ◌≡◌ {A = ℕ × ℕ} (m, h) (length (rows_of w), levels w) = cc in ap (λ x. Live x.0 x.1) p
-answer_is (Live m h) (suc n) o e = let z : ◌≡◌ {A = ℕ} 0 1 = cc in absurd (omega arith)
-answer_is (Refused m) zero none e = let z : ◌≡◌ {A = ℕ} 0 1 = cc in absurd (omega arith)
-answer_is (Refused m) zero (some w) e = let z : ◌≡◌ {A = ℕ} 0 1 = cc in absurd (omega arith)
-answer_is (Refused m) (suc n) o e = cc
+value_is zero o v e = cc
+value_is (suc n) o v e = let z : ◌≡◌ {A = ℕ} 0 1 = cc in absurd (omega arith)
 
-pub is_answer : (r : Emptiness) (n : ℕ) (o : Option Tree) → r ≡ answer_of n o → emptiness_answer r ≡ unless n (shape_of o)
-unfolding unless
-is_answer r zero none e = ap emptiness_answer e
-is_answer r zero (some w) e = ap emptiness_answer e
-is_answer r (suc n) o e = ap emptiness_answer e
+pub answer_is : (r : Result (Perhaps Sample) Refusal) (n : ℕ) (o : Option Tree) → emptiness_answer r ≡ unless n (shape_of o) → Says n o r
+answer_is r n o e = (refused_is sampled (shape_of o) r n e, λ v h. value_is n o v (rw h at e))
+
+pub is_answer : (r : Result (Perhaps Sample) Refusal) (n : ℕ) (o : Option Tree) → Says n o r → emptiness_answer r ≡ unless n (shape_of o)
+is_answer r n o s = answered sampled (shape_of o) r n s.1 s.0

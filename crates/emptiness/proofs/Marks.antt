@@ -1,22 +1,21 @@
 -- Laws for the functions that mark: what each return and each loop of theirs shows. Assumes nothing.
 use mathlib.Core.Path.{◌≡◌, refl, sym, ap, ◌∙◌, subst}
 use mathlib.Core.List.{List, map}
-use mathlib.Core.Logic.{◌⊎◌, inl, inr}
 use mathlib.Core.Bool.{Bool, true, false, ◌&&◌, ◌||◌}
-use Prim.Native.Nat.{ℕ, suc, ◌+◌, ◌<◌, ◌≤◌}
+use Prim.Native.Nat.{ℕ, zero, suc, ◌+◌, ◌<◌, ◌≤◌}
 use native.Mathlib.Numerals.{add-one}
 use native.Mathlib.Decide.{ℕ_discrete, dec_lt}
 use native.Mathlib.Omega.{arith}
 use borrow.Author.Rules.{rules}
-use borrow.Author.Tests.{eqb-false, ltb-true, ltb-false}
-use lib.Dec.{T, eqb, ltb, eqb→eq}
+use borrow.Author.Tests.{ltb-true, ltb-false}
+use lib.Dec.{T}
 use lib.ListN.{length, get_or, replicate, get_or-eq_default, get_or-map}
-use Rattle.model.specs.Limits.{max_children, max_states, unused}
+use Rattle.model.specs.Limits.{max_children, max_states}
 use Rattle.model.specs.Automaton.{State, Automaton, no_state, arity_of, final?}
 use Rattle.model.specs.Order.{place}
 use Rattle.model.specs.Written.{rule_at, no_rule}
 use Rattle.model.proofs.Members.{T_true, T_and}
-use Rattle.model.proofs.Below.{Passed, passed_none, passed_more, passed_all, stopped}
+use Rattle.model.specs.Lists.{all_below}
 use Rattle.model.proofs.Rows.{in_get_d}
 use Rattle.model.proofs.Tab.{tab_at}
 use Rattle.automaton.specs.Stored.{decode}
@@ -26,8 +25,10 @@ use Rattle.automaton.specs.declared.State as number
 use Rattle.automaton.specs.declared.StoredRule.{StoredRule}
 use Rattle.automaton.proofs.Sound.{sound_decode}
 use Rattle.emptiness.specs.Places.{named?}
-use Rattle.emptiness.specs.Marking.{marked?, child_marked?, ready?, this?, early?, propagated?, Tried, Tries, Propagated, LowestAdded}
-use Rattle.emptiness.proofs.Tries.{T-or, tried_none}
+use Rattle.std.specs.Prelude.{None, Some}
+use Rattle.std.specs.Prelude.{Option as Perhaps}
+use Rattle.emptiness.specs.Marking.{marked?, child_marked?, ready?, this?, early?, propagated?, Tried, Tries, Propagated, lower_than?, LowestAdded}
+use Rattle.emptiness.proofs.Tries.{tried_none}
 use Rattle.emptiness.proofs.Links.{zeros_long}
 
 pub past : (l : List ℕ) (d a i : ℕ) → a ≡ i → length l ≤ a → d ≡ get_or l i d
@@ -48,27 +49,29 @@ module _ (s : List ℕ) (sound : check_of s ≡ 0) where
 pub rule_small : (s : List ℕ) (i : ℕ) → check_of s ≡ 0 → i < length (decode s).rules → i + 1 < 65536
 rule_small s i c l = omega (arith, (sound_decode s c).few_rules)
 
-pub child_few : (s : List ℕ) (i f k x : ℕ) → check_of s ≡ 0 → f ≡ (rule_at (decode s) i).symbol → x ≡ arity_of (decode s) f → k < x → k < 4
-child_few s i f k x c ef ex l = let e = ex ∙ ap (arity_of (decode s)) ef in omega (arith, (sound_decode s c).few_children (rule_at (decode s) i).symbol)
+below_same : (n : ℕ) (p q : ℕ → Bool) → ((k : ℕ) → k < n → p k ≡ q k) → all_below n p ≡ all_below n q
+unfolding all_below
+below_same zero p q h = refl
+below_same (suc n) p q h = ap (λ b. b && p n) (below_same n p q (λ k l. h k (omega arith))) ∙ ap (λ b. all_below n q && b) (h n (omega arith))
 
 -- the state in place k of a rule's
 pub marked_at : (marks : List ℕ) (ps : List number.State) (k at : ℕ) (b : Bool) → b ≡ marked? marks (get_or ps at (record { 0 = 0 })).0 → at ≡ k → b ≡ marked? marks (get_or (map (λ q. q.0) ps) k 0)
 marked_at marks ps k at b e ea = e ∙ ap (marked? marks) (sym (get_or-map (λ (q : number.State). q.0) ps at (record { 0 = 0 })) ∙ ap (λ j. get_or (map (λ q. q.0) ps) j 0) ea)
 
--- the children of rule i, read once: those before place k are marked
-module _ (s : List ℕ) (sound : check_of s ≡ 0) (marks : List ℕ) (i n k : ℕ) (l : i < length (decode s).rules) (x : StoredRule) (H : IsRule x (rule_at (decode s) i)) (p : Passed (child_marked? marks (rule_at (decode s) i)) (length (rule_at (decode s) i).children) n k) (lk : k < n) (b : Bool) (eb : b ≡ marked? marks (get_or (map (λ q. q.0) x.places) k 0)) where
-  child_is : b ≡ child_marked? marks (rule_at (decode s) i) k
+-- the children of rule i, read once, as the closure asks them
+module _ (s : List ℕ) (sound : check_of s ≡ 0) (marks : List ℕ) (i : ℕ) (l : i < length (decode s).rules) (x : StoredRule) (H : IsRule x (rule_at (decode s) i)) where
+  abbrev pub read_marked : ℕ → Bool
+  read_marked k = marked? marks (get_or (map (λ q. q.0) x.places) k 0)
+
+  child_is : (k : ℕ) → k < length (rule_at (decode s) i).children → read_marked k ≡ child_marked? marks (rule_at (decode s) i) k
   unfolding child_marked?
-  child_is =
+  child_is k lk =
       let a = (sound_decode s sound).wellformed.as_many (rule_at (decode s) i) (in_get_d no_rule (decode s).rules i l) in
-      let h : k < max_children = omega (arith, p.count, (sound_decode s sound).few_children (rule_at (decode s) i).symbol) in
-      eb ∙ ap (λ ps. marked? marks (get_or ps k 0)) H.places ∙ ap (marked? marks) (tab_at 0 max_children (place (rule_at (decode s) i)) k h)
+      let h : k < max_children = omega (arith, (sound_decode s sound).few_children (rule_at (decode s) i).symbol) in
+      ap (λ ps. marked? marks (get_or ps k 0)) H.places ∙ ap (marked? marks) (tab_at 0 max_children (place (rule_at (decode s) i)) k h)
 
-  pub ready_more : b ≡ true → Passed (child_marked? marks (rule_at (decode s) i)) (length (rule_at (decode s) i).children) n (k + 1)
-  ready_more t = passed_more (child_marked? marks (rule_at (decode s) i)) (length (rule_at (decode s) i).children) n k b p lk child_is t
-
-  pub ready_stop : b ≡ false → false ≡ ready? marks (rule_at (decode s) i)
-  ready_stop f = stopped (child_marked? marks (rule_at (decode s) i)) (length (rule_at (decode s) i).children) n k b p lk child_is f
+  pub ready_all : (b : Bool) → b ≡ all_below (length (rule_at (decode s) i).children) read_marked → b ≡ ready? marks (rule_at (decode s) i)
+  ready_all b e = e ∙ below_same (length (rule_at (decode s) i).children) read_marked (child_marked? marks (rule_at (decode s) i)) child_is
 
 -- the rules tried before the loop's index, in the first round and in a later one
 module _ (s : List ℕ) where
@@ -107,10 +110,14 @@ final_in A q e = go (dec_lt q (length A.states))
     go (no l) = let z : ⊥ = subst T (sym e ∙ ap (λ (x : State). x.final) (get_or-eq_default A.states no_state (omega arith))) tt in absurd z
 
 -- the lowest final state among the first x
-pub low_none : (A : Automaton) (added : List ℕ) → LowestAdded A added 0 unused
-low_none A added = record { nowhere = λ e x l. let z : ⊥ = omega arith in absurd z; here = λ h. absurd (h refl); lowest = λ x l. let z : ⊥ = omega arith in absurd z }
+pub low_none : (A : Automaton) (added : List ℕ) → LowestAdded A added 0 None
+low_none A added = record {
+  nowhere = λ e x l. absurd (omega arith);
+  here = λ t e. cc;
+  lowest = λ t e x l. absurd (omega arith);
+}
 
-module _ (s added : List ℕ) (x best q : ℕ) (L : LowestAdded (decode s) added x best) (eq : q ≡ get_or added x 0) (b : Bool) (eb : b ≡ final? (decode s) q) where
+module _ (s added : List ℕ) (x : ℕ) (best : Perhaps number.State) (q : number.State) (L : LowestAdded (decode s) added x best) (eq : q.0 ≡ get_or added x 0) (b c : Bool) (eb : b ≡ final? (decode s) q.0) (ec : c ≡ lower_than? q.0 best) where
   split : (P : ℕ → Type 0) → P x → ((y : ℕ) → y < x → P y) → (y : ℕ) → y < suc x → P y
   split P p h y l = go (ℕ_discrete y x)
     where
@@ -121,43 +128,49 @@ module _ (s added : List ℕ) (x best q : ℕ) (L : LowestAdded (decode s) added
   abbrev A : Automaton
   A = decode s
 
-  pub low_this : check_of s ≡ 0 → (b && (eqb best unused || ltb q best)) ≡ true → LowestAdded A added (x + 1) q
-  low_this sound t =
-      let (f, g) = T_and b (eqb best unused || ltb q best) ((T_true (b && (eqb best unused || ltb q best))).1 t) in
-      let final : final? A q ≡ true = sym eb ∙ (T_true b).0 f in
+  pub low_this : (b && c) ≡ true → LowestAdded A added (x + 1) (Some q)
+  low_this t =
       rw add-one (record {
-        nowhere = λ e. let z : ⊥ = omega (arith, final_in A q final, (sound_decode s sound).few_states) in absurd z;
-        here = λ h. (final, (x, omega arith, sym eq));
-        lowest = split (λ y. final? A (get_or added y 0) ≡ true → q ≤ get_or added y 0) (λ k. omega arith) (λ y l k. lower y l k (T-or (eqb best unused) (ltb q best) g));
+        nowhere = λ e. cc;
+        here = λ r e. let z : q ≡ r = cc in subst (λ (w : number.State). (final? A w.0 ≡ true) × ((y : ℕ) × (y < suc x) × (get_or added y 0 ≡ w.0))) z (final, (x, omega arith, sym eq));
+        lowest = λ r e. let z : q ≡ r = cc in subst (λ (w : number.State). (y : ℕ) → y < suc x → final? A (get_or added y 0) ≡ true → w.0 ≤ get_or added y 0) z (split (λ y. final? A (get_or added y 0) ≡ true → q.0 ≤ get_or added y 0) (λ k. omega arith) lower);
       })
     where
-      lower : (y : ℕ) → y < x → final? A (get_or added y 0) ≡ true → T (eqb best unused) ⊎ T (ltb q best) → q ≤ get_or added y 0
-      lower y l k (inl e) = let z : ⊥ = subst T (sym k ∙ L.nowhere (eqb→eq best unused e) y l) tt in absurd z
-      lower y l k (inr e) = let w = L.lowest y l k in let v = ltb-true q best ((T_true (ltb q best)).0 e) in omega arith
+      both : T b × T c
+      both = T_and b c ((T_true (b && c)).1 t)
 
-  pub low_other : (b && (eqb best unused || ltb q best)) ≡ false → LowestAdded A added (x + 1) best
-  low_other t = rw add-one (go b (eqb best unused) (ltb q best) eb refl refl t)
+      final : final? A q.0 ≡ true
+      final = sym eb ∙ (T_true b).0 both.0
+
+      lower : (y : ℕ) → y < x → final? A (get_or added y 0) ≡ true → q.0 ≤ get_or added y 0
+      lower y l k = go best refl (sym ec ∙ (T_true c).0 both.1)
+        where
+          go : (o : Perhaps number.State) → best ≡ o → lower_than? q.0 o ≡ true → q.0 ≤ get_or added y 0
+          go None e f = let z : ⊥ = subst T (sym k ∙ L.nowhere e y l) tt in absurd z
+          go (Some w) e f = let v = ltb-true q.0 w.0 f in let u = L.lowest w e y l k in omega arith
+
+  pub low_other : (b && c) ≡ false → LowestAdded A added (x + 1) best
+  low_other t = rw add-one (go b c eb ec t)
     where
-      old : (best ≡ unused → final? A (get_or added x 0) ≡ false) → (final? A (get_or added x 0) ≡ true → best ≤ get_or added x 0) → LowestAdded A added (suc x) best
-      old a c =
+      old : (best ≡ None → final? A (get_or added x 0) ≡ false) → ((r : number.State) → best ≡ Some r → final? A (get_or added x 0) ≡ true → r.0 ≤ get_or added x 0) → LowestAdded A added (suc x) best
+      old a d =
           record {
             nowhere = λ e. split (λ y. final? A (get_or added y 0) ≡ false) (a e) (L.nowhere e);
-            here = λ h. let (f, there) = L.here h in let (y, l, e) = there in (f, (y, omega arith, e));
-            lowest = split (λ y. final? A (get_or added y 0) ≡ true → best ≤ get_or added y 0) c L.lowest;
+            here = λ r e. let (f, there) = L.here r e in let (y, l, g) = there in (f, (y, omega arith, g));
+            lowest = λ r e. split (λ y. final? A (get_or added y 0) ≡ true → r.0 ≤ get_or added y 0) (d r e) (L.lowest r e);
           }
 
-      go : (a u v : Bool) → a ≡ final? A q → eqb best unused ≡ u → ltb q best ≡ v → (a && (u || v)) ≡ false → LowestAdded A added (suc x) best
-      go false u v ea eu ev f = old (λ e. ap (final? A) (sym eq) ∙ sym ea) (λ k. let z : ⊥ = subst T (sym k ∙ ap (final? A) (sym eq) ∙ sym ea) tt in absurd z)
-      go true true v ea eu ev f = let z : ⊥ = subst T f tt in absurd z
-      go true false true ea eu ev f = let z : ⊥ = subst T f tt in absurd z
-      go true false false ea eu ev f = old (λ e. absurd (eqb-false best unused eu e)) (λ k. let v = ltb-false q best ev in omega arith)
+      go : (f g : Bool) → f ≡ final? A q.0 → g ≡ lower_than? q.0 best → (f && g) ≡ false → LowestAdded A added (suc x) best
+      go false g ef eg h = old (λ e. ap (final? A) (sym eq) ∙ sym ef) (λ r e k. let z : ⊥ = subst T (sym k ∙ ap (final? A) (sym eq) ∙ sym ef) tt in absurd z)
+      go true true ef eg h = let z : ⊥ = subst T h tt in absurd z
+      go true false ef eg h =
+          old (λ e. let z : ⊥ = subst T (sym (eg ∙ ap (lower_than? q.0) e)) tt in absurd z)
+          (λ r e k. let v = ltb-false q.0 r.0 (sym (eg ∙ ap (lower_than? q.0) e)) in omega arith)
 
-pub low_all : (A : Automaton) (added : List ℕ) (x n best : ℕ) → LowestAdded A added x best → x ≤ n → n ≤ x → LowestAdded A added n best
+pub low_all : (A : Automaton) (added : List ℕ) (x n : ℕ) (best : Perhaps number.State) → LowestAdded A added x best → x ≤ n → n ≤ x → LowestAdded A added n best
 low_all A added x n best L l g = let e : x ≡ n = omega arith in subst (λ z. LowestAdded A added z best) e L
 
 pub ruleset marking = (past, target_in, rules)
-
-pub ruleset readying = (width_is, passed_none, ready_more, ready_stop, passed_all, rules)
 
 pub ruleset rounding = (round_start, round_more, round_all, rules)
 

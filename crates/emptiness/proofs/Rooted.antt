@@ -9,6 +9,9 @@ use native.Mathlib.Decide.{ℕ_discrete}
 use native.Mathlib.Omega.{arith}
 use borrow.Author.Rules.{rules}
 use lib.Dec.{T}
+use Rattle.std.specs.Prelude.{None, Some}
+use Rattle.std.specs.Prelude.{Option as Perhaps}
+use Rattle.std.specs.Option.{SomeIff}
 use lib.ListN.{length, get_or, set, drop, length-append, length-set}
 use lib.Seq.{get_or-set_same, get_or-set_other}
 use Rattle.model.specs.Limits.{unused}
@@ -151,5 +154,13 @@ module _ (A : Automaton) (marks : List ℕ) (limit depth q i : ℕ) (cells₀ sl
         subst (λ o. MadeBy A N o i) J.tree_of (subst (Made A N (get_or (rounds A N) q none)) (sym ex ∙ before x i hx ei) (J.marks_are.each q (in_states A N q t J.tree_of))) in
         finish N base t J M cells' slots' memo' n' P (find_or_add cells slots n limit (rule_row memo (rule_at A i))).answer refl;
   }
+
+-- what is known of a number where 1 can be taken off it, and where it can not
+pub one_less : (x i : ℕ) (r : Perhaps ℕ) → SomeIff r (1 ≤ x) (x - 1) → r ≡ Some i → (x ≡ 0 → ⊥) × (i ≡ x - 1)
+one_less x i r h e = let (l, v) = rw e at h in (λ z. omega arith, v)
+
+pub none_less : (x : ℕ) (r : Perhaps ℕ) → SomeIff r (1 ≤ x) (x - 1) → r ≡ None → x ≡ 0
+none_less zero r h e = refl
+none_less (suc x) r h e = let n = rw e at h in absurd (n (omega arith))
 
 pub ruleset building = (known_already, no_mark, no_depth, loops_start, loops_more, put_done, rules)

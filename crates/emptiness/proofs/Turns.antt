@@ -12,7 +12,9 @@ use native.Mathlib.Omega.{arith}
 use borrow.Author.Tests.{eqb-true, eqb-false, not-true, not-false}
 use lib.Dec.{T, eqb, eqb_refl}
 use lib.ListN.{length, get_or, replicate}
-use Rattle.model.specs.Limits.{max_children, max_states, unused}
+use Rattle.std.specs.Prelude.{None, Some}
+use Rattle.std.specs.Prelude.{Option as Perhaps}
+use Rattle.model.specs.Limits.{max_children, max_states}
 use Rattle.model.specs.Lists.{all_below}
 use Rattle.model.specs.Tree.{Tree}
 use Rattle.model.specs.Automaton.{Rule, Automaton, final?}
@@ -153,10 +155,7 @@ module _ (A : Automaton) (sound : Sound A) where
   turn_first marks next added count l h t =
       turned 0 marks next added count (none_yet marks l h) (tried_fewer A marks (early? (length A.rules)) (λ j. true) next added count (λ q j R e d. early_all (length A.rules) j R.known) t) waiting_first
 
-  module _ (n : ℕ) (marks added : List ℕ) (count : ℕ) (t : Turn A n marks added count) (best : State) (w : LowestAdded A added count best.0) where
-    abbrev q : ℕ
-    q = best.0
-
+  module _ (n : ℕ) (marks added : List ℕ) (count : ℕ) (t : Turn A n marks added count) (best : Perhaps State) (w : LowestAdded A added count best) where
     -- a final state that is marked was added in the last round
     final_added : (p : ℕ) → T (final? A p) → (o : Option Tree) → get_or (rounds A (suc n)) p none ≡ o → (o ≡ none → ⊥) → (x : ℕ) × (x < count) × (get_or added x 0 ≡ p)
     final_added p f none e h = absurd (h refl)
@@ -166,7 +165,7 @@ module _ (A : Automaton) (sound : Sound A) where
         (λ z. none-ne-some u (sym (unmarked A (suc n) (get_or (rounds A (suc n)) p none) (get_or marks p 0) (t.marked.each p l) z) ∙ e))
         (none_final A (rounds A n) (t.waiting n (omega arith)) p f)
 
-    no_final : q ≡ unused → first_final A (rounds A (suc n)) 0 ≡ none
+    no_final : best ≡ None → first_final A (rounds A (suc n)) 0 ≡ none
     no_final u = final_none A (rounds A (suc n)) (λ p f. go p f (get_or (rounds A (suc n)) p none) refl)
       where
         go : (p : ℕ) → T (final? A p) → (o : Option Tree) → get_or (rounds A (suc n)) p none ≡ o → o ≡ none
@@ -176,67 +175,57 @@ module _ (A : Automaton) (sound : Sound A) where
             let z : ⊥ = subst T (ap (final? A) (sym ex) ∙ w.nowhere u x l) f in
             absurd z
 
-    waited : q ≡ unused → (j : ℕ) → j ≤ suc n → first_final A (rounds A j) 0 ≡ none
+    waited : best ≡ None → (j : ℕ) → j ≤ suc n → first_final A (rounds A j) 0 ≡ none
     waited u j l = ⊎_elim (λ i. subst (λ z. first_final A (rounds A z) 0 ≡ none) (sym i) (no_final u)) (λ g. t.waiting j (le_of_suc-le-suc g)) (eq-or-lt_of_le l)
 
-    pub turn_more : (next added' : List ℕ) (count' : ℕ) → q ≡ unused → Propagated A marks added count next added' count' → Turn A (n + 1) next added' count'
+    pub turn_more : (next added' : List ℕ) (count' : ℕ) → best ≡ None → Propagated A marks added count next added' count' → Turn A (n + 1) next added' count'
     turn_more next added' count' u W = rw add-one (turned (suc n) marks next added' count' t.marked (tried_fewer A marks (propagated? A added count) (λ j. true) next added' count' (λ p j R e d. t.propagated p j R e) (W.gives t.marked.long (λ x l. omega (arith, (t.inside x l).0, sound.few_states)))) (waited u))
 
     -- the round marks a final state first
-    pub marks_live : (m : ℕ) → n < m → m ≡ length A.states → (q ≡ unused → ⊥) → Marks A (record { state = best; round = n + 1; marks = marks })
-    marks_live m l em h = go (get_or (rounds A (suc n)) q none) refl
+    pub marks_live : (found : State) → best ≡ Some found → (m : ℕ) → n < m → m ≡ length A.states → Marks A (Some (record { state = found; round = n + 1; marks = marks }))
+    marks_live found h m l em = go (get_or (rounds A (suc n)) found.0 none) refl
       where
-        lq : q < length A.states
-        lq = let (x, lx, ex) = (w.here h).1 in subst (λ z. z < length A.states) ex (t.inside x lx).0
+        lq : found.0 < length A.states
+        lq = let (x, lx, ex) = (w.here found h).1 in subst (λ z. z < length A.states) ex (t.inside x lx).0
 
-        some_mark : get_or marks q 0 ≡ 0 → ⊥
-        some_mark z = let (x, lx, ex) = (w.here h).1 in (t.inside x lx).1 (ap (λ y. get_or marks y 0) ex ∙ z)
+        some_mark : get_or marks found.0 0 ≡ 0 → ⊥
+        some_mark z = let (x, lx, ex) = (w.here found h).1 in (t.inside x lx).1 (ap (λ y. get_or marks y 0) ex ∙ z)
 
-        lowest : (p : ℕ) → p < q → T (final? A p) → (o : Option Tree) → get_or (rounds A (suc n)) p none ≡ o → o ≡ none
+        lowest : (p : ℕ) → p < found.0 → T (final? A p) → (o : Option Tree) → get_or (rounds A (suc n)) p none ≡ o → o ≡ none
         lowest p lp f none e = refl
         lowest p lp f (some v) e =
             let (x, lx, ex) = final_added p f (some v) e (λ z. none-ne-some v (sym z)) in
-            let g = w.lowest x lx (ap (final? A) ex ∙ (T_true (final? A p)).0 f) in
+            let g = w.lowest found h x lx (ap (final? A) ex ∙ (T_true (final? A p)).0 f) in
             let z : ⊥ = omega arith in
             absurd z
 
-        go : (o : Option Tree) → get_or (rounds A (suc n)) q none ≡ o → Marks A (record { state = best; round = n + 1; marks = marks })
-        go none e = absurd (some_mark (mark_zero A (suc n) (get_or (rounds A (suc n)) q none) (get_or marks q 0) (t.marked.each q lq) e))
+        go : (o : Option Tree) → get_or (rounds A (suc n)) found.0 none ≡ o → Marks A (Some (record { state = found; round = n + 1; marks = marks }))
+        go none e = absurd (some_mark (mark_zero A (suc n) (get_or (rounds A (suc n)) found.0 none) (get_or marks found.0 0) (t.marked.each found.0 lq) e))
         go (some v) e =
-            let f = final_lowest A (rounds A (suc n)) v (record { state = q; final = (T_true (final? A q)).1 (w.here h).0; marked = e; lowest = λ p lp fp. lowest p lp fp (get_or (rounds A (suc n)) p none) refl }) in
+            let f = final_lowest A (rounds A (suc n)) v (record { state = found.0; final = (T_true (final? A found.0)).1 (w.here found h).0; marked = e; lowest = λ p lp fp. lowest p lp fp (get_or (rounds A (suc n)) p none) refl }) in
             let r : FirstRound A v (suc n) = record { within = omega arith; found = f; before = λ j lj. t.waiting j (omega arith) } in
-            record {
-              dead = λ u. absurd (h u);
-              live = λ h'. rw add-one (record {
-                tree = v;
-                witness_is = by_first_round A v (suc n) r;
-                state = lq;
-                tree_of = e;
-                height = levels_first A sound.wellformed v (suc n) r;
-                marks_are = t.marked;
-              });
-            }
+            rw add-one (record {
+              tree = v;
+              witness_is = by_first_round A v (suc n) r;
+              state = lq;
+              tree_of = e;
+              height = levels_first A sound.wellformed v (suc n) r;
+              marks_are = t.marked;
+            })
 
     -- the round adds nothing
-    pub marks_same : q ≡ unused → count ≡ 0 → Marks A (record { state = record { 0 = unused }; round = n + 1; marks = marks })
-    marks_same u z =
-        record {
-          dead = λ _. dead_at A n (nothing_new A n (λ p l o. unmarked A (suc n) (get_or (rounds A (suc n)) p none) (get_or marks p 0) (t.marked.each p l) (go p l o (ℕ_discrete (get_or marks p 0) 0)))) t.waiting;
-          live = λ h. absurd (h refl);
-        }
+    pub marks_same : best ≡ None → count ≡ 0 → Marks A None
+    marks_same u z = dead_at A n (nothing_new A n (λ p l o. unmarked A (suc n) (get_or (rounds A (suc n)) p none) (get_or marks p 0) (t.marked.each p l) (go p l o (ℕ_discrete (get_or marks p 0) 0)))) t.waiting
       where
         go : (p : ℕ) → p < length A.states → get_or (rounds A n) p none ≡ none → Dec (get_or marks p 0 ≡ 0) → get_or marks p 0 ≡ 0
         go p l o (yes y) = y
         go p l o (no y) = let (x, lx, ex) = t.fresh p l y o in let b : ⊥ = omega arith in absurd b
 
   -- as many rounds as there are states were enough
-  pub marks_end : (n m : ℕ) (marks added : List ℕ) (count : ℕ) → Turn A n marks added count → n ≤ m → m ≤ n → m ≡ length A.states → Marks A (record { state = record { 0 = unused }; round = n; marks = marks })
+  pub marks_end : (n m : ℕ) (marks added : List ℕ) (count : ℕ) → Turn A n marks added count → n ≤ m → m ≤ n → m ≡ length A.states → Marks A None
   marks_end n m marks added count t l g e =
       let i : n ≡ length A.states = omega arith in
-      record {
-        dead = λ _. dead_at A n (enough A (suc n) (omega arith) ∙ ap (rounds A) (sym i)) t.waiting;
-        live = λ h. absurd (h refl);
-      }
+      dead_at A n (enough A (suc n) (omega arith) ∙ ap (rounds A) (sym i)) t.waiting
 
 pub turn_start : (s next added : List ℕ) (count : ℕ) → check_of s ≡ 0 → Tried (decode s) (replicate max_states 0) (early? (length (decode s).rules)) next added count → Turn (decode s) 0 next added count
 turn_start s next added count h t = turn_first (decode s) (sound_decode s h) (replicate max_states 0) next added count (zeros_long max_states) (zeros max_states) t

@@ -1,5 +1,5 @@
 -- What marking and building find is the answer, and the space holds the witness's rows. Assumes nothing.
-use mathlib.Core.Path.{◌≡◌, refl, sym, ap, ◌∙◌}
+use mathlib.Core.Path.{◌≡◌, refl, sym, ap, ◌∙◌, subst}
 use mathlib.Core.List.{List, [], ◌++◌}
 use mathlib.Core.Bool.{Bool, true, false}
 use mathlib.Core.Option.{none, some}
@@ -9,7 +9,9 @@ use borrow.Author.Rules.{rules}
 use borrow.Author.Tests.{le-leb, lt-leb, not-true, not-false}
 use lib.ListN.{length, get_or, replicate, drop}
 use Rattle.model.specs.Limits.{max_states, unused}
-use Rattle.model.specs.Refusal.{demand, gives}
+use Rattle.std.specs.Prelude.{None, Some}
+use Rattle.std.specs.Prelude.{Option as Perhaps}
+use Rattle.model.specs.Refusal.{demand}
 use Rattle.model.specs.Tree.{Tree}
 use Rattle.model.specs.Automaton.{Automaton}
 use Rattle.model.specs.Build.{add_tree, rows_of}
@@ -52,20 +54,23 @@ first : (w : Tree) → (add_tree w (rows_below [] 0)).0 ≡ rows_of w
 unfolding rows_of
 first w = refl
 
-module _ (s : List ℕ) (m : Marking) (M : Marks (decode s) m) where
-  pub dead_answer : m.state.0 ≡ unused → gives none ≡ gives (shape_of (witness (decode s)))
-  dead_answer h = ap (λ o. gives (shape_of o)) (sym (M.dead h))
+module _ (s : List ℕ) (m : Perhaps Marking) (M : Marks (decode s) m) where
+  no_witness : m ≡ None → witness (decode s) ≡ none
+  no_witness h = subst (Marks (decode s)) h M
 
-  pub dead_space : (cells : List ℕ) → m.state.0 ≡ unused → cells ≡ space_of 0 (witness (decode s)) cells
-  dead_space cells h = ap (λ o. space_of 0 o cells) (sym (M.dead h))
+  pub dead_answer : m ≡ None → none ≡ shape_of (witness (decode s))
+  dead_answer h = ap shape_of (sym (no_witness h))
 
-  module _ (states n : ℕ) (cells cells' slots' memo' : List ℕ) (sound : check_of s ≡ 0) (h : m.state.0 ≡ unused → ⊥) (es : states ≡ length (decode s).states) (room : states * row_cells ≤ length cells) (B : Builds (decode s) m.marks states m.round m.state.0 cells (replicate slot_count 0) (replicate max_states unused) 0 cells' slots' memo' n) where
-    C : Chosen (decode s) m.state.0 m.round m.marks
-    C = M.live h
+  pub dead_space : (cells : List ℕ) → m ≡ None → cells ≡ space_of 0 (witness (decode s)) cells
+  dead_space cells h = ap (λ o. space_of 0 o cells) (sym (no_witness h))
 
-    D : Done (decode s) m.state.0 cells (replicate max_states unused) 0 m.round cells C.tree cells' slots' memo' n
+  module _ (k : Marking) (h : m ≡ Some k) (states n : ℕ) (cells cells' slots' memo' : List ℕ) (sound : check_of s ≡ 0) (es : states ≡ length (decode s).states) (room : states * row_cells ≤ length cells) (B : Builds (decode s) k.marks states k.round k.state.0 cells (replicate slot_count 0) (replicate max_states unused) 0 cells' slots' memo' n) where
+    C : Chosen (decode s) k.state.0 k.round k.marks
+    C = subst (Marks (decode s)) h M
+
+    D : Done (decode s) k.state.0 cells (replicate max_states unused) 0 k.round cells C.tree cells' slots' memo' n
     D =
-        B.gives m.round cells C.tree
+        B.gives k.round cells C.tree
         (record {
           sound = sound_decode s sound;
           marks_are = C.marks_are;
@@ -74,7 +79,7 @@ module _ (s : List ℕ) (m : Marking) (M : Marks (decode s) m) where
           few = omega (arith, (sound_decode s sound).few_states);
           space = room;
           room = let l = witness_rows (decode s) C.tree C.witness_is in let e = ap length (first C.tree) in omega arith;
-          tabled = tabled_none (decode s) m.round cells;
+          tabled = tabled_none (decode s) k.round cells;
         })
 
     rows_are : rows_below cells' n ≡ rows_of C.tree
@@ -83,14 +88,14 @@ module _ (s : List ℕ) (m : Marking) (M : Marks (decode s) m) where
     count : n ≡ length (rows_of C.tree)
     count = sym (length_tab n (row_in cells')) ∙ ap length rows_are
 
-    pub live_answer : gives (some (n, m.round)) ≡ gives (shape_of (witness (decode s)))
+    pub live_answer : some (n, k.round) ≡ shape_of (witness (decode s))
     live_answer = cc (count, C.height, ap shape_of C.witness_is)
 
     pub live_space : cells' ≡ space_of 0 (witness (decode s)) cells
     live_space =
         D.tabled.front
         ∙ ap (λ rs. encode_rows rs ++ drop (n * row_cells) cells) rows_are
-        ∙ ap (λ k. encode_rows (rows_of C.tree) ++ drop (k * row_cells) cells) count
+        ∙ ap (λ j. encode_rows (rows_of C.tree) ++ drop (j * row_cells) cells) count
         ∙ sym (ap (λ o. space_of 0 o cells) C.witness_is)
 
 -- 42, 41, or neither

@@ -1,7 +1,8 @@
 -- What the entry point answers and leaves in the row space (document 01, sections "Joining, demanding both, and the sample" and "Turned away, by place"). Assumes nothing.
-use Rattle.std.specs.Prelude.{List, ◌++◌, ℕ, zero, suc, ◌*◌, ◌/◌, leb, length, drop}
+use Rattle.std.specs.Prelude.{List, ◌++◌, ℕ, zero, suc, ◌*◌, ◌/◌, leb, length, drop, Result, None, Some}
+use Rattle.std.specs.Prelude.{Option as Perhaps}
 use Rattle.std.proofs.Math.Option.{Option, none, some}
-use Rattle.model.specs.Refusal.{demand, and_after, Answer, gives, refuses, unless}
+use Rattle.model.specs.Refusal.{demand, and_after, Answer, unless}
 use Rattle.model.specs.Tree.{Tree, levels}
 use Rattle.model.specs.Automaton.{Automaton}
 use Rattle.model.specs.Build.{rows_of}
@@ -9,8 +10,9 @@ use Rattle.model.specs.Witness.{witness, apart?}
 use Rattle.automaton.specs.Stored.{decode}
 use Rattle.automaton.specs.Check.{check_of}
 use Rattle.document.specs.Rows.{row_cells, encode_rows}
-use Rattle.emptiness.specs.declared.Emptiness.{Emptiness}
-use Rattle.emptiness.specs.declared.Emptiness.TheVariants.{Dead, Live, Refused}
+use Rattle.base.specs.Refusals.{answer}
+use Rattle.base.specs.declared.refusal.Refusal.{Refusal}
+use Rattle.emptiness.specs.declared.Sample.{Sample}
 
 -- for a sound set: 42 where the space holds fewer rows than there are states, then 41 where two states share a tag
 unfoldable pub sample_check_of : Automaton → ℕ → ℕ
@@ -20,11 +22,14 @@ sample_check_of A space = demand (leb (length A.states) (space / row_cells)) 42 
 unfoldable pub witness_check_of : List ℕ → ℕ → ℕ
 witness_check_of set space = and_after (check_of set) (sample_check_of (decode set) space)
 
+-- the rows and the levels of a sample, where there is one
+abbrev pub sampled : Perhaps Sample → Option (ℕ × ℕ)
+sampled None = none
+sampled (Some s) = some (s.rows, s.levels)
+
 -- what an answer says: no witness where the set is dead, the rows and the levels of one where it is live, or a refusal
-abbrev pub emptiness_answer : Emptiness → Answer (Option (ℕ × ℕ))
-emptiness_answer Dead = gives none
-emptiness_answer (Live n h) = gives (some (n, h))
-emptiness_answer (Refused n) = refuses n
+abbrev pub emptiness_answer : Result (Perhaps Sample) Refusal → Answer (Option (ℕ × ℕ))
+emptiness_answer = answer sampled
 
 -- how many rows and levels a witness has
 abbrev pub shape_of : Option Tree → Option (ℕ × ℕ)

@@ -1,13 +1,16 @@
 -- Marking with numbers: a state's mark is 0, or 1 more than the rule that marks it (document 01, section "Joining, demanding both, and the sample"). Assumes nothing.
 use Rattle.std.specs.Prelude.{◌≡◌, List, Bool, true, false, ◌||◌, not, ℕ, zero, suc, ◌<◌, ◌≤◌, T, eqb, length, get_or}
+use Rattle.std.specs.Prelude.{ltb, None, Some}
+use Rattle.std.specs.Prelude.{Option as Perhaps}
 use Rattle.std.proofs.Math.Option.{Option, none, some}
-use Rattle.model.specs.Limits.{max_states, unused}
+use Rattle.model.specs.Limits.{max_states}
 use Rattle.model.specs.Lists.{all_below}
 use Rattle.model.specs.Tree.{Tree, node, forest, levels}
 use Rattle.model.specs.Automaton.{Rule, Automaton, final?}
 use Rattle.model.specs.Order.{place}
 use Rattle.model.specs.Written.{rule_at}
 use Rattle.model.specs.Witness.{trees_in, rounds, witness}
+use Rattle.automaton.specs.declared.State.{State}
 use Rattle.emptiness.specs.declared.marking.Marking.{Marking}
 use Rattle.emptiness.specs.Places.{named?}
 
@@ -62,11 +65,16 @@ propagated? A states (suc x) j = propagated? A states x j || named? A (get_or st
 pub record Propagated (A : Automaton) (marks states : List ℕ) (n : ℕ) (next added : List ℕ) (m : ℕ) : Type 0 where
   pub gives : length marks ≡ max_states → ((x : ℕ) → x < n → get_or states x 0 < max_states) → Tried A marks (propagated? A states n) next added m
 
--- q is the lowest final state of the first n of `added`, or 65535
-pub record LowestAdded (A : Automaton) (added : List ℕ) (n q : ℕ) : Type 0 where
-  pub nowhere : q ≡ unused → (x : ℕ) → x < n → final? A (get_or added x 0) ≡ false
-  pub here : (q ≡ unused → ⊥) → (final? A q ≡ true) × ((x : ℕ) × (x < n) × (get_or added x 0 ≡ q))
-  pub lowest : (x : ℕ) → x < n → final? A (get_or added x 0) ≡ true → q ≤ get_or added x 0
+-- q is lower than a state, or there is no state
+abbrev pub lower_than? : ℕ → Perhaps State → Bool
+lower_than? q None = true
+lower_than? q (Some s) = ltb q s.0
+
+-- the lowest final state of the first n of `added`, where one of them is final
+pub record LowestAdded (A : Automaton) (added : List ℕ) (n : ℕ) (best : Perhaps State) : Type 0 where
+  pub nowhere : best ≡ None → (x : ℕ) → x < n → final? A (get_or added x 0) ≡ false
+  pub here : (s : State) → best ≡ Some s → (final? A s.0 ≡ true) × ((x : ℕ) × (x < n) × (get_or added x 0 ≡ s.0))
+  pub lowest : (s : State) → best ≡ Some s → (x : ℕ) → x < n → final? A (get_or added x 0) ≡ true → s.0 ≤ get_or added x 0
 
 -- the tree o of a state after n rounds is by rule i, from trees that are marked
 pub record MadeBy (A : Automaton) (n : ℕ) (o : Option Tree) (i : ℕ) : Type 0 where
@@ -94,7 +102,7 @@ pub record Chosen (A : Automaton) (q n : ℕ) (marks : List ℕ) : Type 0 where
   pub height : levels tree ≡ n
   pub marks_are : Marked A n marks
 
--- What marking finds: no state where there is no witness.
-pub record Marks (A : Automaton) (m : Marking) : Type 0 where
-  pub dead : m.state.0 ≡ unused → witness A ≡ none
-  pub live : (m.state.0 ≡ unused → ⊥) → Chosen A m.state.0 m.round m.marks
+-- What marking finds: nothing where there is no witness.
+abbrev pub Marks : Automaton → Perhaps Marking → Type 0
+Marks A None = witness A ≡ none
+Marks A (Some m) = Chosen A m.state.0 m.round m.marks

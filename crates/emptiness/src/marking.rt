@@ -1,18 +1,18 @@
 // Marking in rounds, from lists of the rules by child state: a round tries the rules that name a state of the round before.
 ghost use Rattle.std.specs.Prelude.{◌≡◌, map, ◌<◌, length, get_or, replicate};
-ghost use Rattle.model.specs.Limits.{max_children, max_states};
+ghost use Rattle.model.specs.Limits.{max_states};
 ghost use Rattle.model.specs.Written.{rule_at};
 ghost use Rattle.automaton.specs.Stored.{decode};
-ghost use Rattle.automaton.specs.Check.{check_of};
 ghost use Rattle.emptiness.specs.Places.{places_of, named?, Linked};
-ghost use Rattle.emptiness.specs.Marking.{marked?, ready?, this?, early?, Tried, Tries, Propagated, LowestAdded, Marks};
+ghost use Rattle.emptiness.specs.Marking.{marked?, ready?, this?, early?, Tried, Tries, Propagated, lower_than?, LowestAdded, Marks};
 
-use crate::places::{RULE_PLACES, STATES, link};
+use crate::SoundSet;
+use crate::places::{Lists, STATES};
 use automaton::{State, arity, is_final, rule, rule_target};
-use base::limits::{MAX_CHILDREN, MAX_STATES, PLACES, UNUSED};
-use base::numbers::size;
+use base::limits::{MAX_CHILDREN, MAX_STATES, PLACES};
 
-// The state that the witness is the tree of, or UNUSED; the round that marks it; and each state's mark, 0 or 1 more than its rule.
+// The state that the sample is the tree of; the round that marks it; and each state's mark, 0 or 1 more than its rule.
+// The marks are numbers: Options would take twice the fixed memory.
 #[derive(Clone, Copy)]
 pub struct Marking {
     pub state: State,
@@ -20,9 +20,9 @@ pub struct Marking {
     pub marks: [u16; STATES],
 }
 
-// The marks after a round, and the states that it marks.
+// The marks after a round, and the states that it marks: the first `count` of those added.
 #[derive(Clone, Copy)]
-struct After {
+struct Round {
     marks: [u16; STATES],
     added: [u16; STATES],
     count: u16,
@@ -32,11 +32,7 @@ struct After {
 fn number_at(list: &[u16], i: u16) -> u16
     ensures { result ≡ get_or list.now i 0 }
 {
-    let at = size(i);
-    if at < list.len() {
-        return list[at];
-    }
-    0
+    list.get(usize::from(i)).copied().unwrap_or(0)
 }
 
 // A state of a list of them.
@@ -61,201 +57,143 @@ fn is_marked(marks: &[u16], q: State) -> bool
 
 // The child in place k is marked.
 fn child_marked(marks: &[u16], places: [State; PLACES], k: u16) -> bool
-    requires { k < max_children }
     ensures { result ≡ marked? marks.now (get_or (map (λ q. q.0) places) k 0) }
 {
-    let at = size(k);
-    is_marked(marks, places[at])
+    let q = places.get(usize::from(k)).copied().unwrap_or(State(0));
+    is_marked(marks, q)
 }
 
 // All child states of rule i are marked.
-fn ready(set: &[u8], marks: &[u16], i: u16) -> bool
-    requires { (check_of set.now ≡ 0) × (i < length (decode set.now).rules) }
-    ensures { result ≡ ready? marks.now (rule_at (decode set.now) i) }
+fn ready(set: SoundSet, marks: &[u16], i: u16) -> bool
+    requires { i < length (decode set.bytes.now).rules }
+    ensures { result ≡ ready? marks.now (rule_at (decode set.entry.bytes.now) i) }
 {
-    let r = rule(set, i);
-    let places = r.places;
-    let n = arity(set, r.symbol);
-    let mut k = 0;
-    while k < n {
-        if child_marked(marks, places, k) {
-            k += 1;
-        } else {
-            return false;
+    let r = rule(set.bytes, i);
+    (0..arity(set.bytes, r.symbol)).all(|k| child_marked(marks, r.places, k))
+}
+
+// Whether a state is lower than another, or there is no other.
+fn is_lower(q: State, other: Option<State>) -> bool
+    ensures { result ≡ lower_than? q.0 other }
+{
+    match other {
+        Some(best) => q.0 < best.0,
+        None => true,
+    }
+}
+
+impl Round {
+    // Rule i marks its target, where that was not marked before the round, no lower rule marks it, and all the rule's child states were marked.
+    fn try_rule(&mut self, set: SoundSet, marks: &[u16], i: u16)
+        requires { i < length (decode set.bytes.now).rules }
+        ensures { Tries (decode set.entry.bytes.now) marks.now (this? i) self.old.marks self.old.added self.old.count self.new.marks self.new.added self.new.count }
+    {
+        let q = rule_target(set.bytes, i);
+        if is_marked(marks, q) {
+            return;
+        }
+        let old = mark_of(&self.marks, q);
+        let mark = i + 1;
+        let lower = (old == 0) | (mark < old);
+        if !lower {
+            return;
+        }
+        if !ready(set, marks, i) {
+            return;
+        }
+        self.marks[usize::from(q.0)] = mark;
+        if old != 0 {
+            return;
+        }
+        let end = usize::from(self.count);
+        if end >= STATES {
+            return;
+        }
+        self.added[end] = q.0;
+        self.count += 1;
+    }
+
+    // Tries the rules that name state q, to which its mark may propagate.
+    fn propagate(&mut self, set: SoundSet, marks: &[u16], lists: &Lists, q: State)
+        requires { Linked (decode set.bytes.now) (places_of (decode set.bytes.now)) lists.now.last lists.now.before }
+        ensures { q.0 < max_states → Tries (decode set.entry.bytes.now) marks.now (named? (decode set.entry.bytes.now) q.0 0) self.old.marks self.old.added self.old.count self.new.marks self.new.added self.new.count }
+    {
+        if q.0 >= MAX_STATES {
+            return;
+        }
+        let mut at = number_at(&lists.last, q.0);
+        while at != 0 {
+            let p = at - 1;
+            self.try_rule(set, marks, p / MAX_CHILDREN);
+            at = number_at(&lists.before, p);
         }
     }
-    true
-}
 
-// Rule i marks its target, where that was not marked before the round, no lower rule marks it, and all the rule's child states were marked. Answers how many states were added.
-fn try_rule(
-    set: &[u8],
-    marks: &[u16],
-    next: &mut [u16; STATES],
-    added: &mut [u16; STATES],
-    n: u16,
-    i: u16,
-) -> u16
-    requires { (check_of set.now ≡ 0) × (i < length (decode set.now).rules) }
-    ensures { Tries (decode set.now) marks.now (this? i) next.old added.old n next.new added.new result }
-{
-    let q = rule_target(set, i);
-    if is_marked(marks, q) {
-        return n;
-    }
-    let old = mark_of(&*next, q);
-    let mark = i + 1;
-    let lower = (old == 0) | (mark < old);
-    if !lower {
-        return n;
-    }
-    if !ready(set, marks, i) {
-        return n;
-    }
-    let at = size(q.0);
-    next[at] = mark;
-    if old != 0 {
-        return n;
-    }
-    let end = size(n);
-    if end >= STATES {
-        return n;
-    }
-    added[end] = q.0;
-    n + 1
-}
-
-// Tries the rules that name state q, to which its mark may propagate.
-fn propagate(
-    set: &[u8],
-    marks: &[u16],
-    next: &mut [u16; STATES],
-    added: &mut [u16; STATES],
-    n: u16,
-    last: &[u16],
-    before: &[u16],
-    q: State,
-) -> u16
-    requires { (check_of set.now ≡ 0) × Linked (decode set.now) (places_of (decode set.now)) last.now before.now }
-    ensures { q.0 < max_states → Tries (decode set.now) marks.now (named? (decode set.now) q.0 0) next.old added.old n next.new added.new result }
-{
-    if q.0 >= MAX_STATES {
-        return n;
-    }
-    let mut m = n;
-    let mut at = number_at(last, q.0);
-    while at != 0 {
-        let p = at - 1;
-        m = try_rule(set, marks, next, added, m, p / MAX_CHILDREN);
-        at = number_at(before, p);
-    }
-    m
-}
-
-// The first round tries every rule.
-fn first_round(set: &[u8], rules: u16) -> After
-    requires { (check_of set.now ≡ 0) × (rules ≡ length (decode set.now).rules) }
-    ensures { Tried (decode set.now) (replicate max_states 0) (early? (length (decode set.now).rules)) result.marks result.added result.count }
-{
-    let marks = [0u16; STATES];
-    let mut next = [0u16; STATES];
-    let mut added = [0u16; STATES];
-    let mut n = 0;
-    let mut i = 0;
-    while i < rules {
-        n = try_rule(set, &marks, &mut next, &mut added, n, i);
-        i += 1;
-    }
-    After {
-        marks: next,
-        added,
-        count: n,
-    }
-}
-
-// A later round tries the rules that name one of the n states of the round before.
-fn round(
-    set: &[u8],
-    marks: [u16; STATES],
-    states: [u16; STATES],
-    n: u16,
-    last: &[u16],
-    before: &[u16],
-) -> After
-    requires { (check_of set.now ≡ 0) × Linked (decode set.now) (places_of (decode set.now)) last.now before.now }
-    ensures { Propagated (decode set.now) marks states n result.marks result.added result.count }
-{
-    let mut next = marks;
-    let mut added = [0u16; STATES];
-    let mut m = 0;
-    let mut x = 0;
-    while x < n {
-        let q = state_at(&states, x);
-        m = propagate(set, &marks, &mut next, &mut added, m, last, before, q);
-        x += 1;
-    }
-    After {
-        marks: next,
-        added,
-        count: m,
-    }
-}
-
-// The lowest final state of the n added ones, or UNUSED.
-fn lowest_final(set: &[u8], added: &[u16], n: u16) -> State
-    requires { check_of set.now ≡ 0 }
-    ensures { LowestAdded (decode set.now) added.now n result.0 }
-{
-    let mut best = State(UNUSED);
-    let mut x = 0;
-    while x < n {
-        let q = state_at(added, x);
-        x += 1;
-        if is_final(set, q) & ((best.0 == UNUSED) | (q.0 < best.0)) {
-            best = q;
+    // The first round tries every rule.
+    fn first(set: SoundSet) -> Round
+        ensures { Tried (decode set.entry.bytes.now) (replicate max_states 0) (early? (length (decode set.entry.bytes.now).rules)) result.marks result.added result.count }
+    {
+        let marks = [0u16; STATES];
+        let mut round = Round {
+            marks,
+            added: [0u16; STATES],
+            count: 0,
+        };
+        for i in 0..set.rules {
+            round.try_rule(set, &marks, i);
         }
+        round
     }
-    best
+
+    // The round after this one tries the rules that name one of the states that this one marks.
+    fn next(&self, set: SoundSet, lists: &Lists) -> Round
+        requires { Linked (decode set.bytes.now) (places_of (decode set.bytes.now)) lists.now.last lists.now.before }
+        ensures { Propagated (decode set.entry.bytes.now) self.now.marks self.now.added self.now.count result.marks result.added result.count }
+    {
+        let mut round = Round {
+            marks: self.marks,
+            added: [0u16; STATES],
+            count: 0,
+        };
+        for x in 0..self.count {
+            round.propagate(set, &self.marks, lists, state_at(&self.added, x));
+        }
+        round
+    }
+
+    // The lowest final state that the round marks, where one is final.
+    fn lowest_final(&self, set: SoundSet) -> Option<State>
+        ensures { LowestAdded (decode set.entry.bytes.now) self.now.added self.now.count result }
+    {
+        let mut best = None;
+        for x in 0..self.count {
+            let q = state_at(&self.added, x);
+            if is_final(set.bytes, q) & is_lower(q, best) {
+                best = Some(q);
+            }
+        }
+        best
+    }
 }
 
-// Rounds, until one marks a final state or adds nothing.
-pub(crate) fn mark(set: &[u8], states: u16, rules: u16) -> Marking
-    requires { (check_of set.now ≡ 0) × (states ≡ length (decode set.now).states) × (rules ≡ length (decode set.now).rules) }
-    ensures { Marks (decode set.now) result }
+// Rounds, until one marks a final state or adds nothing, which finds none.
+pub(crate) fn mark(set: SoundSet) -> Option<Marking>
+    ensures { Marks (decode set.entry.bytes.now) result }
 {
-    let mut last = [0u16; STATES];
-    let mut before = [0u16; RULE_PLACES];
-    link(set, rules, &mut last, &mut before);
-    let first = first_round(set, rules);
-    let mut marks = first.marks;
-    let mut added = first.added;
-    let mut count = first.count;
-    let mut n = 0;
-    while n < states {
-        n += 1;
-        let q = lowest_final(set, &added, count);
-        if q.0 != UNUSED {
-            return Marking {
-                state: q,
-                round: n,
-                marks,
-            };
+    let lists = Lists::of(set);
+    let mut round = Round::first(set);
+    for n in 0..set.states {
+        if let Some(state) = round.lowest_final(set) {
+            return Some(Marking {
+                state,
+                round: n + 1,
+                marks: round.marks,
+            });
         }
-        if count == 0 {
-            return Marking {
-                state: State(UNUSED),
-                round: n,
-                marks,
-            };
+        if round.count == 0 {
+            return None;
         }
-        let after = round(set, marks, added, count, &last, &before);
-        marks = after.marks;
-        added = after.added;
-        count = after.count;
+        round = round.next(set, &lists);
     }
-    Marking {
-        state: State(UNUSED),
-        round: n,
-        marks,
-    }
+    None
 }

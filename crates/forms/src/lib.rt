@@ -3,6 +3,7 @@
 
 ghost use Rattle.std.specs.Prelude.{◌≡◌, ◌||◌, ◌++◌, ◌≤◌, length, drop};
 ghost use Rattle.model.specs.Automaton.{forgets_nothing?};
+ghost use Rattle.base.specs.Refusals.{refused_by};
 ghost use Rattle.automaton.specs.declared.Form.TheVariants.{Narrow, Wide, Isolating};
 ghost use Rattle.automaton.specs.Form.{isolating?};
 ghost use Rattle.automaton.specs.Stored.{decode};
@@ -10,10 +11,11 @@ ghost use Rattle.automaton.specs.Encode.{encode, encoded_length};
 ghost use Rattle.automaton.specs.Answer.{written_answer};
 ghost use Rattle.forms.specs.Move.{move_check_of, moved_of, moved_space};
 
+use automaton::Form;
 use automaton::copy::{put_rules, put_states, put_symbols};
 use automaton::layout::{isolating, tag_bits, total_length};
 use automaton::write::put_header;
-use automaton::{Checked, Form, Written};
+use base::refusal::Refusal;
 
 // The length of a set in a form.
 fn length_in(form: Form, set: &[u8]) -> usize
@@ -27,33 +29,27 @@ fn length_in(form: Form, set: &[u8]) -> usize
 fn keeps_masks(form: Form, set: &[u8]) -> bool
     ensures { result ≡ isolating? form || forgets_nothing? (decode set.now) }
 {
-    if isolating(form) | !isolating(automaton::form_of(set)) {
-        true
-    } else {
-        automaton::forgets_nothing(set)
-    }
+    isolating(form) | !isolating(automaton::form_of(set)) || automaton::forgets_nothing(set)
 }
 
-// The number for a set to be moved, in a space of so many bytes.
-fn refusal(from: Form, to: Form, set: &[u8], space: usize) -> u16
-    ensures { result ≡ move_check_of from to set.now space }
+// Why a set to be moved is refused, in a space of so many bytes.
+fn refusal(from: Form, to: Form, set: &[u8], space: usize) -> Result<(), Refusal>
+    ensures { refused_by result ≡ move_check_of from to set.now space }
 {
-    if let Checked::Refused(n) = automaton::check(set) {
-        return n;
-    }
+    automaton::check(set)?;
     if set.len() != length_in(from, set) {
-        return 18;
+        return Err(Refusal::SetForm);
     }
     if tag_bits(to) < automaton::header(set).tags {
-        return 8;
+        return Err(Refusal::SetTags);
     }
     if !keeps_masks(to, set) {
-        return 10;
+        return Err(Refusal::RuleForgets);
     }
     if space < length_in(to, set) {
-        return 53;
+        return Err(Refusal::ResultSpace);
     }
-    0
+    Ok(())
 }
 
 // A set written in a form: header, symbols, states, rules.
@@ -68,19 +64,16 @@ fn put_set(out: &mut [u8], form: Form, set: &[u8]) -> usize
     put_rules(out, rules, form, set)
 }
 
-fn moved(from: Form, to: Form, set: &[u8], out: &mut [u8]) -> Written
+fn moved(from: Form, to: Form, set: &[u8], out: &mut [u8]) -> Result<usize, Refusal>
     ensures answer { written_answer result ≡ moved_of from to set.now out.old }
     ensures space { out.new ≡ moved_space from to set.now out.old }
 {
-    let refused = refusal(from, to, set, out.len());
-    if refused != 0 {
-        return Written::Refused(refused);
-    }
-    Written::Length(put_set(out, to, set))
+    refusal(from, to, set, out.len())?;
+    Ok(put_set(out, to, set))
 }
 
 // An old set with two bytes for the tags of a state.
-pub fn widen_states(set: &[u8], out: &mut [u8]) -> Written
+pub fn widen_states(set: &[u8], out: &mut [u8]) -> Result<usize, Refusal>
     ensures answer { written_answer result ≡ moved_of Narrow Wide set.now out.old }
     ensures space { out.new ≡ moved_space Narrow Wide set.now out.old }
 {
@@ -88,7 +81,7 @@ pub fn widen_states(set: &[u8], out: &mut [u8]) -> Written
 }
 
 // A wide set of at most 8 tags, its rules of 12 bytes, with one byte for the tags of a state.
-pub fn narrow_states(set: &[u8], out: &mut [u8]) -> Written
+pub fn narrow_states(set: &[u8], out: &mut [u8]) -> Result<usize, Refusal>
     ensures answer { written_answer result ≡ moved_of Wide Narrow set.now out.old }
     ensures space { out.new ≡ moved_space Wide Narrow set.now out.old }
 {
@@ -96,7 +89,7 @@ pub fn narrow_states(set: &[u8], out: &mut [u8]) -> Written
 }
 
 // A wide set with rules of 14 bytes instead of 12, which forget nothing.
-pub fn widen_rules(set: &[u8], out: &mut [u8]) -> Written
+pub fn widen_rules(set: &[u8], out: &mut [u8]) -> Result<usize, Refusal>
     ensures answer { written_answer result ≡ moved_of Wide Isolating set.now out.old }
     ensures space { out.new ≡ moved_space Wide Isolating set.now out.old }
 {
@@ -104,7 +97,7 @@ pub fn widen_rules(set: &[u8], out: &mut [u8]) -> Written
 }
 
 // A set whose rules of 14 bytes forget nothing, with rules of 12 bytes.
-pub fn narrow_rules(set: &[u8], out: &mut [u8]) -> Written
+pub fn narrow_rules(set: &[u8], out: &mut [u8]) -> Result<usize, Refusal>
     ensures answer { written_answer result ≡ moved_of Isolating Wide set.now out.old }
     ensures space { out.new ≡ moved_space Isolating Wide set.now out.old }
 {

@@ -7,7 +7,10 @@ use native.Mathlib.Omega.{arith}
 use lib.ListN.{get_or}
 use Rattle.base.specs.Text.{got}
 use Rattle.document.specs.Index.{slot_after}
-use Rattle.document.specs.declared.index.Probed.TheVariants.{Free}
+use Rattle.document.specs.Fields.{as_row}
+use Rattle.document.specs.declared.rows.Row as row_number
+use Rattle.document.specs.declared.index.Probed.{Probed}
+use Rattle.document.specs.declared.index.Probed.TheVariants.{Found, Free, Crowded}
 use Rattle.document.proofs.Searching.{searched_none, searched_free, searched_known}
 use Rattle.jsontext.specs.Strings.{string_at}
 use Rattle.jsontext.specs.Decoded.{same_text, text_slot}
@@ -15,8 +18,6 @@ use Rattle.jsontext.specs.Scanned.{part}
 use Rattle.jsontext.specs.Shorts.{ShortAt, SameBytes}
 use Rattle.jsontext.proofs.Shorting.{short_string, short_again}
 use Rattle.jsonrows.specs.Texts.{ProbedAt}
-use Rattle.jsonrows.specs.declared.texts.TextProbed.{TextProbed}
-use Rattle.jsonrows.specs.declared.texts.TextProbed.TheVariants.{Known, Free as FreeSlot, Crowded}
 use Rattle.jsonrows.proofs.Finding.{eq_eq_list}
 
 module _ (t starts found : List ℕ) (at slot end z v : ℕ) (s : ShortAt t at slot end) (ez : z ≡ slot) (ev : v ≡ get_or found (z % 2048) 0) where
@@ -32,7 +33,7 @@ module _ (t starts found : List ℕ) (at slot end z v : ℕ) (s : ShortAt t at s
   held : v ≡ get_or found (slot_after z 0) 0
   held = ev ∙ ap (λ k. get_or found k 0) first
 
-  pub glance_free : v ≡ 0 → ProbedAt t starts found at (end + 1) (FreeSlot (z % 2048))
+  pub glance_free : v ≡ 0 → ProbedAt t starts found at (end + 1) (Free (z % 2048))
   glance_free e =
       record {
         bytes = part t (at + 1) end;
@@ -40,7 +41,7 @@ module _ (t starts found : List ℕ) (at slot end z v : ℕ) (s : ShortAt t at s
         answer = ap Free first ∙ searched_free found same? (text_slot (part t (at + 1) end)) 0 z v (searched_none found same? (text_slot (part t (at + 1) end))) (omega arith) (ez ∙ s.slot_is) held e;
       }
 
-  pub glance_known : (v ≡ 0 → ⊥) → (start : ℕ) → start ≡ get_or starts (v - 1) 0 → SameBytes t at start (end + 1 - at) → ProbedAt t starts found at (end + 1) (Known (v - 1))
+  pub glance_known : (v ≡ 0 → ⊥) → (start : ℕ) → start ≡ get_or starts (v - 1) 0 → SameBytes t at start (end + 1 - at) → ProbedAt t starts found at (end + 1) (Found (as_row (v - 1)))
   glance_known some start es same =
       let there = ap (string_at t) (sym es) ∙ short_again t at slot end start s same in
       let equal : same? (v - 1) ≡ true = (λ i. same_text (string i) (there i)) ∙ eq_eq_list (part t (at + 1) end) (part t (at + 1) end) refl in
@@ -51,9 +52,9 @@ module _ (t starts found : List ℕ) (at slot end z v : ℕ) (s : ShortAt t at s
       }
 
 -- where it tells, the probe answers so
-module _ {t starts found : List ℕ} {at next : ℕ} {r : TextProbed} (tells : (r ≡ Crowded → ⊥) → ProbedAt t starts found at next r) where
-  pub told_known : {k : ℕ} → r ≡ Known k → ProbedAt t starts found at next (Known k)
-  told_known e = subst (ProbedAt t starts found at next) e (tells (λ q. let z : ◌≡◌ {A = ℕ} 0 1 = cc in omega arith))
+module _ {t starts found : List ℕ} {at next : ℕ} {r : Probed} (tells : (r ≡ Crowded → ⊥) → ProbedAt t starts found at next r) where
+  pub told_known : {k : row_number.Row} → r ≡ Found k → ProbedAt t starts found at next (Found k)
+  told_known e = subst (ProbedAt t starts found at next) e (tells (λ q. cc))
 
-  pub told_free : {i : ℕ} → r ≡ FreeSlot i → ProbedAt t starts found at next (FreeSlot i)
-  told_free e = subst (ProbedAt t starts found at next) e (tells (λ q. let z : ◌≡◌ {A = ℕ} 0 1 = cc in omega arith))
+  pub told_free : {i : ℕ} → r ≡ Free i → ProbedAt t starts found at next (Free i)
+  told_free e = subst (ProbedAt t starts found at next) e (tells (λ q. cc))

@@ -41,7 +41,7 @@ close_grows limit t mark leaf at b {j} {n} {after} e = go (eqb (byte_at t at) ma
   where
     go : (c : Bool) → elim c [ true ↦ finish limit (leaf_row leaf Bare) (at + 1) b | false ↦ refused 71 at ] ≡ good j n after → length b.rows ≤ length after.rows
     go true q = finish_grows limit (leaf_row leaf Bare) _ b q
-    go false q = let z : ◌≡◌ {A = ℕ} 0 1 = cc in absurd (omega arith)
+    go false q = let z : ⊥ = cc in absurd z
 
 pub value_grows : (S : Setting) (t : List ℕ) (l at : ℕ) (b : Built) {j n : ℕ} {after : Built} → value l S t at b ≡ good j n after → length b.rows ≤ length after.rows
 value_grows S t l at b {j} {n} {after} e =
@@ -62,7 +62,7 @@ module _ (S : Setting) (t : List ℕ) (l : ℕ) (seen : List (List ℕ)) (at : �
   Grows o = o ≡ key_good key symbol js next after → length b.rows ≤ length after.rows
 
   none_read : (w p : ℕ) → Grows (key_refused w p)
-  none_read w p q = let z : ◌≡◌ {A = ℕ} 0 1 = cc in absurd (omega arith)
+  none_read w p q = let z : ⊥ = cc in absurd z
 
   as_before : (k : List ℕ) (s : ℕ) (xs : List ℕ) (n : ℕ) → Grows (key_good k s xs n b)
   as_before k s xs n q = let z : b ≡ after = cc in let g = ap (λ (y : Built). length y.rows) z in omega (arith, g)

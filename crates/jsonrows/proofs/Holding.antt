@@ -4,6 +4,7 @@ use mathlib.Core.Bool.{Bool, true, false, cond}
 use mathlib.Core.List.Memᴰ.{not-nil}
 use mathlib.Core.List.{List, [], ◌∷◌, ◌++◌, Memᴰ as In}
 use mathlib.Core.Option.{Option, none, some, map}
+use Rattle.std.specs.Prelude.{Result, Ok, Err}
 use Prim.Native.Nat.{ℕ, suc, ◌+◌, ◌-◌, ◌<◌, ◌≤◌}
 use native.Mathlib.Omega.{arith}
 use borrow.Author.Tests.{ne_eqb, lt-ltb, le-ltb}
@@ -18,7 +19,7 @@ use Rattle.model.proofs.Tab.{length_tab}
 use Rattle.document.specs.Rows.{row_in, rows_below, Kept}
 use Rattle.document.specs.Fields.{as_row}
 use Rattle.document.specs.Builder.{find_or_add, Did, Ready}
-use Rattle.document.specs.declared.rows.Row as number
+use Rattle.document.specs.declared.rows.Row as row_number
 use Rattle.document.specs.declared.scalar.Scalar.TheVariants.{Name}
 use Rattle.document.specs.declared.builder.Placed.{Placed}
 use Rattle.model.proofs.Build.{more_lower}
@@ -26,23 +27,24 @@ use Rattle.document.proofs.Ready.{Put, was, is, no_room, puts}
 use Rattle.jsonrows.specs.Signature.{text_leaf}
 use Rattle.jsonrows.specs.Grammar.{Built, built, Outcome, good, refused, leaf_row, place_row, finish}
 use Rattle.jsonrows.specs.State.{texts_in, built_in, Holds, Old, After, Says, says_read, says_refused, part_after}
+use Rattle.base.specs.Refusals.{number}
+use Rattle.base.specs.declared.refusal.TextRefusal.{TextRefusal}
 use Rattle.jsonrows.specs.declared.rows.Part.{Part}
-use Rattle.jsonrows.specs.declared.rows.Part.TheVariants.{Read, Refused}
 
 -- an outcome that is known
-pub says_by : {t cells slots starts found old : List ℕ} {before limit : ℕ} {r : Part} {o v : Outcome} → o ≡ v → Says t cells slots starts found old before limit r v → Says t cells slots starts found old before limit r o
+pub says_by : {t cells slots starts found old : List ℕ} {before limit : ℕ} {r : Result Part TextRefusal} {o v : Outcome} → o ≡ v → Says t cells slots starts found old before limit r v → Says t cells slots starts found old before limit r o
 says_by {t} {cells} {slots} {starts} {found} {old} {before} {limit} {r} e h = subst (Says t cells slots starts found old before limit r) (sym e) h
 
 -- an answer that is known
-pub says_as : {t cells slots starts found old : List ℕ} {before limit : ℕ} {r x : Part} {o : Outcome} → r ≡ x → Says t cells slots starts found old before limit r o → Says t cells slots starts found old before limit x o
+pub says_as : {t cells slots starts found old : List ℕ} {before limit : ℕ} {r x : Result Part TextRefusal} {o : Outcome} → r ≡ x → Says t cells slots starts found old before limit r o → Says t cells slots starts found old before limit x o
 says_as {t} {cells} {slots} {starts} {found} {old} {before} {limit} {o = o} e h = subst (λ x. Says t cells slots starts found old before limit x o) e h
 
 -- a row that is known
-pub says_row : {t cells slots starts found old : List ℕ} {before limit : ℕ} {r : Part} (next : ℕ) (b : Built) {fields row : Row} → fields ≡ row → Says t cells slots starts found old before limit r (finish limit fields next b) → Says t cells slots starts found old before limit r (finish limit row next b)
+pub says_row : {t cells slots starts found old : List ℕ} {before limit : ℕ} {r : Result Part TextRefusal} (next : ℕ) (b : Built) {fields row : Row} → fields ≡ row → Says t cells slots starts found old before limit r (finish limit fields next b) → Says t cells slots starts found old before limit r (finish limit row next b)
 says_row {t} {cells} {slots} {starts} {found} {old} {before} {limit} {r} next b e h = subst (λ x. Says t cells slots starts found old before limit r (finish limit x next b)) e h
 
 -- an answer that says what was read
-pub record Said (t cells slots starts found old : List ℕ) (before limit : ℕ) (o : Outcome) (j : number.Row) (next used texts : ℕ) : Type 0 where
+pub record Said (t cells slots starts found old : List ℕ) (before limit : ℕ) (o : Outcome) (j : row_number.Row) (next used texts : ℕ) : Type 0 where
   pub outcome : o ≡ good j.0 next (built_in t cells starts used texts)
   pub holds : Holds t cells slots starts found used texts limit
   pub inside : j.0 < used
@@ -50,27 +52,21 @@ pub record Said (t cells slots starts found old : List ℕ) (before limit : ℕ)
   pub more : before ≤ texts
   pub same : (k : ℕ) → k < before → get_or starts k 0 ≡ get_or old k 0
 
-module _ {t cells slots starts found old : List ℕ} {before limit : ℕ} {r : Part} where
-  pub said : {o : Outcome} → Says t cells slots starts found old before limit r o → {j : number.Row} {next used texts : ℕ} → r ≡ Read j next used texts → Said t cells slots starts found old before limit o j next used texts
-  said (says_read {j = k} {next = p} {b = b} h) {j} {next} {used} {texts} q =
-      let e : Read j next used texts ≡ Read (as_row k) p h.used h.texts = sym q ∙ h.answer in
-      let a : j ≡ as_row k = cc in
-      let c : next ≡ p = cc in
-      let d : used ≡ h.used = cc in
-      let f : texts ≡ h.texts = cc in
-      record {
-        outcome = ap (good k p) h.is ∙ sym (λ i. good (a i).0 (c i) (built_in t cells starts (d i) (f i)));
-        holds = subst (λ m. Holds t cells slots starts found m texts limit) (sym d) (subst (λ m. Holds t cells slots starts found h.used m limit) (sym f) h.holds);
-        inside = let g : j.0 ≡ k = ap (λ x. x.0) a in omega (arith, g, d, h.inside);
-        behind = omega (arith, c, h.behind);
-        more = omega (arith, f, h.more);
-        same = h.same;
-      }
-  said (says_refused {w = w} {p = p} h) {j} {next} {used} {texts} q = let e : Read j next used texts ≡ Refused w p = sym q ∙ h in let z : ◌≡◌ {A = ℕ} 0 1 = cc in absurd (omega arith)
+module _ {t cells slots starts found old : List ℕ} {before limit : ℕ} {r : Result Part TextRefusal} where
+  pub said : {o : Outcome} → Says t cells slots starts found old before limit r o → {p : Part} → r ≡ Ok p → Said t cells slots starts found old before limit o p.row p.next p.counts.used p.counts.texts
+  said (says_read {j = k} {next = n} {b = b} h) {p} q =
+      let e : ◌≡◌ {A = Result Part TextRefusal} (Ok p) (Ok (record { row = as_row k; next = n; counts = record { used = h.used; texts = h.texts } })) = sym q ∙ h.answer in
+      let z : p ≡ record { row = as_row k; next = n; counts = record { used = h.used; texts = h.texts } } = cc in
+      subst (λ (x : Part). Said t cells slots starts found old before limit (good k n b) x.row x.next x.counts.used x.counts.texts) (sym z)
+      (record { outcome = ap (good k n) h.is; holds = h.holds; inside = h.inside; behind = h.behind; more = h.more; same = h.same })
+  said (says_refused {e = x} h) {p} q = let e : ◌≡◌ {A = Result Part TextRefusal} (Ok p) (Err x) = sym q ∙ h in let z : ⊥ = cc in absurd z
 
-  pub said_no : {o : Outcome} → Says t cells slots starts found old before limit r o → {w p : ℕ} → r ≡ Refused w p → o ≡ refused w p
-  said_no (says_read {j = k} {next = next} {b = b} h) {w} {p} q = let e : Refused w p ≡ Read (as_row k) next h.used h.texts = sym q ∙ h.answer in let z : ◌≡◌ {A = ℕ} 0 1 = cc in absurd (omega arith)
-  said_no (says_refused {w = x} {p = y} h) {w} {p} q = let e : Refused w p ≡ Refused x y = sym q ∙ h in cc
+  pub said_no : {o : Outcome} → Says t cells slots starts found old before limit r o → {e : TextRefusal} → r ≡ Err e → o ≡ refused (number e.refusal) e.place
+  said_no (says_read {j = k} {next = n} h) {e} q = let f : ◌≡◌ {A = Result Part TextRefusal} (Err e) (Ok (record { row = as_row k; next = n; counts = record { used = h.used; texts = h.texts } })) = sym q ∙ h.answer in let z : ⊥ = cc in absurd z
+  said_no (says_refused {e = x} h) {e} q =
+      let f : ◌≡◌ {A = Result Part TextRefusal} (Err e) (Err x) = sym q ∙ h in
+      let g : x ≡ e = cc in
+      ap (λ (y : TextRefusal). refused (number y.refusal) y.place) g
 
   -- the same after fewer texts
   pub says_since : (first : List ℕ) (few : ℕ) → few ≤ before → ((k : ℕ) → k < few → get_or old k 0 ≡ get_or first k 0) → {o : Outcome} → Says t cells slots starts found old before limit r o → Says t cells slots starts found first few limit r o
@@ -91,7 +87,7 @@ module _ {t cells slots starts found old : List ℕ} {before limit : ℕ} {r : P
 
 none_behind : (o : Option ℕ) → map suc o ≡ none → o ≡ none
 none_behind none q = refl
-none_behind (some k) q = let z : ◌≡◌ {A = ℕ} 0 1 = cc in absurd (omega arith)
+none_behind (some k) q = let z : ⊥ = cc in absurd z
 
 -- a row that is not found is not found behind another that differs
 pub find_more : (x r : Row) (rows : List Row) → eq_row x r ≡ false → find_row x rows ≡ none → find_row x (rows ++ r ∷ []) ≡ none
@@ -99,16 +95,16 @@ find_more x r [] e h = rw e
 find_more x r (y ∷ rows) e h = go (eq_row x y) (λ q. find_more x r rows e q) h
   where
     go : (b : Bool) → (find_row x rows ≡ none → find_row x (rows ++ r ∷ []) ≡ none) → cond b (some 0) (map suc (find_row x rows)) ≡ none → cond b (some 0) (map suc (find_row x (rows ++ r ∷ []))) ≡ none
-    go true f q = let z : ◌≡◌ {A = ℕ} 0 1 = cc in absurd (omega arith)
+    go true f q = let z : ⊥ = cc in absurd z
     go false f q = ap (map suc) (f (none_behind (find_row x rows) q))
 
 -- a row that is found is found with more behind
 pub find_on : (x r : Row) (rows : List Row) (i : ℕ) → find_row x rows ≡ some i → find_row x (rows ++ r ∷ []) ≡ some i
-find_on x r [] i e = let z : ◌≡◌ {A = ℕ} 0 1 = cc in absurd (omega arith)
+find_on x r [] i e = let z : ⊥ = cc in absurd z
 find_on x r (y ∷ rows) i e = go (eq_row x y) (λ k q. find_on x r rows k q) e
   where
     behind : (o : Option ℕ) → ((k : ℕ) → o ≡ some k → find_row x (rows ++ r ∷ []) ≡ some k) → map suc o ≡ some i → map suc (find_row x (rows ++ r ∷ [])) ≡ some i
-    behind none f q = let z : ◌≡◌ {A = ℕ} 0 1 = cc in absurd (omega arith)
+    behind none f q = let z : ⊥ = cc in absurd z
     behind (some k) f q = ap (map suc) (f k refl) ∙ q
 
     go : (b : Bool) → ((k : ℕ) → find_row x rows ≡ some k → find_row x (rows ++ r ∷ []) ≡ some k) → cond b (some 0) (map suc (find_row x rows)) ≡ some i → cond b (some 0) (map suc (find_row x (rows ++ r ∷ []))) ≡ some i
@@ -121,16 +117,16 @@ find_last x [] e = ap (λ c. cond c (some 0) none) ((T_true (eq_row x x)).0 (eq_
 find_last x (y ∷ rows) e = go (eq_row x y) (λ q. find_last x rows q) e
   where
     go : (b : Bool) → (find_row x rows ≡ none → find_row x (rows ++ x ∷ []) ≡ some (length rows)) → cond b (some 0) (map suc (find_row x rows)) ≡ none → cond b (some 0) (map suc (find_row x (rows ++ x ∷ []))) ≡ some (suc (length rows))
-    go true f q = let z : ◌≡◌ {A = ℕ} 0 1 = cc in absurd (omega arith)
+    go true f q = let z : ⊥ = cc in absurd z
     go false f q = ap (map suc) (f (none_behind (find_row x rows) q))
 
 -- a row that is found is one of them
 pub found_inside : (r : Row) (rows : List Row) (i : ℕ) → find_row r rows ≡ some i → i < length rows
-found_inside r [] i e = let z : ◌≡◌ {A = ℕ} 0 1 = cc in absurd (omega arith)
+found_inside r [] i e = let z : ⊥ = cc in absurd z
 found_inside r (x ∷ rows) i e = go (eq_row r x) (λ k q. found_inside r rows k q) e
   where
     behind : (o : Option ℕ) → ((k : ℕ) → o ≡ some k → k < length rows) → map suc o ≡ some i → i < suc (length rows)
-    behind none f q = let z : ◌≡◌ {A = ℕ} 0 1 = cc in absurd (omega arith)
+    behind none f q = let z : ⊥ = cc in absurd z
     behind (some k) f q = let g : suc k ≡ i = cc in let l = f k refl in omega (arith, g, l)
 
     go : (b : Bool) → ((k : ℕ) → find_row r rows ≡ some k → k < length rows) → cond b (some 0) (map suc (find_row r rows)) ≡ some i → i < suc (length rows)
@@ -160,7 +156,7 @@ module _ (t cells slots starts found : List ℕ) (used texts limit : ℕ) (h : H
   rows_are = length_tab used (row_in cells)
 
   -- nothing was added
-  pub after_same : (cs ss : List ℕ) → cs ≡ cells → ss ≡ slots → (i : number.Row) (next : ℕ) → 0 < next → i.0 < used → After t cs ss starts found starts texts limit (Read i next used texts) i.0 next (built_in t cells starts used texts)
+  pub after_same : (cs ss : List ℕ) → cs ≡ cells → ss ≡ slots → (i : row_number.Row) (next : ℕ) → 0 < next → i.0 < used → After t cs ss starts found starts texts limit (Ok (record { row = i; next = next; counts = record { used = used; texts = texts } })) i.0 next (built_in t cells starts used texts)
   after_same cs ss e f i next z l =
       record {
         used = used;
@@ -204,7 +200,7 @@ module _ (t cells slots starts found : List ℕ) (used texts limit : ℕ) (h : H
         (record {
           used = used + 1;
           texts = texts;
-          answer = ap (λ (m : ℕ). Read (as_row m) next (used + 1) texts) (n ∙ sym rows_are);
+          answer = ap (λ (m : ℕ). Ok (record { row = as_row m; next = next; counts = record { used = used + 1; texts = texts } })) (n ∙ sym rows_are);
           is = ap (λ rows. built rows (texts_in t starts texts)) (sym m);
           holds = added cs ss m d;
           inside = omega (arith, rows_are);
@@ -217,7 +213,7 @@ module _ (t cells slots starts found : List ℕ) (used texts limit : ℕ) (h : H
         says_by (finish_by e ∙ (λ k. cond (room k) (good (length (rows_below cells used)) next (built (rows_below cells used ++ r ∷ []) (texts_in t starts texts))) (refused 67 (next - 1)))) (says_refused refl)
 
     -- the answer that the builder gave
-    pub finish_answers : Kept r → (cs ss : List ℕ) (a : Placed) → Did (find_or_add cells slots used limit r) a cs ss → {x : Part} → x ≡ part_after next used texts a → Says t cs ss starts found starts texts limit x (finish limit r next (built_in t cells starts used texts))
+    pub finish_answers : Kept r → (cs ss : List ℕ) (a : Placed) → Did (find_or_add cells slots used limit r) a cs ss → {x : Result Part TextRefusal} → x ≡ part_after next used texts a → Says t cs ss starts found starts texts limit x (finish limit r next (built_in t cells starts used texts))
     finish_answers k cs ss a did e = subst (λ x. Says t cs ss starts found starts texts limit x (finish limit r next (built_in t cells starts used texts))) (sym e) (finish_says cs ss (puts cells slots used limit h.ready r k cs ss a did))
 
 -- there are fewer rows than places

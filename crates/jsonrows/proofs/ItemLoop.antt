@@ -2,14 +2,15 @@
 use mathlib.Core.Path.{◌≡◌, refl, sym, ap, subst, ◌∙◌}
 use mathlib.Core.Bool.{Bool, true, false, ◌||◌}
 use mathlib.Core.List.{List, [], ◌∷◌, ◌++◌}
-use Prim.Native.Nat.{ℕ, zero, suc, ◌+◌, ◌-◌, ◌*◌, ◌<◌, ◌≤◌}
+use Rattle.std.specs.Prelude.{Result, Ok, Err}
+use Prim.Native.Nat.{ℕ, zero, suc, ◌+◌, ◌-◌, ◌<◌, ◌≤◌}
 use native.Mathlib.Omega.{arith}
 use borrow.Author.Tests.{eqb-true, eqb-false}
 use lib.Dec.{eqb}
 use lib.ListN.{length, get_or, drop, replicate}
 use lib.Seq.{drop-drop}
 use Rattle.base.specs.Text.{byte_at}
-use Rattle.document.specs.declared.rows.Row as number
+use Rattle.document.specs.declared.rows.Row as row_number
 use Rattle.jsontext.specs.Spaces.{space_end}
 use Rattle.jsonrows.specs.Grammar.{Setting, Built, Outcome, refused, joined, close_at, value}
 use Rattle.jsonrows.specs.State.{key_rows, built_in, Holds, Says, says_refused}
@@ -17,10 +18,12 @@ use Rattle.jsonrows.specs.Seen.{Seen, Flagged}
 use Rattle.jsonrows.specs.Items.{mark_of, leaf_of, rest_of, list_at, items_at, item_at, plain_at}
 use Rattle.jsonrows.specs.Frames.{joins, Framed, Same, FrameSet}
 use Rattle.jsonrows.specs.Heads.{Headed, HeadSays, head_says, head_says_no}
+use Rattle.base.specs.Refusals.{number}
+use Rattle.base.specs.declared.refusal.Refusal.TheVariants.{TextLevel}
+use Rattle.base.specs.declared.refusal.TextRefusal.{TextRefusal}
 use Rattle.jsonrows.specs.declared.members.KeyPart.{KeyPart}
-use Rattle.jsonrows.specs.declared.members.KeyPart.TheVariants.{Key, NoKey}
+use Rattle.jsonrows.specs.declared.tables.Item.{Item}
 use Rattle.jsonrows.specs.declared.rows.Part.{Part}
-use Rattle.jsonrows.specs.declared.rows.Part.TheVariants.{Refused}
 use Rattle.jsonrows.proofs.Holding.{says_by, says_since, Said}
 use Rattle.jsonrows.proofs.Growing.{as_many, value_grows}
 use Rattle.jsonrows.proofs.ItemWays.{seen_kept, item_refused, item_last, item_rest}
@@ -36,27 +39,23 @@ drop_further k n a b le e =
     ap (λ m. drop m a) z ∙ sym (drop-drop (n - k) k a) ∙ ap (drop (n - k)) e ∙ drop-drop (n - k) k b ∙ sym (ap (λ m. drop m b) z)
 
 -- an answer with the facts that it hands over
-module _ {object : Bool} {S : Setting} {t cells slots starts found pending flags old : List ℕ} {before lo hi : ℕ} {seen : List (List ℕ)} {at : ℕ} {b : Built} {r : KeyPart} where
-  pub headed : HeadSays object S t cells slots starts found pending flags old before lo hi seen at b r → {symbol : ℕ} {key : number.Row} {first used texts : ℕ} → r ≡ Key symbol key first used texts → Headed object S t cells slots starts found pending flags old before lo hi seen at b symbol key first used texts
-  headed (head_says {symbol = s} {key = k} {first = f} {used = u} {texts = m} e h) {symbol} {key} {first} {used} {texts} q =
-      let z : Key s k f u m ≡ Key symbol key first used texts = sym e ∙ q in
-      let a : s ≡ symbol = cc in
-      let c : k ≡ key = cc in
-      let d : f ≡ first = cc in
-      let g : u ≡ used = cc in
-      let n : m ≡ texts = cc in
-      subst (λ x. Headed object S t cells slots starts found pending flags old before lo hi seen at b symbol key first used x) n
-      (subst (λ x. Headed object S t cells slots starts found pending flags old before lo hi seen at b symbol key first x m) g
-      (subst (λ x. Headed object S t cells slots starts found pending flags old before lo hi seen at b symbol key x u m) d
-      (subst (λ x. Headed object S t cells slots starts found pending flags old before lo hi seen at b symbol x f u m) c (subst (λ x. Headed object S t cells slots starts found pending flags old before lo hi seen at b x k f u m) a h))))
-  headed (head_says_no {w = w} {p = p} e o h) {symbol} {key} {first} {used} {texts} q = let z : NoKey w p ≡ Key symbol key first used texts = sym e ∙ q in let y : ◌≡◌ {A = ℕ} 0 1 = cc in absurd (omega arith)
+module _ {object : Bool} {S : Setting} {t cells slots starts found pending : List ℕ} {flags : List Bool} {old : List ℕ} {before lo hi : ℕ} {seen : List (List ℕ)} {at : ℕ} {b : Built} {r : Result KeyPart TextRefusal} where
+  pub headed : HeadSays object S t cells slots starts found pending flags old before lo hi seen at b r → {k : KeyPart} → r ≡ Ok k → Headed object S t cells slots starts found pending flags old before lo hi seen at b k.symbol k.row k.next k.counts.used k.counts.texts
+  headed (head_says {p = x} e h) {k} q =
+      let f : ◌≡◌ {A = Result KeyPart TextRefusal} (Ok x) (Ok k) = sym e ∙ q in
+      let z : x ≡ k = cc in
+      subst (λ (y : KeyPart). Headed object S t cells slots starts found pending flags old before lo hi seen at b y.symbol y.row y.next y.counts.used y.counts.texts) z h
+  headed (head_says_no {e = w} e o h) {k} q = let f : ◌≡◌ {A = Result KeyPart TextRefusal} (Err w) (Ok k) = sym e ∙ q in let z : ⊥ = cc in absurd z
 
-  pub headed_no : HeadSays object S t cells slots starts found pending flags old before lo hi seen at b r → {w p : ℕ} → r ≡ NoKey w p → (object ≡ true) × (list_at object lo S t seen at b ≡ refused w p)
-  headed_no (head_says {symbol = s} {key = k} {first = f} {used = u} {texts = m} e h) {w} {p} q = let z : Key s k f u m ≡ NoKey w p = sym e ∙ q in let y : ◌≡◌ {A = ℕ} 0 1 = cc in absurd (omega arith)
-  headed_no (head_says_no {w = x} {p = y} e o h) {w} {p} q = let z : NoKey x y ≡ NoKey w p = sym e ∙ q in let a : x ≡ w = cc in let c : y ≡ p = cc in (o, h ∙ (λ i. refused (a i) (c i)))
+  pub headed_no : HeadSays object S t cells slots starts found pending flags old before lo hi seen at b r → {w : TextRefusal} → r ≡ Err w → (object ≡ true) × (list_at object lo S t seen at b ≡ refused (number w.refusal) w.place)
+  headed_no (head_says {p = x} e h) {w} q = let f : ◌≡◌ {A = Result KeyPart TextRefusal} (Ok x) (Err w) = sym e ∙ q in let z : ⊥ = cc in absurd z
+  headed_no (head_says_no {e = x} e o h) {w} q =
+      let f : ◌≡◌ {A = Result KeyPart TextRefusal} (Err x) (Err w) = sym e ∙ q in
+      let z : x ≡ w = cc in
+      (o, h ∙ ap (λ (y : TextRefusal). refused (number y.refusal) y.place) z)
 
 -- Items up to level l + 1 are in their frames, and what was to be read is made of them and of what stands at place i; or a value stands there alone.
-pub record Walk (alone object : Bool) (S : Setting) (t : List ℕ) (top : ℕ) (o : Outcome) (old pending-was frames-was : List ℕ) (before : ℕ) (cells slots starts found pending frames flags : List ℕ) (used texts l i : ℕ) : Type 0 where
+pub record Walk (alone object : Bool) (S : Setting) (t : List ℕ) (top : ℕ) (o : Outcome) (old pending-was : List ℕ) (frames-was : List Item) (before : ℕ) (cells slots starts found pending : List ℕ) (frames : List Item) (flags : List Bool) (used texts l i : ℕ) : Type 0 where
   pub seen : List (List ℕ)
   pub known : object ≡ true → Seen S.keys t starts pending texts (l + 1) top seen
   pub flagged : object ≡ true → Flagged S.keys flags seen
@@ -68,13 +67,12 @@ pub record Walk (alone object : Bool) (S : Setting) (t : List ℕ) (top : ℕ) (
   pub more : before ≤ texts
   pub same : (k : ℕ) → k < before → get_or starts k 0 ≡ get_or old k 0
   pub kept : drop top pending ≡ drop top pending-was
-  pub above : Same (3 * top) frames-was frames
-  pub size : length pending ≡ length pending-was
+  pub above : Same top frames-was frames
   pub room : length frames ≡ length frames-was
 
 -- before the first
-pub walk_start : (alone object : Bool) (S : Setting) (t : List ℕ) (level at : ℕ) (pending frames : List ℕ) {cells slots starts found : List ℕ} {used texts : ℕ} → Holds t cells slots starts found used texts S.limit → (alone ≡ false → 3 * level + 3 ≤ length frames)
-    → length S.keys ≤ 56 → Walk alone object S t (level + 1) (items_at alone object level S t [] at (built_in t cells starts used texts)) starts pending frames texts cells slots starts found pending frames (replicate 64 0) used texts level at
+pub walk_start : (alone object : Bool) (S : Setting) (t : List ℕ) (level at : ℕ) (pending : List ℕ) (frames : List Item) {cells slots starts found : List ℕ} {used texts : ℕ} → Holds t cells slots starts found used texts S.limit → (alone ≡ false → level < length frames)
+    → length S.keys ≤ 56 → Walk alone object S t (level + 1) (items_at alone object level S t [] at (built_in t cells starts used texts)) starts pending frames texts cells slots starts found pending frames (replicate 64 false) used texts level at
 walk_start alone object S t level at pending frames {cells} {slots} {starts} {found} {used} {texts} h room few =
     record {
       seen = [];
@@ -89,11 +87,10 @@ walk_start alone object S t level at pending frames {cells} {slots} {starts} {fo
       same = λ k l. refl;
       kept = refl;
       above = record { at = λ j k. refl };
-      size = refl;
       room = refl;
     }
 
-module _ {alone object : Bool} {S : Setting} {t : List ℕ} {top : ℕ} {o : Outcome} {old pending-was frames-was : List ℕ} {before : ℕ} {cells slots starts found pending frames flags : List ℕ} {used texts l i : ℕ} (w : Walk alone object S t top o old pending-was frames-was before cells slots starts found pending frames flags used texts l i) where
+module _ {alone object : Bool} {S : Setting} {t : List ℕ} {top : ℕ} {o : Outcome} {old pending-was : List ℕ} {frames-was : List Item} {before : ℕ} {cells slots starts found pending : List ℕ} {frames : List Item} {flags : List Bool} {used texts l i : ℕ} (w : Walk alone object S t top o old pending-was frames-was before cells slots starts found pending frames flags used texts l i) where
   items_are : alone ≡ false → items_at alone object l S t w.seen i (built_in t cells starts used texts) ≡ list_at object l S t w.seen i (built_in t cells starts used texts)
   items_are a = ap (λ x. items_at x object l S t w.seen i (built_in t cells starts used texts)) a
 
@@ -116,24 +113,24 @@ module _ {alone object : Bool} {S : Setting} {t : List ℕ} {top : ℕ} {o : Out
   pub walk_kept_value : (ps more : List ℕ) → drop l more ≡ drop l ps → drop (l + 1) ps ≡ drop (l + 1) pending → drop top more ≡ drop top pending-was
   walk_kept_value ps more e f = drop_further l top more ps (omega (arith, w.order)) e ∙ walk_kept ps f
 
-  pub walk_above : {fs : List ℕ} → Same (3 * l) frames fs → Same (3 * top) frames-was fs
-  walk_above inner = same_then w.above (same_from (3 * l) (3 * top) (omega (arith, w.order)) inner)
+  pub walk_above : {fs : List Item} → Same l frames fs → Same top frames-was fs
+  walk_above inner = same_then w.above (same_from l top (omega (arith, w.order)) inner)
 
-  pub walk_above_frame : {fs gs : List ℕ} {symbol key v : ℕ} → Same (3 * l) frames fs → FrameSet fs gs l symbol key v → Same (3 * top) frames-was gs
-  walk_above_frame inner set = same_then (walk_above inner) (same_from (3 * l + 3) (3 * top) (omega (arith, w.order)) set.above)
+  pub walk_above_frame : {fs gs : List Item} {symbol key v : ℕ} → Same l frames fs → FrameSet fs gs l symbol key v → Same top frames-was gs
+  walk_above_frame inner set = same_then (walk_above inner) (same_from (l + 1) top (omega (arith, w.order)) set.above)
 
   -- a member is no value alone
   pub walk_many : (alone ≡ true → object ≡ false) → object ≡ true → alone ≡ false
   walk_many single is_object = not_true (λ q. no_object (sym (single q) ∙ is_object))
 
   -- the key is refused
-  pub walk_no_key : (alone ≡ true → object ≡ false) → {k x : ℕ} → (object ≡ true) × (list_at object l S t w.seen i (built_in t cells starts used texts) ≡ refused k x) → {cs ss st fd : List ℕ} → Says t cs ss st fd old before S.limit (Refused k x) o
-  walk_no_key single {k} {x} (is_object, e) =
+  pub walk_no_key : (alone ≡ true → object ≡ false) → {x : TextRefusal} → (object ≡ true) × (list_at object l S t w.seen i (built_in t cells starts used texts) ≡ refused (number x.refusal) x.place) → {cs ss st fd : List ℕ} → Says t cs ss st fd old before S.limit (Err x) o
+  walk_no_key single {x} (is_object, e) =
       let a = walk_many single is_object in
-      says_by (w.is ∙ ap (joins S.limit frames (l + 1) (top - (l + 1))) (items_are a ∙ e) ∙ joins_refused S.limit frames (l + 1) (top - (l + 1)) k x) (says_refused refl)
+      says_by (w.is ∙ ap (joins S.limit frames (l + 1) (top - (l + 1))) (items_are a ∙ e) ∙ joins_refused S.limit frames (l + 1) (top - (l + 1)) (number x.refusal) x.place) (says_refused refl)
 
   -- the key was read: what was to be read, by the value behind it
-  module _ (single : alone ≡ true → object ≡ false) {cs ss st fd ps fl : List ℕ} {symbol : ℕ} {key : number.Row} {first n m : ℕ} (h : Headed object S t cs ss st fd ps fl starts texts l top w.seen i (built_in t cells starts used texts) symbol key first n m) where
+  module _ (single : alone ≡ true → object ≡ false) {cs ss st fd ps : List ℕ} {fl : List Bool} {symbol : ℕ} {key : row_number.Row} {first n m : ℕ} (h : Headed object S t cs ss st fd ps fl starts texts l top w.seen i (built_in t cells starts used texts) symbol key first n m) where
     alone_value : alone ≡ true → o ≡ value l S t first (built_in t cs st n m)
     alone_value a =
         let (e, f) = h.nothing (single a) in
@@ -148,23 +145,23 @@ module _ {alone object : Bool} {S : Setting} {t : List ℕ} {top : ℕ} {o : Out
     more_all : before ≤ m
     more_all = omega (arith, w.more, h.more)
 
-    pub walk_refused : {k x : ℕ} → value l S t first (built_in t cs st n m) ≡ refused k x → {cells' slots' starts' found' : List ℕ} → Says t cells' slots' starts' found' old before S.limit (Refused k x) o
-    walk_refused {k} {x} e = says_by (go alone refl) (says_refused refl)
+    pub walk_refused : {x : TextRefusal} → value l S t first (built_in t cs st n m) ≡ refused (number x.refusal) x.place → {cells' slots' starts' found' : List ℕ} → Says t cells' slots' starts' found' old before S.limit (Err x) o
+    walk_refused {x} e = says_by (go alone refl) (says_refused refl)
       where
-        go : (a : Bool) → alone ≡ a → o ≡ refused k x
+        go : (a : Bool) → alone ≡ a → o ≡ refused (number x.refusal) x.place
         go true q = alone_value q ∙ e
-        go false q = item_is q ∙ ap (joins S.limit frames (l + 1) (top - (l + 1))) (item_refused object l S t h.seen_now symbol key.0 first (built_in t cs st n m) e) ∙ joins_refused S.limit frames (l + 1) (top - (l + 1)) k x
+        go false q = item_is q ∙ ap (joins S.limit frames (l + 1) (top - (l + 1))) (item_refused object l S t h.seen_now symbol key.0 first (built_in t cs st n m) e) ∙ joins_refused S.limit frames (l + 1) (top - (l + 1)) (number x.refusal) x.place
 
     -- the value was read
-    module _ {cells' slots' starts' found' : List ℕ} {v : number.Row} {next n' m' : ℕ} (s : Said t cells' slots' starts' found' st m S.limit (value l S t first (built_in t cs st n m)) v next n' m') where
-      pub walk_alone : alone ≡ true → {r x : Part} → r ≡ x → Says t cells' slots' starts' found' st m S.limit r (value l S t first (built_in t cs st n m)) → Says t cells' slots' starts' found' old before S.limit x o
+    module _ {cells' slots' starts' found' : List ℕ} {v : row_number.Row} {next n' m' : ℕ} (s : Said t cells' slots' starts' found' st m S.limit (value l S t first (built_in t cs st n m)) v next n' m') where
+      pub walk_alone : alone ≡ true → {r x : Result Part TextRefusal} → r ≡ x → Says t cells' slots' starts' found' st m S.limit r (value l S t first (built_in t cs st n m)) → Says t cells' slots' starts' found' old before S.limit x o
       walk_alone a e says = says_by (alone_value a) (says_since old before more_all same_all (subst (λ y. Says t cells' slots' starts' found' st m S.limit y (value l S t first (built_in t cs st n m))) e says))
 
-      pub walk_since : {r : Part} {x : Outcome} {c d : List ℕ} → Says t c d starts' found' starts' m' S.limit r x → Says t c d starts' found' old before S.limit r x
+      pub walk_since : {r : Result Part TextRefusal} {x : Outcome} {c d e f : List ℕ} → Says t c d e f starts' m' S.limit r x → Says t c d e f old before S.limit r x
       walk_since says = says_since old before (omega (arith, more_all, s.more)) (λ k q. s.same k (omega (arith, q, more_all)) ∙ same_all k q) says
 
       -- its frame is made
-      module _ (many : alone ≡ true → ⊥) {fs gs : List ℕ} (inner : Same (3 * l) frames fs) (set : FrameSet fs gs l symbol key.0 v.0) (e : ℕ) (ends : e ≡ space_end t next) where
+      module _ (many : alone ≡ true → ⊥) {fs gs : List Item} (inner : Same l frames fs) (set : FrameSet fs gs l symbol key.0 v.0) (e : ℕ) (ends : e ≡ space_end t next) where
         made : (x : Outcome) → item_at object l S t h.seen_now symbol key.0 first (built_in t cs st n m) ≡ joined S.limit symbol (key_rows symbol key.0 ++ v.0 ∷ []) x → o ≡ joins S.limit gs l (top - l) x
         made x q = item_is (not_true many) ∙ ap (joins S.limit frames (l + 1) (top - (l + 1))) q ∙ frame_made S.limit frames fs gs l top symbol key.0 v.0 w.order inner set x
 
@@ -184,7 +181,7 @@ module _ {alone object : Bool} {S : Setting} {t : List ℕ} {top : ℕ} {o : Out
           rest_is : (x : Outcome) → rest_of object l S t h.seen_now j (built_in t cells' starts' n' m') ≡ x → o ≡ joins S.limit gs l (top - l) x
           rest_is x q = made x (item_rest object l S t h.seen_now symbol key.0 first (built_in t cs st n m) s.outcome e ends comma j from q)
 
-          pub walk_deep : l ≡ 0 → Says t cells' slots' starts' found' old before S.limit (Refused 64 j) o
+          pub walk_deep : l ≡ 0 → Says t cells' slots' starts' found' old before S.limit (Err (record { refusal = TextLevel; place = j })) o
           walk_deep z = says_by (rest_is (refused 64 j) (ap (λ k. rest_of object k S t h.seen_now j (built_in t cells' starts' n' m')) z ∙ go object) ∙ joins_refused S.limit gs l (top - l) 64 j) (says_refused refl)
             where
               go : (b : Bool) → rest_of b 0 S t h.seen_now j (built_in t cells' starts' n' m') ≡ refused 64 j
@@ -198,9 +195,9 @@ module _ {alone object : Bool} {S : Setting} {t : List ℕ} {top : ℕ} {o : Out
               go true = refl
               go false = refl
 
-          pub walk_more : (l ≡ 0 → ⊥) → {ps' : List ℕ} → drop l ps' ≡ drop l ps → drop (l + 1) ps ≡ drop (l + 1) pending → length ps' ≡ length pending → length gs ≡ length frames
+          pub walk_more : (l ≡ 0 → ⊥) → {ps' : List ℕ} → drop l ps' ≡ drop l ps → drop (l + 1) ps ≡ drop (l + 1) pending → length gs ≡ length frames
               → Walk alone object S t top o old pending-was frames-was before cells' slots' starts' found' ps' gs fl n' m' (l - 1) j
-          walk_more z {ps'} kept since size room =
+          walk_more z {ps'} kept since room =
               let back : l - 1 + 1 ≡ l = omega (arith, nonzero) in
               let down : l ≡ suc (l - 1) = omega (arith, nonzero) in
               record {
@@ -216,7 +213,6 @@ module _ {alone object : Bool} {S : Setting} {t : List ℕ} {top : ℕ} {o : Out
                 same = λ k q. s.same k (omega (arith, q, more_all)) ∙ same_all k q;
                 kept = walk_kept_value ps ps' kept since;
                 above = walk_above_frame inner set;
-                size = size ∙ w.size;
                 room = room ∙ w.room;
               }
             where

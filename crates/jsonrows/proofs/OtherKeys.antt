@@ -3,6 +3,7 @@ use mathlib.Core.Path.{◌≡◌, refl, sym, ap, subst, ◌∙◌}
 use mathlib.Core.Bool.{Bool, true, false, cond}
 use mathlib.Core.List.{List, [], ◌∷◌, ◌++◌}
 use mathlib.Core.Option.{Option, none, some}
+use Rattle.std.specs.Prelude.{Ok, Err}
 use Prim.Native.Nat.{ℕ, ◌+◌, ◌-◌, ◌<◌, ◌≤◌}
 use native.Mathlib.Omega.{arith}
 use borrow.Author.Tests.{eqb-true, eq-eqb, ne_eqb}
@@ -16,7 +17,7 @@ use Rattle.model.specs.Table.{Row}
 use Rattle.model.specs.Build.{find_row}
 use Rattle.model.proofs.Tab.{tab_at, length_tab}
 use Rattle.document.specs.Rows.{rows_below}
-use Rattle.document.specs.declared.rows.Row as number
+use Rattle.document.specs.declared.rows.Row as row_number
 use Rattle.document.specs.declared.scalar.Scalar.TheVariants.{Name}
 use Rattle.document.specs.Index.{probe}
 use Rattle.jsontext.specs.Strings.{string_at}
@@ -26,11 +27,12 @@ use Rattle.jsonrows.specs.Keys.{find_text}
 use Rattle.jsonrows.specs.Value.{numbered, number_text}
 use Rattle.jsonrows.specs.Grammar.{Setting, Built, built, Outcome, good, refused, leaf_row, place_row, finish, finish_text, after_text}
 use Rattle.jsonrows.specs.State.{text_at, texts_in, built_in, Holds}
-use Rattle.jsonrows.specs.Texts.{probed_of, ProbedAt}
+use Rattle.jsonrows.specs.Texts.{ProbedAt}
 use Rattle.jsonrows.specs.Seen.{first_listed, of_text, entries, Seen, Flagged, KeyOutcome, key_refused, other_key, key_of, KeySays, key_says, key_says_no, number_of}
-use Rattle.jsonrows.specs.declared.texts.TextProbed.{TextProbed}
-use Rattle.jsonrows.specs.declared.texts.TextProbed.TheVariants.{Known, Free, Crowded}
-use Rattle.jsonrows.specs.declared.members.KeyPart.TheVariants.{Key, NoKey}
+use Rattle.document.specs.declared.index.Probed.{Probed}
+use Rattle.document.specs.declared.index.Probed.TheVariants.{Found, Free, Crowded}
+use Rattle.base.specs.Refusals.{number}
+use Rattle.base.specs.declared.refusal.TextRefusal.{TextRefusal}
 use Rattle.jsonrows.proofs.Finding.{eq_eq_list, eq_list_eq}
 use Rattle.jsonrows.proofs.Holding.{Said, small}
 use Rattle.jsonrows.proofs.Texting.{ProbedText, probe_text, probed_known, probed_free, probed_some}
@@ -47,7 +49,7 @@ module _ {t cells slots starts found : List ℕ} {used texts limit : ℕ} (h : H
     its_own : number < texts → text_at t starts number ≡ key → find_text key (texts_in t starts texts) ≡ some number → NumberFor number
     the_next : number ≡ texts → ((k : ℕ) → k < texts → text_at t starts k ≡ key → ⊥) → find_text key (texts_in t starts texts) ≡ none → NumberFor number
 
-  pub number_for : (p : TextProbed) → ProbedAt t starts found at next p → NumberFor (number_of p texts)
+  pub number_for : (p : Probed) → ProbedAt t starts found at next p → NumberFor (number_of p texts)
   number_for p a = go p a.answer
     where
       bytes : a.bytes ≡ key
@@ -56,8 +58,8 @@ module _ {t cells slots starts found : List ℕ} {used texts limit : ℕ} (h : H
       probed : ProbedText t starts found a.bytes texts (probe found (λ k. same_text (string_at t at) (string_at t (get_or starts k 0))) (text_slot a.bytes))
       probed = probe_text t cells slots starts found used texts limit h at a.bytes next a.string (text_slot a.bytes) refl
 
-      go : (p : TextProbed) → probed_of p ≡ probe found (λ k. same_text (string_at t at) (string_at t (get_or starts k 0))) (text_slot a.bytes) → NumberFor (number_of p texts)
-      go (Known k) e = let (l, q, f) = probed_known probed k e in its_own l (q ∙ bytes) (subst (λ b. find_text b (texts_in t starts texts) ≡ some k) bytes f)
+      go : (p : Probed) → p ≡ probe found (λ k. same_text (string_at t at) (string_at t (get_or starts k 0))) (text_slot a.bytes) → NumberFor (number_of p texts)
+      go (Found r) e = let (l, q, f) = probed_known probed r.0 e in its_own l (q ∙ bytes) (subst (λ b. find_text b (texts_in t starts texts) ≡ some r.0) bytes f)
       go (Free s) e = let f = probed_free probed s e in the_next refl (λ k l q. f.new k l (q ∙ sym bytes)) (subst (λ b. find_text b (texts_in t starts texts) ≡ none) bytes f.nowhere)
       go Crowded e = absurd (probed_some probed e)
 
@@ -77,7 +79,7 @@ module _ {t cells slots starts found : List ℕ} {used texts limit : ℕ} (h : H
         where
           go : (b : Bool) → eq_list key (text_at t starts e) ≡ b → eqb number e ≡ b
           go true p = eq-eqb number e (h.distinct number e l m (q ∙ eq_list_eq key (text_at t starts e) p))
-          go false p = ne_eqb number e (λ g. let r : true ≡ false = sym (eq_eq_list key (text_at t starts e) (sym q ∙ ap (text_at t starts) g)) ∙ p in let z : ◌≡◌ {A = ℕ} 0 1 = cc in omega arith)
+          go false p = ne_eqb number e (λ g. let r : true ≡ false = sym (eq_eq_list key (text_at t starts e) (sym q ∙ ap (text_at t starts) g)) ∙ p in cc)
       apart (the_next q new f) e m = both_false _ _ (λ p. let g = eqb-true number e p in omega (arith, g, q, m)) (λ p. new e m (sym (eq_list_eq key (text_at t starts e) p)))
 
 -- ---- the definition
@@ -104,7 +106,7 @@ finish_texts limit r next b {j} {n} {c} e = go (find_row r b.rows) e
   where
     added : (a : Bool) → cond a (good (length b.rows) next (built (b.rows ++ r ∷ []) b.texts)) (refused 67 (next - 1)) ≡ good j n c → b.texts ≡ c.texts
     added true f = let q : built (b.rows ++ r ∷ []) b.texts ≡ c = cc in ap (λ x. x.texts) q
-    added false f = let z : ◌≡◌ {A = ℕ} 0 1 = cc in absurd (omega arith)
+    added false f = let z : ⊥ = cc in absurd z
 
     go : (o : Option ℕ) → place_row limit r next b o ≡ good j n c → b.texts ≡ c.texts
     go (some i) f = let q : b ≡ c = cc in ap (λ x. x.texts) q
@@ -115,7 +117,7 @@ module _ {t cells slots starts found : List ℕ} {used texts limit : ℕ} (h : H
   b = built_in t cells starts used texts
 
   -- its number is held, and is that of the key
-  module _ {cs ss more found' : List ℕ} {row : number.Row} {after n m : ℕ} (s : Said t cs ss more found' starts texts limit (after_text limit b (string_at t at)) row after n m) where
+  module _ {cs ss more found' : List ℕ} {row : row_number.Row} {after n m : ℕ} (s : Said t cs ss more found' starts texts limit (after_text limit b (string_at t at)) row after n m) where
     finished : finish_text limit key next b ≡ good row.0 after (built_in t cs more n m)
     finished = sym (ap (after_text limit b) string) ∙ s.outcome
 
@@ -138,16 +140,16 @@ module _ {t cells slots starts found : List ℕ} {used texts limit : ℕ} (h : H
     key_is : {o : Outcome} → after_text limit b (string_at t at) ≡ o → key_of S level seen at key next b ≡ other_key key o
     key_is e = key_text_lem S seen at key next b unlisted level deep first ∙ ap (other_key key) (sym (ap (after_text limit b) string) ∙ e)
 
-    pub key_leaf_refused : {cs ss more found' pending flags old : List ℕ} {before top : ℕ} {w p : ℕ} → after_text limit b (string_at t at) ≡ refused w p → KeySays keys t cs ss more found' pending flags old before limit level top seen (NoKey w p) (key_of S level seen at key next b)
-    key_leaf_refused {cs} {ss} {more} {found'} {pending} {flags} {old} {before} {top} {w} {p} e = subst (KeySays keys t cs ss more found' pending flags old before limit level top seen (NoKey w p)) (sym (key_is e)) (key_says_no refl)
+    pub key_leaf_refused : {cs ss more found' pending : List ℕ} {flags : List Bool} {old : List ℕ} {before top : ℕ} {w : TextRefusal} → after_text limit b (string_at t at) ≡ refused (number w.refusal) w.place → KeySays keys t cs ss more found' pending flags old before limit level top seen (Err w) (key_of S level seen at key next b)
+    key_leaf_refused {cs} {ss} {more} {found'} {pending} {flags} {old} {before} {top} {w} e = subst (KeySays keys t cs ss more found' pending flags old before limit level top seen (Err w)) (sym (key_is e)) (key_says_no refl)
 
-    pub key_leaf : {pending flags : List ℕ} {top : ℕ} → Flagged keys flags seen → Seen keys t starts pending texts (level + 1) top seen → level < top → top ≤ length pending
-        → {cs ss more found' : List ℕ} {row : number.Row} {after n m : ℕ} → Said t cs ss more found' starts texts limit (after_text limit b (string_at t at)) row after n m → {number : ℕ} → NumberFor h at key next string number
-        → KeySays keys t cs ss more found' (set pending level number) flags starts texts limit level top seen (Key other row after n m) (key_of S level seen at key next b)
+    pub key_leaf : {pending : List ℕ} {flags : List Bool} {top : ℕ} → Flagged keys flags seen → Seen keys t starts pending texts (level + 1) top seen → level < top → top ≤ length pending
+        → {cs ss more found' : List ℕ} {row : row_number.Row} {after n m : ℕ} → Said t cs ss more found' starts texts limit (after_text limit b (string_at t at)) row after n m → {number : ℕ} → NumberFor h at key next string number
+        → KeySays keys t cs ss more found' (set pending level number) flags starts texts limit level top seen (Ok (record { symbol = other; row = row; next = after; counts = record { used = n; texts = m } })) (key_of S level seen at key next b)
     key_leaf {pending} {flags} {top} marks v l inside {cs} {ss} {more} {found'} {row} {after} {n} {m} s {number} f =
         let (few, is) = number_held s f in
         let own : number < first_listed = omega (arith, few, s.holds.few, s.holds.ready.built.few) in
-        subst (KeySays keys t cs ss more found' (set pending level number) flags starts texts limit level top seen (Key other row after n m)) (sym (key_is s.outcome))
+        subst (KeySays keys t cs ss more found' (set pending level number) flags starts texts limit level top seen (Ok (record { symbol = other; row = row; next = after; counts = record { used = n; texts = m } }))) (sym (key_is s.outcome))
         (key_says
         (record {
           row = row.0;
@@ -170,12 +172,12 @@ module _ {t cells slots starts found : List ℕ} {used texts limit : ℕ} (h : H
         }))
 
 -- a refused key
-pub key_refused_says : {keys : List (List ℕ)} {t cells slots starts found pending flags old : List ℕ} {before limit lo hi : ℕ} {seen : List (List ℕ)} {o : KeyOutcome} {w p : ℕ} → o ≡ key_refused w p → KeySays keys t cells slots starts found pending flags old before limit lo hi seen (NoKey w p) o
-key_refused_says {keys} {t} {cells} {slots} {starts} {found} {pending} {flags} {old} {before} {limit} {lo} {hi} {seen} {o} {w} {p} e =
-    subst (KeySays keys t cells slots starts found pending flags old before limit lo hi seen (NoKey w p)) (sym e) (key_says_no refl)
+pub key_refused_says : {keys : List (List ℕ)} {t cells slots starts found pending : List ℕ} {flags : List Bool} {old : List ℕ} {before limit lo hi : ℕ} {seen : List (List ℕ)} {o : KeyOutcome} {w : TextRefusal} → o ≡ key_refused (number w.refusal) w.place → KeySays keys t cells slots starts found pending flags old before limit lo hi seen (Err w) o
+key_refused_says {keys} {t} {cells} {slots} {starts} {found} {pending} {flags} {old} {before} {limit} {lo} {hi} {seen} {o} {w} e =
+    subst (KeySays keys t cells slots starts found pending flags old before limit lo hi seen (Err w)) (sym e) (key_says_no refl)
 
 -- the number that was worked out
-pub number_by : {t cells slots starts found : List ℕ} {used texts limit : ℕ} (h : Holds t cells slots starts found used texts limit) (at : ℕ) (key : List ℕ) (next : ℕ) (string : string_at t at ≡ got key next) (p : TextProbed) → ProbedAt t starts found at next p → (number : ℕ) → number ≡ number_of p texts → NumberFor h at key next string number
+pub number_by : {t cells slots starts found : List ℕ} {used texts limit : ℕ} (h : Holds t cells slots starts found used texts limit) (at : ℕ) (key : List ℕ) (next : ℕ) (string : string_at t at ≡ got key next) (p : Probed) → ProbedAt t starts found at next p → (number : ℕ) → number ≡ number_of p texts → NumberFor h at key next string number
 number_by h at key next string p a number e = subst (NumberFor h at key next string) (sym e) (number_for h at key next string p a)
 
 -- whether the key stood before, by its entry

@@ -29,7 +29,7 @@ given_is P j n b q (gives {j = i} {n = m} {b = a} h) =
     let y : m ≡ n = cc in
     let z : a ≡ b = cc in
     subst (λ w. w) (λ k. P (x k) (y k) (z k)) h
-given_is P j n b q (gives_none l) = let z : ◌≡◌ {A = ℕ} 0 1 = cc in absurd (omega arith)
+given_is P j n b q (gives_none l) = let z : ⊥ = cc in absurd z
 
 -- what follows from a test that was passed
 pub gives_as : (P Q : ℕ → ℕ → Built → Type 0) {o : Outcome} → ((j n : ℕ) (b : Built) → P j n b → Q j n b) → Gives P o → Gives Q o

@@ -47,8 +47,8 @@ to_the_end t (good j next b) rows = go (eqb (space_end t next) (length t)) refl
   where
     go : (c : Bool) → eqb (space_end t next) (length t) ≡ c → cond c (rows_read b.rows) (refused_at 71 (space_end t next)) ≡ rows_read rows → ToTheEnd t (good j next b) rows
     go true f e = record { row = j; next = next; after = b; outcome = refl; end = eqb-true _ _ f; rows_are = cc }
-    go false f e = let z : ◌≡◌ {A = ℕ} 0 1 = cc in absurd (omega arith)
-to_the_end t (refused w p) rows = λ e. let z : ◌≡◌ {A = ℕ} 0 1 = cc in absurd (omega arith)
+    go false f e = let z : ⊥ = cc in absurd z
+to_the_end t (refused w p) rows = λ e. let z : ⊥ = cc in absurd z
 
 module _ (l : ℕ) (S : Setting) (t : List ℕ) (rows : List Row) where
   pub text_read : read_text l S t ≡ rows_read rows → TableOfText S.keys l S.limit t rows
@@ -72,7 +72,7 @@ keys_pass list text space rows = go (keys_fit? list) refl
   where
     go : (b : Bool) → keys_fit? list ≡ b → cond b (read_text max_levels (setting_for list space) text) (refused_at 74 0) ≡ rows_read rows → (keys_fit? list ≡ true) × (read_text max_levels (setting_for list space) text ≡ rows_read rows)
     go true f e = (f, e)
-    go false f e = let z : ◌≡◌ {A = ℕ} 0 1 = cc in absurd (omega arith)
+    go false f e = let z : ⊥ = cc in absurd z
 
 -- the rows of a text's tree are a sound table
 pub sound_rows : {keys : List (List ℕ)} {t : List ℕ} {tree : Tree} → TreeOfText keys t tree → levels tree ≤ max_levels → length (rows_of tree) ≤ max_rows → (A : Automaton) → Over (length keys) A → SoundTable A (rows_of tree)

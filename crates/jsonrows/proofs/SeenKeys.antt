@@ -51,20 +51,20 @@ module _ (key : List ℕ) where
     where
       behind : (o : Option ℕ) → map suc o ≡ none → o ≡ none
       behind none q = refl
-      behind (some j) q = let z : ◌≡◌ {A = ℕ} 0 1 = cc in absurd (omega arith)
+      behind (some j) q = let z : ⊥ = cc in absurd z
 
       go : (b : Bool) → eq_list key x ≡ b → cond b (some 0) (map suc (find_text key keys)) ≡ none → (k : ℕ) → k < suc (length keys) → key ≡ get_or (x ∷ keys) k [] → (find_text key keys ≡ none → (j : ℕ) → j < length keys → key ≡ get_or keys j [] → ⊥) → ⊥
-      go true f e k l q h = let z : ◌≡◌ {A = ℕ} 0 1 = cc in omega arith
-      go false f e zero l q h = let r : true ≡ false = sym (eq_eq_list key x q) ∙ f in let z : ◌≡◌ {A = ℕ} 0 1 = cc in omega arith
+      go true f e k l q h = cc
+      go false f e zero l q h = let r : true ≡ false = sym (eq_eq_list key x q) ∙ f in cc
       go false f e (suc k) l q h = h (behind (find_text key keys) e) k (omega (arith, l)) q
 
   pub on_line : (keys : List (List ℕ)) (k : ℕ) → find_text key keys ≡ some k → (k < length keys) × (key ≡ get_or keys k [])
   unfolding find_text
-  on_line [] k e = let z : ◌≡◌ {A = ℕ} 0 1 = cc in absurd (omega arith)
+  on_line [] k e = let z : ⊥ = cc in absurd z
   on_line (x ∷ keys) k e = go (eq_list key x) refl e (λ j f. on_line keys j f)
     where
       behind : (o : Option ℕ) → map suc o ≡ some k → ((j : ℕ) → o ≡ some j → (j < length keys) × (key ≡ get_or keys j [])) → (k < suc (length keys)) × (key ≡ get_or (x ∷ keys) k [])
-      behind none q h = let z : ◌≡◌ {A = ℕ} 0 1 = cc in absurd (omega arith)
+      behind none q h = let z : ⊥ = cc in absurd z
       behind (some j) q h = let r : suc j ≡ k = cc in let (l, f) = h j refl in (omega (arith, l, r), f ∙ ap (λ n. get_or (x ∷ keys) n []) r)
 
       go : (b : Bool) → eq_list key x ≡ b → cond b (some 0) (map suc (find_text key keys)) ≡ some k → ((j : ℕ) → find_text key keys ≡ some j → (j < length keys) × (key ≡ get_or keys j [])) → (k < suc (length keys)) × (key ≡ get_or (x ∷ keys) k [])
@@ -109,7 +109,7 @@ line_for_lem keys t starts texts key k few apart e =
       where
         go : (b : Bool) → eq_list key (get_or keys j []) ≡ b → eqb (first_listed + k) (first_listed + j) ≡ b
         go true f = let a : k ≡ j = apart k j l m (sym q ∙ eq_list_eq key (get_or keys j []) f) in eq-eqb (first_listed + k) (first_listed + j) (omega (arith, a))
-        go false f = ne_eqb (first_listed + k) (first_listed + j) (λ g. let a : k ≡ j = omega (arith, g) in let r : true ≡ false = sym (eq_eq_list key (get_or keys j []) (q ∙ ap (λ n. get_or keys n []) a)) ∙ f in let z : ◌≡◌ {A = ℕ} 0 1 = cc in omega arith)
+        go false f = ne_eqb (first_listed + k) (first_listed + j) (λ g. let a : k ≡ j = omega (arith, g) in let r : true ≡ false = sym (eq_eq_list key (get_or keys j []) (q ∙ ap (λ n. get_or keys n []) a)) ∙ f in cc)
 
 -- entries stay what they are while texts are added behind those before
 module _ (keys : List (List ℕ)) (t starts more : List ℕ) (texts : ℕ) where

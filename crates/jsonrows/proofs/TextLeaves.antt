@@ -3,6 +3,7 @@ use mathlib.Core.Path.{◌≡◌, refl, sym, ap, subst, ◌∙◌}
 use mathlib.Core.Bool.{true, false, cond}
 use mathlib.Core.List.{List, [], ◌∷◌, ◌++◌}
 use mathlib.Core.Option.{Option, none, some}
+use Rattle.std.specs.Prelude.{Ok}
 use Prim.Native.Nat.{ℕ, ◌+◌, ◌-◌, ◌<◌}
 use native.Mathlib.Omega.{arith}
 use borrow.Author.Tests.{lt-ltb, le-ltb}
@@ -29,8 +30,7 @@ use Rattle.jsonrows.specs.Value.{numbered}
 use Rattle.jsonrows.specs.Grammar.{Built, built, good, refused, leaf_row, place_row, finish, finish_text, after_text}
 use Rattle.jsonrows.specs.State.{text_at, texts_in, built_in, Holds, Says, says_read}
 use Rattle.jsonrows.specs.Texts.{ProbedAt}
-use Rattle.jsonrows.specs.declared.texts.TextProbed.TheVariants.{Known as KnownText}
-use Rattle.jsonrows.specs.declared.rows.Part.TheVariants.{Read}
+use Rattle.document.specs.declared.index.Probed.TheVariants.{Found}
 use Rattle.jsonrows.proofs.Holding.{says_by, found_inside, after_same}
 use Rattle.jsonrows.proofs.Texting.{Fresh, there, holds_more, texts_more, probe_text, probed_known}
 
@@ -57,7 +57,7 @@ module _ (t cells starts : List ℕ) (used texts limit at : ℕ) (bs : List ℕ)
   text_new e = text_by e ∙ ap (λ n. finish limit (leaf_row text_leaf (Name n)) next (built (rows_below cells used) (texts_in t starts texts ++ bs ∷ []))) texts_are
 
   -- a text that has its number has its leaf's row
-  pub known_says : (slots found : List ℕ) (h : Holds t cells slots starts found used texts limit) → 0 < next → (k : ℕ) → k < texts → find_text bs (texts_in t starts texts) ≡ some k → (row : number.Row) → row.0 ≡ get_or starts (max_rows + k) 0 → Says t cells slots starts found starts texts limit (Read row next used texts) (after_text limit b (string_at t at))
+  pub known_says : (slots found : List ℕ) (h : Holds t cells slots starts found used texts limit) → 0 < next → (k : ℕ) → k < texts → find_text bs (texts_in t starts texts) ≡ some k → (row : number.Row) → row.0 ≡ get_or starts (max_rows + k) 0 → Says t cells slots starts found starts texts limit (Ok (record { row = row; next = next; counts = record { used = used; texts = texts } })) (after_text limit b (string_at t at))
   unfolding finish
   known_says slots found h behind k l e row r =
       let there = h.leaves k l in
@@ -84,24 +84,24 @@ module _ (t cells starts : List ℕ) (used texts limit at : ℕ) (bs : List ℕ)
       leaf_known i e = go put e
         where
           go : {x : Placed} → Put cells slots cs ss used limit (leaf_row text_leaf (Name texts)) x → x ≡ Known i → ⊥
-          go (was j q c d) p = let r : none ≡ some j.0 = sym absent ∙ q in let z : ◌≡◌ {A = ℕ} 0 1 = cc in omega arith
-          go (is j n q l m d) p = let z : ◌≡◌ {A = ℕ} 0 1 = cc in omega arith
-          go (no_room q l) p = let z : ◌≡◌ {A = ℕ} 0 1 = cc in omega arith
+          go (was j q c d) p = let r : none ≡ some j.0 = sym absent ∙ q in cc
+          go (is j n q l m d) p = cc
+          go (no_room q l) p = cc
 
       pub leaf_room : (i : number.Row) → a ≡ Added i → used < limit
       leaf_room i e = go put e
         where
           go : {x : Placed} → Put cells slots cs ss used limit (leaf_row text_leaf (Name texts)) x → x ≡ Added i → used < limit
-          go (was j q c d) p = let z : ◌≡◌ {A = ℕ} 0 1 = cc in absurd (omega arith)
+          go (was j q c d) p = let z : ⊥ = cc in absurd z
           go (is j n q l m d) p = l
-          go (no_room q l) p = let z : ◌≡◌ {A = ℕ} 0 1 = cc in absurd (omega arith)
+          go (no_room q l) p = let z : ⊥ = cc in absurd z
 
-      pub leaf_added : (i : number.Row) → a ≡ Added i → (place behind row_is : ℕ) → place ≡ texts → behind ≡ max_rows + texts → row_is ≡ used → Says t cs ss (set (set starts place at) behind row_is) (set found s (texts + 1)) starts texts limit (Read i next (used + 1) (texts + 1)) (after_text limit b (string_at t at))
+      pub leaf_added : (i : number.Row) → a ≡ Added i → (place behind row_is : ℕ) → place ≡ texts → behind ≡ max_rows + texts → row_is ≡ used → Says t cs ss (set (set starts place at) behind row_is) (set found s (texts + 1)) starts texts limit (Ok (record { row = i; next = next; counts = record { used = used + 1; texts = texts + 1 } })) (after_text limit b (string_at t at))
       leaf_added i e place after row_is p q r =
-          subst (λ st. Says t cs ss st (set found s (texts + 1)) starts texts limit (Read i next (used + 1) (texts + 1)) (after_text limit b (string_at t at))) (λ j. set (set starts (sym p j) at) (sym q j) (sym r j)) (go put e)
+          subst (λ st. Says t cs ss st (set found s (texts + 1)) starts texts limit (Ok (record { row = i; next = next; counts = record { used = used + 1; texts = texts + 1 } })) (after_text limit b (string_at t at))) (λ j. set (set starts (sym p j) at) (sym q j) (sym r j)) (go put e)
         where
-          go : {x : Placed} → Put cells slots cs ss used limit (leaf_row text_leaf (Name texts)) x → x ≡ Added i → Says t cs ss (set (set starts texts at) (max_rows + texts) used) (set found s (texts + 1)) starts texts limit (Read i next (used + 1) (texts + 1)) (after_text limit b (string_at t at))
-          go (was j q c d) p = let z : ◌≡◌ {A = ℕ} 0 1 = cc in absurd (omega arith)
+          go : {x : Placed} → Put cells slots cs ss used limit (leaf_row text_leaf (Name texts)) x → x ≡ Added i → Says t cs ss (set (set starts texts at) (max_rows + texts) used) (set found s (texts + 1)) starts texts limit (Ok (record { row = i; next = next; counts = record { used = used + 1; texts = texts + 1 } })) (after_text limit b (string_at t at))
+          go (was j q c d) p = let z : ⊥ = cc in absurd z
           go (is j n q l m d) p =
               let same : j ≡ i = cc in
               let room : ltb (length (rows_below cells used)) limit ≡ true = lt-ltb (length (rows_below cells used)) limit (omega (arith, rows_are, l)) in
@@ -113,7 +113,7 @@ module _ (t cells starts : List ℕ) (used texts limit at : ℕ) (bs : List ℕ)
               (record {
                 used = used + 1;
                 texts = texts + 1;
-                answer = ap (λ x. Read x next (used + 1) (texts + 1)) (sym same ∙ ap as_row (n ∙ sym rows_are));
+                answer = ap (λ (x : number.Row). Ok (record { row = x; next = next; counts = record { used = used + 1; texts = texts + 1 } })) (sym same ∙ ap as_row (n ∙ sym rows_are));
                 is = λ k. built (sym m k) (sym (texts_more t cells slots starts found used texts limit h at bs next string s f.new f.slot_free few) k);
                 holds = holds_more t cells slots starts found used texts limit h at bs next string s f.new f.slot_free few cs ss m d;
                 inside = omega (arith, rows_are);
@@ -121,14 +121,14 @@ module _ (t cells starts : List ℕ) (used texts limit at : ℕ) (bs : List ℕ)
                 more = omega arith;
                 same = there t cells slots starts found used texts limit h at bs next string s f.new f.slot_free few;
               }))
-          go (no_room q l) p = let z : ◌≡◌ {A = ℕ} 0 1 = cc in absurd (omega arith)
+          go (no_room q l) p = let z : ⊥ = cc in absurd z
 
       pub leaf_full : a ≡ Full → after_text limit b (string_at t at) ≡ refused 67 (next - 1)
       leaf_full e = go put e
         where
           go : {x : Placed} → Put cells slots cs ss used limit (leaf_row text_leaf (Name texts)) x → x ≡ Full → after_text limit b (string_at t at) ≡ refused 67 (next - 1)
-          go (was j q c d) p = let z : ◌≡◌ {A = ℕ} 0 1 = cc in absurd (omega arith)
-          go (is j n q l m d) p = let z : ◌≡◌ {A = ℕ} 0 1 = cc in absurd (omega arith)
+          go (was j q c d) p = let z : ⊥ = cc in absurd z
+          go (is j n q l m d) p = let z : ⊥ = cc in absurd z
           go (no_room q l) p =
               let room : ltb (length (rows_below cells used)) limit ≡ false = le-ltb (length (rows_below cells used)) limit (omega (arith, rows_are, l)) in
               leaf_by absent
@@ -141,12 +141,12 @@ row_inside {cells = cells} {starts = starts} {used = used} h {k} l =
     (omega (arith, l, h.few, h.ready.built.few), omega (arith, inside, length_tab used (row_in cells), h.ready.built.few))
 
 -- a text that the probe found
-module _ {t cells slots starts found : List ℕ} {used texts limit at next k : ℕ} (h : Holds t cells slots starts found used texts limit) (w : ProbedAt t starts found at next (KnownText k)) where
-  numbered_so : (k < texts) × (text_at t starts k ≡ w.bytes) × (find_text w.bytes (texts_in t starts texts) ≡ some k)
-  numbered_so = probed_known (probe_text t cells slots starts found used texts limit h at w.bytes next w.string (text_slot w.bytes) refl) k w.answer
+module _ {t cells slots starts found : List ℕ} {used texts limit at next : ℕ} {n : number.Row} (h : Holds t cells slots starts found used texts limit) (w : ProbedAt t starts found at next (Found n)) where
+  numbered_so : (n.0 < texts) × (text_at t starts n.0 ≡ w.bytes) × (find_text w.bytes (texts_in t starts texts) ≡ some n.0)
+  numbered_so = probed_known (probe_text t cells slots starts found used texts limit h at w.bytes next w.string (text_slot w.bytes) refl) n.0 w.answer
 
-  pub known_inside : (length starts ≡ 2048) × ((k < 1024) × (get_or starts (max_rows + k) 0 < 65536))
+  pub known_inside : (length starts ≡ 2048) × ((n.0 < 1024) × (get_or starts (max_rows + n.0) 0 < 65536))
   known_inside = (h.size, row_inside h numbered_so.0)
 
-  pub known_read : 0 < next → (row : number.Row) → row.0 ≡ get_or starts (max_rows + k) 0 → Says t cells slots starts found starts texts limit (Read row next used texts) (after_text limit (built_in t cells starts used texts) (string_at t at))
-  known_read behind row e = known_says t cells starts used texts limit at w.bytes next w.string slots found h behind k numbered_so.0 numbered_so.2 row e
+  pub known_read : 0 < next → (row : number.Row) → row.0 ≡ get_or starts (max_rows + n.0) 0 → Says t cells slots starts found starts texts limit (Ok (record { row = row; next = next; counts = record { used = used; texts = texts } })) (after_text limit (built_in t cells starts used texts) (string_at t at))
+  known_read behind row e = known_says t cells starts used texts limit at w.bytes next w.string slots found h behind n.0 numbered_so.0 numbered_so.2 row e

@@ -54,7 +54,7 @@ module _ (t cells slots starts found : List ℕ) (used texts limit : ℕ) (h : H
   differs : (k : ℕ) → k < texts → same? k ≡ false → text_at t starts k ≡ bs → ⊥
   differs k l e q =
       let f : true ≡ false = sym (eq_eq_list bs (text_at t starts k) (sym q)) ∙ sym (same_is k l) ∙ e in
-      let z : ◌≡◌ {A = ℕ} 0 1 = cc in absurd (omega arith)
+      let z : ⊥ = cc in absurd z
 
   probed : Answers found texts same? (text_slot bs) (probe found same? (text_slot bs))
   probed =
@@ -151,12 +151,12 @@ pub record Fresh (t starts found bs : List ℕ) (texts s : ℕ) : Type 0 where
 module _ {t starts found bs : List ℕ} {texts : ℕ} where
   pub probed_known : {q : Probed} → ProbedText t starts found bs texts q → (k : ℕ) → Found (as_row k) ≡ q → (k < texts) × (text_at t starts k ≡ bs) × (find_text bs (texts_in t starts texts) ≡ some k)
   probed_known (old_text i l e f) k q = let r : as_row k ≡ as_row i = cc in let a : k ≡ i = ap (λ x. x.0) r in (omega (arith, l, a), ap (text_at t starts) a ∙ e, f ∙ ap some (sym a))
-  probed_known (new_text s a b o) k q = let z : ◌≡◌ {A = ℕ} 0 1 = cc in absurd (omega arith)
+  probed_known (new_text s a b o) k q = let z : ⊥ = cc in absurd z
 
   pub probed_free : {q : Probed} → ProbedText t starts found bs texts q → (s : ℕ) → Free s ≡ q → Fresh t starts found bs texts s
-  probed_free (old_text i l e f) s q = let z : ◌≡◌ {A = ℕ} 0 1 = cc in absurd (omega arith)
+  probed_free (old_text i l e f) s q = let z : ⊥ = cc in absurd z
   probed_free (new_text r a b o) s q = let e : r ≡ s = cc in record { new = a; nowhere = b; slot_free = subst (Opens found (text_slot bs)) e o }
 
   pub probed_some : {q : Probed} → ProbedText t starts found bs texts q → Crowded ≡ q → ⊥
-  probed_some (old_text i l e f) q = let z : ◌≡◌ {A = ℕ} 0 1 = cc in omega arith
-  probed_some (new_text r a b o) q = let z : ◌≡◌ {A = ℕ} 0 1 = cc in omega arith
+  probed_some (old_text i l e f) q = cc
+  probed_some (new_text r a b o) q = cc

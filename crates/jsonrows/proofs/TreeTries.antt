@@ -12,7 +12,8 @@ use Rattle.jsonrows.specs.Value.{Value, null, string, array, object, no_element,
 use Rattle.jsonrows.specs.Meaning.{TreeOfText, leaf_texts, text_numbers}
 use Rattle.jsonrows.specs.Read.{rows_read, refused_at, read_of}
 use Rattle.jsonrows.specs.Answer.{read_answer, space_after}
-use Rattle.jsonrows.specs.declared.JsonRead.TheVariants.{Rows, Refused}
+use Rattle.std.specs.Prelude.{Ok, Err}
+use Rattle.base.specs.declared.refusal.Refusal.TheVariants.{KeyRepeated}
 use Rattle.jsonrows.proofs.Computing.{bytes, within, answered}
 use Rattle.jsonrows.proofs.ReadTexts.{text_read}
 use Rattle.jsonrows.proofs.Exactly.{tree_unique}
@@ -72,7 +73,7 @@ only_tree : (x : Tree) → TreeOfText keys document x → x ≡ tree
 only_tree x h = tree_unique keys document x tree h has_tree
 
 -- the answer: rows, or a refusal and its place
-answers : (read_answer (Rows 3) ≡ rows_read 3) × (read_answer (Refused 72 7) ≡ refused_at 72 7)
+answers : (read_answer (Ok 3) ≡ rows_read 3) × (read_answer (Err (record { refusal = KeyRepeated; place = 7 })) ≡ refused_at 72 7)
 answers = (refl, refl)
 
 -- [true,7] into 55 cells: the rows of the flag, the count, stop and two items at the front, each with its symbol, children, kind and payload, and the rest as it was; all as it was where the text is refused

@@ -1,5 +1,5 @@
 -- The keys of an object so far, as the reader keeps them: an entry for each. Assumes nothing.
-use Rattle.std.specs.Prelude.{◌≡◌, Bool, true, false, cond, ℕ, ◌+◌, ◌-◌, ◌<◌, ◌≤◌, eqb, ltb, length, get_or, take, drop, set}
+use Rattle.std.specs.Prelude.{◌≡◌, Bool, true, false, cond, ℕ, ◌+◌, ◌-◌, ◌<◌, ◌≤◌, eqb, ltb, length, get_or, take, drop, set, Result, Ok, Err}
 use mathlib.Core.List.{List, [], ◌∷◌, ◌++◌, Memᴰ as In}
 use Rattle.std.proofs.Math.Option.{none, some}
 use Rattle.base.specs.Text.{got, fault}
@@ -12,10 +12,12 @@ use Rattle.jsonrows.specs.Signature.{other, text_leaf, key_symbol}
 use Rattle.jsonrows.specs.Keys.{find_text}
 use Rattle.jsonrows.specs.Grammar.{Setting, Built, Outcome, good, refused, Reader, MemberReader, finish_text, member_by}
 use Rattle.jsonrows.specs.State.{text_at, key_rows, built_in, Holds}
-use Rattle.jsonrows.specs.declared.texts.TextProbed.{TextProbed}
-use Rattle.jsonrows.specs.declared.texts.TextProbed.TheVariants.{Known, Free, Crowded}
+use Rattle.document.specs.declared.index.Probed.{Probed}
+use Rattle.document.specs.declared.index.Probed.TheVariants.{Found, Free, Crowded}
+use Rattle.base.specs.Refusals.{number}
+use Rattle.base.specs.declared.refusal.Refusal.TheVariants.{KeyRepeated}
+use Rattle.base.specs.declared.refusal.TextRefusal.{TextRefusal}
 use Rattle.jsonrows.specs.declared.members.KeyPart.{KeyPart}
-use Rattle.jsonrows.specs.declared.members.KeyPart.TheVariants.{Key, NoKey}
 
 -- where the entries of listed keys begin, behind those of texts
 abbrev pub first_listed : ℕ
@@ -40,10 +42,10 @@ pub record Seen (keys : List (List ℕ)) (t starts pending : List ℕ) (texts lo
   pub each : (e : ℕ) → In e (entries pending lo hi) → EntryOf keys t starts texts e
 
 -- Of each line of the list the flag says whether it is among the keys before.
-pub record Flagged (keys : List (List ℕ)) (flags : List ℕ) (seen : List (List ℕ)) : Type 0 where
+pub record Flagged (keys : List (List ℕ)) (flags : List Bool) (seen : List (List ℕ)) : Type 0 where
   pub size : length flags ≡ 64
   pub few : length keys ≤ 56
-  pub each : (k : ℕ) → k < length keys → eqb (get_or flags k 0) 1 ≡ any (eq_list (get_or keys k [])) seen
+  pub each : (k : ℕ) → k < length keys → get_or flags k false ≡ any (eq_list (get_or keys k [])) seen
 
 -- a key with its symbol, what stands before its value, the place after it and what is built; or a refusal's number and place
 pub data KeyOutcome : Type 0 where
@@ -76,11 +78,11 @@ behind_key S t value rest seen (key_good key symbol js next b) = member_by S.lim
 behind_key S t value rest seen (key_refused w p) = refused w p
 
 -- A key was read, and is among those that were seen.
-pub record AfterKey (keys : List (List ℕ)) (t cells slots starts found pending flags old : List ℕ) (before limit lo hi : ℕ) (seen : List (List ℕ)) (r : KeyPart) (key : List ℕ) (symbol : ℕ) (js : List ℕ) (next : ℕ) (b : Built) : Type 0 where
+pub record AfterKey (keys : List (List ℕ)) (t cells slots starts found pending : List ℕ) (flags : List Bool) (old : List ℕ) (before limit lo hi : ℕ) (seen : List (List ℕ)) (r : Result KeyPart TextRefusal) (key : List ℕ) (symbol : ℕ) (js : List ℕ) (next : ℕ) (b : Built) : Type 0 where
   pub row : ℕ
   pub used : ℕ
   pub texts : ℕ
-  pub answer : r ≡ Key symbol (as_row row) next used texts
+  pub answer : r ≡ Ok (record { symbol = symbol; row = as_row row; next = next; counts = record { used = used; texts = texts } })
   pub before_value : js ≡ key_rows symbol row
   pub is : b ≡ built_in t cells starts used texts
   pub holds : Holds t cells slots starts found used texts limit
@@ -93,25 +95,25 @@ pub record AfterKey (keys : List (List ℕ)) (t cells slots starts found pending
   pub flagged : Flagged keys flags (seen ++ key ∷ [])
 
 -- What an answer says of the key that was to be read.
-pub data KeySays (keys : List (List ℕ)) (t cells slots starts found pending flags old : List ℕ) (before limit lo hi : ℕ) (seen : List (List ℕ)) (r : KeyPart) : KeyOutcome → Type 0 where
+pub data KeySays (keys : List (List ℕ)) (t cells slots starts found pending : List ℕ) (flags : List Bool) (old : List ℕ) (before limit lo hi : ℕ) (seen : List (List ℕ)) (r : Result KeyPart TextRefusal) : KeyOutcome → Type 0 where
   key_says : {key : List ℕ} {symbol : ℕ} {js : List ℕ} {next : ℕ} {b : Built} → AfterKey keys t cells slots starts found pending flags old before limit lo hi seen r key symbol js next b → KeySays keys t cells slots starts found pending flags old before limit lo hi seen r (key_good key symbol js next b)
-  key_says_no : {w p : ℕ} → r ≡ NoKey w p → KeySays keys t cells slots starts found pending flags old before limit lo hi seen r (key_refused w p)
+  key_says_no : {e : TextRefusal} → r ≡ Err e → KeySays keys t cells slots starts found pending flags old before limit lo hi seen r (key_refused (number e.refusal) e.place)
 
 -- the answer for listed key k, and its entry, by whether it stood before
-abbrev pub listed_part : Bool → ℕ → ℕ → ℕ → ℕ → ℕ → KeyPart
-listed_part true k at next used texts = NoKey 72 at
-listed_part false k at next used texts = Key (key_symbol k) (as_row 0) next used texts
+abbrev pub listed_part : Bool → ℕ → ℕ → ℕ → ℕ → ℕ → Result KeyPart TextRefusal
+listed_part true k at next used texts = Err (record { refusal = KeyRepeated; place = at })
+listed_part false k at next used texts = Ok (record { symbol = key_symbol k; row = as_row 0; next = next; counts = record { used = used; texts = texts } })
 
 abbrev pub listed_entry : Bool → List ℕ → ℕ → ℕ → List ℕ
 listed_entry true pending level k = pending
 listed_entry false pending level k = set pending level (first_listed + k)
 
-abbrev pub listed_flags : Bool → List ℕ → ℕ → List ℕ
+abbrev pub listed_flags : Bool → List Bool → ℕ → List Bool
 listed_flags true flags k = flags
-listed_flags false flags k = set flags k 1
+listed_flags false flags k = set flags k true
 
 -- the number of a text that the probe found, or the next one
-abbrev pub number_of : TextProbed → ℕ → ℕ
-number_of (Known k) texts = k
+abbrev pub number_of : Probed → ℕ → ℕ
+number_of (Found k) texts = k.0
 number_of (Free s) texts = texts
 number_of Crowded texts = texts

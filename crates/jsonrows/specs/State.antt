@@ -1,5 +1,5 @@
 -- What the reader's parts work on and answer: rows so far in cells with an index over them, and the texts that have numbers by the places where they first stand. Assumes nothing.
-use Rattle.std.specs.Prelude.{◌≡◌, false, cond, ℕ, ◌+◌, ◌-◌, ◌*◌, ◌<◌, ◌≤◌, eqb, length, get_or}
+use Rattle.std.specs.Prelude.{◌≡◌, false, cond, ℕ, ◌+◌, ◌-◌, ◌*◌, ◌<◌, ◌≤◌, eqb, length, get_or, Result, Ok, Err}
 use mathlib.Core.List.{List, [], ◌∷◌, Memᴰ as In}
 use Rattle.std.proofs.Math.Option.{none, some}
 use Rattle.base.specs.Text.{Got, got, fault}
@@ -18,8 +18,12 @@ use Rattle.jsontext.specs.Strings.{string_at}
 use Rattle.jsontext.specs.Decoded.{text_slot}
 use Rattle.jsonrows.specs.Signature.{other, text_leaf}
 use Rattle.jsonrows.specs.Grammar.{Built, built, Outcome, good, refused, leaf_row}
+use Rattle.base.specs.Refusals.{number}
+use Rattle.base.specs.declared.refusal.Refusal.TheVariants.{TextRows}
+use Rattle.base.specs.declared.refusal.TextRefusal.{TextRefusal}
 use Rattle.jsonrows.specs.declared.rows.Part.{Part}
-use Rattle.jsonrows.specs.declared.rows.Part.TheVariants.{Read, Refused}
+use Rattle.jsonrows.specs.declared.tables.Tables.{Tables}
+use Rattle.jsonrows.specs.declared.tables.Counts.{Counts}
 
 -- what stands before the value in a member's row: the text of a key that is not listed
 abbrev pub key_rows : ℕ → ℕ → List ℕ
@@ -66,10 +70,10 @@ pub record Old (used texts : ℕ) (r : Row) : Type 0 where
   pub below : (j : ℕ) → In j r.children → j < used
 
 -- A row was read, after so many texts that stay as they were.
-pub record After (t cells slots starts found old : List ℕ) (before limit : ℕ) (r : Part) (j next : ℕ) (b : Built) : Type 0 where
+pub record After (t cells slots starts found old : List ℕ) (before limit : ℕ) (r : Result Part TextRefusal) (j next : ℕ) (b : Built) : Type 0 where
   pub used : ℕ
   pub texts : ℕ
-  pub answer : r ≡ Read (as_row j) next used texts
+  pub answer : r ≡ Ok (record { row = as_row j; next = next; counts = record { used = used; texts = texts } })
   pub is : b ≡ built_in t cells starts used texts
   pub holds : Holds t cells slots starts found used texts limit
   pub inside : j < used
@@ -78,12 +82,24 @@ pub record After (t cells slots starts found old : List ℕ) (before limit : ℕ
   pub same : (k : ℕ) → k < before → get_or starts k 0 ≡ get_or old k 0
 
 -- What an answer, with the cells, slots, starts and found left behind, says of what was to be read.
-pub data Says (t cells slots starts found old : List ℕ) (before limit : ℕ) (r : Part) : Outcome → Type 0 where
+pub data Says (t cells slots starts found old : List ℕ) (before limit : ℕ) (r : Result Part TextRefusal) : Outcome → Type 0 where
   says_read : {j next : ℕ} {b : Built} → After t cells slots starts found old before limit r j next b → Says t cells slots starts found old before limit r (good j next b)
-  says_refused : {w p : ℕ} → r ≡ Refused w p → Says t cells slots starts found old before limit r (refused w p)
+  says_refused : {e : TextRefusal} → r ≡ Err e → Says t cells slots starts found old before limit r (refused (number e.refusal) e.place)
 
 -- what the builder's answer for a row that ends before `next` becomes
-abbrev pub part_after : ℕ → ℕ → ℕ → Placed → Part
-part_after next used texts (Known i) = Read i next used texts
-part_after next used texts (Added i) = Read i next (used + 1) texts
-part_after next used texts Full = Refused 67 (next - 1)
+abbrev pub part_after : ℕ → ℕ → ℕ → Placed → Result Part TextRefusal
+part_after next used texts (Known i) = Ok (record { row = i; next = next; counts = record { used = used; texts = texts } })
+part_after next used texts (Added i) = Ok (record { row = i; next = next; counts = record { used = used + 1; texts = texts } })
+part_after next used texts Full = Err (record { refusal = TextRows; place = next - 1 })
+
+-- ---- the same of the reader's tables and counts
+
+abbrev pub Held : List ℕ → Tables → Counts → ℕ → Type 0
+Held t b n limit = Holds t b.rows b.slots b.starts b.found n.used n.texts limit
+
+abbrev pub built_of : List ℕ → Tables → Counts → Built
+built_of t b n = built_in t b.rows b.starts n.used n.texts
+
+-- What an answer says, by the tables before and after.
+abbrev pub SaysOf : List ℕ → Tables → Tables → Counts → ℕ → Result Part TextRefusal → Outcome → Type 0
+SaysOf t before after n limit r o = Says t after.rows after.slots after.starts after.found before.starts n.texts limit r o

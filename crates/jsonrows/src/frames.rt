@@ -1,131 +1,50 @@
-// Members and elements whose rest is still to come, one at each level: a symbol, the row of a key's text and a value's row.
+// Members and elements whose rest is still to come, one at each level.
 ghost use Rattle.std.specs.Prelude.{◌≡◌, ◌+◌, ◌-◌, ◌*◌, ◌<◌, ◌≤◌, length};
-ghost use Rattle.jsonrows.specs.Signature.{text_leaf};
 ghost use Rattle.jsonrows.specs.Grammar.{good, close_at};
-ghost use Rattle.jsonrows.specs.State.{built_in, Holds, Says};
-ghost use Rattle.jsonrows.specs.Frames.{joins, Framed, FrameSet};
+ghost use Rattle.jsonrows.specs.State.{built_of, Held, SaysOf};
+ghost use Rattle.jsonrows.specs.Items.{mark_of, leaf_of};
+ghost use Rattle.jsonrows.specs.Frames.{joins, Framed};
 
-use crate::rows::{Part, STARTS, close, join};
-use document::index::SLOTS;
-use document::near::NEAR;
-use document::rows::Row;
-use document::words::CELLS;
+use crate::rows::{Part, close, join};
+use crate::tables::{Counts, Item, LEVELS, Source, Tables};
+use base::refusal::TextRefusal;
 
-// The cells of a frame.
-pub(crate) const FRAME: usize = 3;
-
-// The frame at a level is made.
-pub(crate) fn put_frame(frames: &mut [u16], level: usize, symbol: u16, key: Row, value: Row)
-    requires { 3 * level + 3 ≤ length frames.old }
-    ensures { FrameSet frames.old frames.new level symbol key.0 value.0 }
-{
-    let i = FRAME * level;
-    frames[i] = symbol;
-    frames[i + 1] = key.0;
-    frames[i + 2] = value.0;
-}
-
-// The rows of the items from the lowest frame up to `top`, each over its value and the one before.
+// The rows of the items from the lowest frame up to `top`, each over its value and the one before, the first over the last part.
 fn unwind(
-    text: &[u8],
-    starts: &[usize; STARTS],
-    found: &[u16; SLOTS],
-    rows: &mut [u16; CELLS],
-    slots: &mut [u16; SLOTS],
-    near: &mut [u16; NEAR],
-    frames: &[u16],
-    used: u16,
-    texts: u16,
-    limit: u16,
-    next: usize,
-    row: Row,
+    source: &Source,
+    tables: &mut Tables,
+    frames: &[Item; LEVELS],
+    last: Part,
     low: usize,
     top: usize,
-) -> Part
-    requires holds { Holds text.now rows.old slots.old starts.now found.now used texts limit }
-    requires read { (row.0 < used) × (0 < next) }
-    requires framed { Framed frames.now used low top }
-    ensures { Says text.now rows.new slots.new starts.now found.now starts.now texts limit result (joins limit frames.now low (top - low) (good row.0 next (built_in text.now rows.old starts.now used texts))) }
+) -> Result<Part, TextRefusal>
+    requires holds { Held source.now.text.now tables.old last.counts source.now.limit }
+    requires read { (last.row.0 < last.counts.used) × (0 < last.next) }
+    requires framed { Framed frames.now last.counts.used low top }
+    ensures { SaysOf source.now.text.now tables.old tables.new last.counts source.now.limit result (joins source.now.limit frames.now low (top - low) (good last.row.0 last.next (built_of source.now.text.now tables.old last.counts))) }
 {
-    let mut r = row;
-    let mut p = next;
-    let mut n = used;
-    let mut m = texts;
-    let mut l = low;
-    while l < top {
-        let i = FRAME * l;
-        match join(
-            text,
-            starts,
-            found,
-            &mut *rows,
-            &mut *slots,
-            &mut *near,
-            n,
-            m,
-            limit,
-            p,
-            frames[i],
-            Row(frames[i + 1]),
-            Row(frames[i + 2]),
-            r,
-        ) {
-            Part::Refused(w, q) => {
-                return Part::Refused(w, q);
-            },
-            Part::Read(x, q, y, z) => {
-                r = x;
-                p = q;
-                n = y;
-                m = z;
-                l += 1;
-            },
-        }
+    let mut part = last;
+    for l in low..top {
+        part = join(source, &mut *tables, frames[l], part)?;
     }
-    Part::Read(r, p, n, m)
+    Ok(part)
 }
 
 // The closing mark and its leaf, then the rows of all items.
 pub(crate) fn close_items(
-    text: &[u8],
-    starts: &[usize; STARTS],
-    found: &[u16; SLOTS],
-    rows: &mut [u16; CELLS],
-    slots: &mut [u16; SLOTS],
-    near: &mut [u16; NEAR],
-    frames: &[u16],
-    used: u16,
-    texts: u16,
-    limit: u16,
+    source: &Source,
+    tables: &mut Tables,
+    frames: &[Item; LEVELS],
+    counts: Counts,
     at: usize,
-    mark: u8,
-    closing: u16,
+    object: bool,
     low: usize,
     top: usize,
-) -> Part
-    requires holds { Holds text.now rows.old slots.old starts.now found.now used texts limit }
-    requires printed { 0 < mark }
-    requires plain { closing ≡ text_leaf → ⊥ }
-    requires framed { Framed frames.now used low top }
-    ensures { Says text.now rows.new slots.new starts.now found.now starts.now texts limit result (joins limit frames.now low (top - low) (close_at limit text.now mark closing at (built_in text.now rows.old starts.now used texts))) }
+) -> Result<Part, TextRefusal>
+    requires holds { Held source.now.text.now tables.old counts source.now.limit }
+    requires framed { Framed frames.now counts.used low top }
+    ensures { SaysOf source.now.text.now tables.old tables.new counts source.now.limit result (joins source.now.limit frames.now low (top - low) (close_at source.now.limit source.now.text.now (mark_of object) (leaf_of object) at (built_of source.now.text.now tables.old counts))) }
 {
-    match close(
-        text,
-        starts,
-        found,
-        &mut *rows,
-        &mut *slots,
-        &mut *near,
-        used,
-        texts,
-        limit,
-        at,
-        mark,
-        closing,
-    ) {
-        Part::Refused(w, p) => Part::Refused(w, p),
-        Part::Read(r, next, n, m) => unwind(
-            text, starts, found, rows, slots, near, frames, n, m, limit, next, r, low, top,
-        ),
-    }
+    let last = close(source, &mut *tables, counts, at, object)?;
+    unwind(source, tables, frames, last, low, top)
 }

@@ -8,17 +8,19 @@ ghost use Rattle.document.specs.Hash.{row_hash};
 ghost use Rattle.document.specs.Words.{Words};
 ghost use Rattle.jsonrows.specs.Signature.{other, text_leaf};
 ghost use Rattle.jsonrows.specs.Grammar.{leaf_row, node_row, finish, close_at};
-ghost use Rattle.jsonrows.specs.State.{key_rows, built_in, Holds, Old, Says, part_after};
+ghost use Rattle.jsonrows.specs.Items.{mark_of, leaf_of};
+ghost use Rattle.jsonrows.specs.State.{key_rows, built_of, Held, Old, SaysOf, part_after};
 
-use base::limits::{MAX_ROWS, UNUSED};
+use crate::tables::{Counts, Item, Source, Tables};
+use base::limits::UNUSED;
+use base::refusal::{Refusal, TextRefusal};
 use base::text::byte_at;
 use document::builder::Placed;
 use document::fresh::add_new;
 use document::hash::node_hash;
-use document::index::SLOTS;
-use document::near::{NEAR, near_row, place_row};
+use document::near::{near_row, place_row};
 use document::rows::Row;
-use document::words::{CELLS, low_cell, word};
+use document::words::{RowWords, low_cell, word};
 use document::{Scalar, scalar};
 
 // What one cell holds, and what two do.
@@ -26,28 +28,20 @@ const CELL: u64 = 65536;
 
 const TWO_CELLS: u64 = 4294967296;
 
-// As many texts as a table has rows, since each has a row.
-pub(crate) const TEXTS: usize = MAX_ROWS as usize;
+// The symbols that close an object and an array: numbers, as the cells of a row hold them, and so are all others.
+pub(crate) const END: u16 = 0;
 
-// Where each text first stands, and behind that the row of its leaf.
-pub(crate) const STARTS: usize = 2 * TEXTS;
+const STOP: u16 = 1;
 
 // The symbol of an unlisted key.
 pub(crate) const OTHER: u16 = 2;
 
-// A row, the place after what was read, and how many rows and texts there are then; or a refusal's number and place.
+// What was read: its row, the place after it, and the counts then.
 #[derive(Clone, Copy)]
-pub(crate) enum Part {
-    Read(Row, usize, u16, u16),
-    Refused(u16, usize),
-}
-
-// A row as the builder takes it: four cells, four, and two, in each number the first cell lowest.
-#[derive(Clone, Copy)]
-pub(crate) struct RowWords {
-    pub(crate) a: u64,
-    pub(crate) b: u64,
-    pub(crate) c: u64,
+pub(crate) struct Part {
+    pub(crate) row: Row,
+    pub(crate) next: usize,
+    pub(crate) counts: Counts,
 }
 
 // A row without children, by the kind and the payload of its scalar.
@@ -69,171 +63,157 @@ pub(crate) fn leaf(symbol: u16, scalar: Scalar) -> RowWords
 }
 
 // The row of a member or an element: its value and its rest, behind the text of a key that is not listed.
-fn node(symbol: u16, key: Row, value: Row, rest: Row) -> RowWords
-    requires { (key.0 < 65535) × (value.0 < 65535) × (rest.0 < 65535) }
-    ensures { Words (node_row symbol ((key_rows symbol key.0 ++ value.0 ∷ []) ++ rest.0 ∷ [])) result.a result.b result.c }
+fn node(item: Item, rest: Row) -> RowWords
+    requires { (item.key.0 < 65535) × (item.value.0 < 65535) × (rest.0 < 65535) }
+    ensures { Words (node_row item.symbol ((key_rows item.symbol item.key.0 ++ item.value.0 ∷ []) ++ rest.0 ∷ [])) result.a result.b result.c }
 {
-    if symbol == OTHER {
-        return RowWords {
-            a: word(symbol, key.0, value.0, rest.0),
-            b: word(UNUSED, 0, 0, 0),
-            c: 0,
-        };
+    let b = word(UNUSED, 0, 0, 0);
+    if item.symbol == OTHER {
+        let a = word(item.symbol, item.key.0, item.value.0, rest.0);
+        return RowWords { a, b, c: 0 };
     }
-    RowWords {
-        a: word(symbol, value.0, rest.0, UNUSED),
-        b: word(UNUSED, 0, 0, 0),
-        c: 0,
-    }
+    let a = word(item.symbol, item.value.0, rest.0, UNUSED);
+    RowWords { a, b, c: 0 }
 }
 
 // The hash of that row.
-fn hash_of(symbol: u16, key: Row, value: Row, rest: Row) -> u32
-    ensures { result ≡ row_hash (encode_row (node_row symbol ((key_rows symbol key.0 ++ value.0 ∷ []) ++ rest.0 ∷ []))) }
+fn hash_of(item: Item, rest: Row) -> u32
+    ensures { result ≡ row_hash (encode_row (node_row item.symbol ((key_rows item.symbol item.key.0 ++ item.value.0 ∷ []) ++ rest.0 ∷ []))) }
 {
-    if symbol == OTHER {
-        return node_hash(symbol, key.0, value.0, rest.0);
+    if item.symbol == OTHER {
+        return node_hash(item.symbol, item.key.0, item.value.0, rest.0);
     }
-    node_hash(symbol, value.0, rest.0, UNUSED)
+    node_hash(item.symbol, item.value.0, rest.0, UNUSED)
 }
 
 // What becomes of a row that ends before `next`, by the builder's answer.
-fn part_after(placed: Placed, next: usize, used: u16, texts: u16) -> Part
-    requires { (0 < next) × (used < 65535) }
-    ensures { result ≡ part_after next used texts placed }
+fn part_after(placed: Placed, next: usize, counts: Counts) -> Result<Part, TextRefusal>
+    requires { (0 < next) × (counts.used < 65535) }
+    ensures { result ≡ part_after next counts.used counts.texts placed }
 {
     match placed {
-        Placed::Known(i) => Part::Read(i, next, used, texts),
-        Placed::Added(i) => Part::Read(i, next, used + 1, texts),
-        Placed::Full => Part::Refused(67, next - 1),
+        Placed::Known(row) => Ok(Part { row, next, counts }),
+        Placed::Added(row) => Ok(Part {
+            row,
+            next,
+            counts: Counts {
+                used: counts.used + 1,
+                texts: counts.texts,
+            },
+        }),
+        Placed::Full => Err(TextRefusal {
+            refusal: Refusal::TextRows,
+            place: next - 1,
+        }),
     }
 }
 
 // The row of the words, which is not that of a text still to come, is finished before `next`: it is looked up.
 pub(crate) fn settle(
-    text: &[u8],
-    starts: &[usize; STARTS],
-    found: &[u16; SLOTS],
-    rows: &mut [u16; CELLS],
-    slots: &mut [u16; SLOTS],
-    near: &mut [u16; NEAR],
-    used: u16,
-    texts: u16,
-    limit: u16,
+    source: &Source,
+    tables: &mut Tables,
+    counts: Counts,
     next: usize,
-    a: u64,
-    b: u64,
-    c: u64,
-) -> Part
-    requires holds { Holds text.now rows.old slots.old starts.now found.now used texts limit }
+    w: RowWords,
+) -> Result<Part, TextRefusal>
+    requires holds { Held source.now.text.now tables.old counts source.now.limit }
     requires behind { 0 < next }
-    ensures { (x : table.Row) → Words x a b c → Old used texts x → Says text.now rows.new slots.new starts.now found.now starts.now texts limit result (finish limit x next (built_in text.now rows.old starts.now used texts)) }
+    ensures { (x : table.Row) → Words x w.a w.b w.c → Old counts.used counts.texts x → SaysOf source.now.text.now tables.old tables.new counts source.now.limit result (finish source.now.limit x next (built_of source.now.text.now tables.old counts)) }
 {
-    let placed = place_row(rows, slots, near, used, limit, a, b, c);
-    part_after(placed, next, used, texts)
+    let placed = place_row(
+        &mut tables.rows,
+        &mut tables.slots,
+        &mut tables.near,
+        counts.used,
+        source.limit,
+        w,
+    );
+    part_after(placed, next, counts)
 }
 
 // The row of the words, which is not that of a text still to come, is finished before `next`: it is near at hand, or looked up.
 pub(crate) fn finish(
-    text: &[u8],
-    starts: &[usize; STARTS],
-    found: &[u16; SLOTS],
-    rows: &mut [u16; CELLS],
-    slots: &mut [u16; SLOTS],
-    near: &mut [u16; NEAR],
-    used: u16,
-    texts: u16,
-    limit: u16,
+    source: &Source,
+    tables: &mut Tables,
+    counts: Counts,
     next: usize,
-    a: u64,
-    b: u64,
-    c: u64,
-) -> Part
-    requires holds { Holds text.now rows.old slots.old starts.now found.now used texts limit }
+    w: RowWords,
+) -> Result<Part, TextRefusal>
+    requires holds { Held source.now.text.now tables.old counts source.now.limit }
     requires behind { 0 < next }
-    ensures { (x : table.Row) → Words x a b c → Old used texts x → Says text.now rows.new slots.new starts.now found.now starts.now texts limit result (finish limit x next (built_in text.now rows.old starts.now used texts)) }
+    ensures { (x : table.Row) → Words x w.a w.b w.c → Old counts.used counts.texts x → SaysOf source.now.text.now tables.old tables.new counts source.now.limit result (finish source.now.limit x next (built_of source.now.text.now tables.old counts)) }
 {
-    let row = near_row(&*rows, &*near, used, a, b, c);
-    if row.0 < used {
-        return Part::Read(row, next, used, texts);
+    if let Some(row) = near_row(&tables.rows, &tables.near, counts.used, w) {
+        return Ok(Part { row, next, counts });
     }
-    settle(
-        text, starts, found, rows, slots, near, used, texts, limit, next, a, b, c,
-    )
+    settle(source, tables, counts, next, w)
 }
 
-// The row of a member or an element, whose value and rest are read. Over the last row it is new, since no row below has that one as a child.
+// The row of a member or an element, whose rest is read too. Over the last row it is new, since no row below has that one as a child.
 pub(crate) fn join(
-    text: &[u8],
-    starts: &[usize; STARTS],
-    found: &[u16; SLOTS],
-    rows: &mut [u16; CELLS],
-    slots: &mut [u16; SLOTS],
-    near: &mut [u16; NEAR],
-    used: u16,
-    texts: u16,
-    limit: u16,
-    next: usize,
-    symbol: u16,
-    key: Row,
-    value: Row,
-    rest: Row,
-) -> Part
-    requires holds { Holds text.now rows.old slots.old starts.now found.now used texts limit }
-    requires behind { 0 < next }
-    requires plain { symbol ≡ text_leaf → ⊥ }
-    requires inside { (key.0 < 65535) × (value.0 < used) × (rest.0 < used) }
-    requires own { symbol ≡ other → key.0 < used }
-    ensures { Says text.now rows.new slots.new starts.now found.now starts.now texts limit result (finish limit (node_row symbol ((key_rows symbol key.0 ++ value.0 ∷ []) ++ rest.0 ∷ [])) next (built_in text.now rows.old starts.now used texts)) }
+    source: &Source,
+    tables: &mut Tables,
+    item: Item,
+    rest: Part,
+) -> Result<Part, TextRefusal>
+    requires holds { Held source.now.text.now tables.old rest.counts source.now.limit }
+    requires behind { 0 < rest.next }
+    requires plain { item.symbol ≡ text_leaf → ⊥ }
+    requires inside { (item.key.0 < 65535) × (item.value.0 < rest.counts.used) × (rest.row.0 < rest.counts.used) }
+    requires own { item.symbol ≡ other → item.key.0 < rest.counts.used }
+    ensures { SaysOf source.now.text.now tables.old tables.new rest.counts source.now.limit result (finish source.now.limit (node_row item.symbol ((key_rows item.symbol item.key.0 ++ item.value.0 ∷ []) ++ rest.row.0 ∷ [])) rest.next (built_of source.now.text.now tables.old rest.counts)) }
 {
-    let w = node(symbol, key, value, rest);
-    if (value.0 + 1 == used) | (rest.0 + 1 == used) {
-        let hash = hash_of(symbol, key, value, rest);
-        let placed = add_new(rows, slots, used, limit, hash, w.a, w.b, w.c);
-        return part_after(placed, next, used, texts);
+    let counts = rest.counts;
+    let w = node(item, rest.row);
+    if (item.value.0 + 1 == counts.used) | (rest.row.0 + 1 == counts.used) {
+        let placed = add_new(
+            &mut tables.rows,
+            &mut tables.slots,
+            counts.used,
+            source.limit,
+            hash_of(item, rest.row),
+            w,
+        );
+        return part_after(placed, rest.next, counts);
     }
-    finish(
-        text, starts, found, rows, slots, near, used, texts, limit, next, w.a, w.b, w.c,
-    )
+    finish(source, tables, counts, rest.next, w)
+}
+
+// What closes an object or an array.
+pub(crate) fn mark(object: bool) -> u8
+    ensures { (result ≡ mark_of object) × (0 < result) }
+{
+    if object { b'}' } else { b']' }
+}
+
+fn closing(object: bool) -> u16
+    ensures { (result ≡ leaf_of object) × (result < 2) }
+{
+    if object { END } else { STOP }
 }
 
 // The closing mark of an object or an array, and its leaf.
 pub(crate) fn close(
-    text: &[u8],
-    starts: &[usize; STARTS],
-    found: &[u16; SLOTS],
-    rows: &mut [u16; CELLS],
-    slots: &mut [u16; SLOTS],
-    near: &mut [u16; NEAR],
-    used: u16,
-    texts: u16,
-    limit: u16,
+    source: &Source,
+    tables: &mut Tables,
+    counts: Counts,
     at: usize,
-    mark: u8,
-    symbol: u16,
-) -> Part
-    requires holds { Holds text.now rows.old slots.old starts.now found.now used texts limit }
-    requires printed { 0 < mark }
-    requires plain { symbol ≡ text_leaf → ⊥ }
-    ensures { Says text.now rows.new slots.new starts.now found.now starts.now texts limit result (close_at limit text.now mark symbol at (built_in text.now rows.old starts.now used texts)) }
+    object: bool,
+) -> Result<Part, TextRefusal>
+    requires holds { Held source.now.text.now tables.old counts source.now.limit }
+    ensures { SaysOf source.now.text.now tables.old tables.new counts source.now.limit result (close_at source.now.limit source.now.text.now (mark_of object) (leaf_of object) at (built_of source.now.text.now tables.old counts)) }
 {
-    if byte_at(text, at) != mark {
-        return Part::Refused(71, at);
+    if byte_at(source.text, at) != mark(object) {
+        return Err(TextRefusal {
+            refusal: Refusal::JsonFault,
+            place: at,
+        });
     }
-    let w = leaf(symbol, Scalar::Bare);
     finish(
-        text,
-        starts,
-        found,
-        rows,
-        slots,
-        near,
-        used,
-        texts,
-        limit,
+        source,
+        tables,
+        counts,
         at + 1,
-        w.a,
-        w.b,
-        w.c,
+        leaf(closing(object), Scalar::Bare),
     )
 }

@@ -2,7 +2,7 @@
 use mathlib.Core.Path.{◌≡◌, refl, sym, ap, ap₂, ◌∙◌, subst}
 use mathlib.Core.Bool.{true}
 use mathlib.Core.List.{List, ◌∷◌, [], ◌++◌, map}
-use Prim.Native.Nat.{ℕ, ◌+◌, ◌-◌, ◌*◌, ◌%◌, ◌^◌, ◌<◌, ◌≤◌}
+use Prim.Native.Nat.{ℕ, ◌+◌, ◌-◌, ◌*◌, ◌%◌, ◌^◌, ◌<◌, ◌≤◌, zero-le}
 use native.Mathlib.Omega.{arith}
 use lib.Bits.{bit_or, bit_xor}
 use lib.ListN.{length, take, drop, length-take, length-drop}
@@ -38,6 +38,16 @@ module _ (s : List ℕ) (i : ℕ) (t : List ℕ) (j : ℕ) where
           let l : k - j < n = omega arith in
           let q : byte_at s (i + (k - j)) ≡ byte_at t k = sym (at_part s i (k - j) l) ∙ ap (λ (y : List ℕ). byte_at y (k - j)) e ∙ at_part t j (k - j) l ∙ ap (byte_at t) z in
           ap plain? (sym q) ∙ p.each (i + (k - j)) (omega arith) (omega arith)
+
+  -- two parts that are the same
+  pub alike_parts : (n : ℕ) → i + n ≤ length s → j + n ≤ length t → Plains (part t j (j + n)) 0 (length (part t j (j + n))) → part t j (j + n) ≡ part s i (i + n) → Alike s i t j n
+  alike_parts n h l p e = alike_of n (record { forward = omega arith; inside = h; each = λ k a b. there k a b }) (sym e) l
+    where
+      there : (k : ℕ) → i ≤ k → k < i + n → plain? (byte_at s k) ≡ true
+      there k a b =
+          let z : k ≡ i + (k - i) = omega arith in
+          ap plain? (ap (byte_at s) z ∙ sym (get_or-take (i + n - i) (drop i s) (k - i) 0 (omega arith) ∙ get_or-drop i s (k - i) 0) ∙ ap (λ (xs : List ℕ). byte_at xs (k - i)) (sym e))
+          ∙ p.each (k - i) zero-le (omega (arith, length-take (j + n - j) (drop j t), length-drop j t))
 
   pub alike_none : i ≤ length s → j ≤ length t → Alike s i t j 0
   alike_none h k =

@@ -120,10 +120,6 @@ module _ (xs : List ℕ) (eight : length xs ≡ 8) (v : Bytes xs) (w : ℕ) (e :
       let all = spread_or xs v _ _ _ _ (spread_xor xs v _ _ _ _ plain (same 128 (omega arith))) (spread_byte xs v w e) in
       spread_as xs v _ marked mark (spread_and xs v _ _ _ _ all (same 128 (omega arith))) marked_is
 
--- the sums fit into the word
-pub above_room : (w : ℕ) → bit_and w 9187201950435737471 + 6944656592455360608 < 2 ^ 64
-above_room w = omega (arith, and_le_r w 9187201950435737471)
-
 pub other_room : (w q : ℕ) → q < 2 ^ 63 → bit_xor (bit_and w 9187201950435737471) q + 9187201950435737471 < 2 ^ 64
 other_room w q h = omega (arith, xor_lt 63 (bit_and w 9187201950435737471) q (omega (arith, and_le_r w 9187201950435737471)) h)
 

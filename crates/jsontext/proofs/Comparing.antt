@@ -73,10 +73,6 @@ cancel : (out xs ys : List ℕ) → out ++ xs ≡ out ++ ys → xs ≡ ys
 cancel out xs ys e = sym (drop-append_seam out xs) ∙ ap (drop (length out)) e ∙ drop-append_seam out ys
 
 module _ (t : List ℕ) (at i : ℕ) (out : List ℕ) (s : Scanned t at i out) where
-  -- read so far, it is whole: more bytes follow
-  pub scanned_whole : (line : List ℕ) (n : ℕ) → string_at t at ≡ got line n → (more : List ℕ) × (line ≡ out ++ more)
-  scanned_whole line n e = front_is out line n (string_from s.fuel t i) (sym e ∙ s.string)
-
   -- where a char follows, more than those
   char_whole : (w m n : ℕ) (c : Character t i w m n) (line : List ℕ) (k : ℕ) → string_at t at ≡ got line k → (more : List ℕ) × (line ≡ out ++ (c.bs ++ more))
   char_whole w m n c line k e =
@@ -107,9 +103,6 @@ pub record Both (t : List ℕ) (a b i j : ℕ) : Type 0 where
   pub out : List ℕ
   pub first : Scanned t a i out
   pub second : Scanned t b j out
-
-pub both_begin : (t : List ℕ) (a b : ℕ) → Scanned t a (a + 1) [] × Scanned t b (b + 1) [] → Both t a b (a + 1) (b + 1)
-both_begin t a b v = record { out = []; first = v.0; second = v.1 }
 
 module _ (t : List ℕ) (a b i j : ℕ) (v : Both t a b i j) where
   pub both_alike : (n : ℕ) → Alike t i t j n → Both t a b (i + n) (j + n)

@@ -5,7 +5,7 @@ use Prim.Native.Nat.{ℕ, ◌+◌}
 use Rattle.base.specs.Text.{byte_at, got, fault}
 use Rattle.jsontext.specs.Strings.{bad, piece_at, string_at}
 use Rattle.jsontext.specs.Decoded.{text_slot, as_slot}
-use Rattle.jsontext.specs.declared.slots.Kept.{Kept}
+use Rattle.jsontext.specs.declared.kept.Kept.{Kept}
 use Rattle.jsontext.specs.Kept.{Keeps}
 use Rattle.jsontext.specs.Scanned.{part, Scanned}
 use Rattle.jsontext.specs.StringAnswers.{Plains}

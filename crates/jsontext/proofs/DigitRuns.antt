@@ -1,44 +1,67 @@
 -- Digits as they are carried, digit by digit: what the loop knows at its head. Assumes nothing.
-use mathlib.Core.Path.{◌≡◌, refl, sym, ap, ◌∙◌}
-use mathlib.Core.Bool.{Bool, true, false}
+use mathlib.Core.Path.{◌≡◌, refl, sym, ap, ◌∙◌, subst}
+use mathlib.Core.Bool.{Bool, true, false, cond}
 use mathlib.Core.List.{List}
-use Prim.Native.Nat.{ℕ, suc, ◌+◌, ◌-◌, ◌*◌, ◌/◌, ◌^◌, ◌<◌, ◌≤◌, min}
+use Prim.Native.Nat.{ℕ, suc, ◌+◌, ◌-◌, ◌*◌, ◌/◌, ◌^◌, ◌<◌, ◌≤◌}
 use native.Mathlib.Omega.{arith}
-use borrow.Author.Tests.{lt-ltb, le-ltb}
+use borrow.Author.Tests.{lt-ltb, le-ltb, ltb-true, ltb-false}
+use lib.Dec.{ltb}
 use lib.ListN.{length}
 use Rattle.base.specs.Text.{byte_at, got}
 use Rattle.base.proofs.Tenths.{tenth_fits, tenth_past}
 use Rattle.classes.specs.Classes.{digit?}
 use Rattle.jsontext.specs.Number.{Digits, with_digit, digits_from}
-use Rattle.jsontext.specs.NumberAnswer.{Short, carried, carried_at, Bounded}
+use Rattle.jsontext.specs.NumberAnswer.{Short, ShortRead, carried, carried_at, Bounded}
 use Rattle.jsontext.proofs.Rates.{power_more, power_below}
 use Rattle.jsontext.specs.declared.number.DigitRun.{DigitRun}
-use Rattle.jsontext.specs.declared.number.DigitsRead.TheVariants.{Digits as Run}
+use Rattle.std.specs.Prelude.{Option, Some, None, Ok, unwrap_or}
 
 -- a run of digits with these fields
-abbrev run : ℕ → Bool → ℕ → DigitRun
-run v f n = record { value = v; fits = f; count = n }
+abbrev run : Option ℕ → ℕ → DigitRun
+run v n = record { value = v; count = n }
 
-same_run : {v w : ℕ} {f g : Bool} {m n : ℕ} → v ≡ w → f ≡ g → m ≡ n → run v f m ≡ run w g n
-same_run p q r = λ j. run (p j) (q j) (r j)
+same_run : {v w : Option ℕ} {m n : ℕ} → v ≡ w → m ≡ n → run v m ≡ run w n
+same_run p r = λ j. run (p j) (r j)
+
+-- what is carried of a value that fits, and of one that does not
+carried_fits : (d : Digits) → d.value < 2 ^ 64 → Some d.value ≡ (carried d).value
+carried_fits d h = rw (lt-ltb d.value (2 ^ 64) h)
+
+carried_none : (d : Digits) → 2 ^ 64 ≤ d.value → None ≡ (carried d).value
+carried_none d h = rw (le-ltb d.value (2 ^ 64) h)
+
+pub value_fits : (r : DigitRun) (v : ℕ) → r.value ≡ Some v → (d : Digits) → r ≡ carried d → (v ≡ d.value) × (v < 2 ^ 64)
+value_fits r v e d held = go (ltb d.value (2 ^ 64)) refl (sym (ap (λ (s : DigitRun). s.value) held) ∙ e)
+  where
+    go : (b : Bool) → ltb d.value (2 ^ 64) ≡ b → cond b (Some d.value) None ≡ Some v → (v ≡ d.value) × (v < 2 ^ 64)
+    go true q z = let y : v ≡ d.value = cc in let l = ltb-true d.value (2 ^ 64) q in (y, omega arith)
+    go false q z = let y : ◌≡◌ {A = ℕ} 0 1 = cc in absurd (omega arith)
+
+pub value_past : (r : DigitRun) → r.value ≡ None → (d : Digits) → r ≡ carried d → 2 ^ 64 ≤ d.value
+value_past r e d held = go (ltb d.value (2 ^ 64)) refl (sym (ap (λ (s : DigitRun). s.value) held) ∙ e)
+  where
+    go : (b : Bool) → ltb d.value (2 ^ 64) ≡ b → cond b (Some d.value) None ≡ None → 2 ^ 64 ≤ d.value
+    go true q z = let y : ◌≡◌ {A = ℕ} 0 1 = cc in absurd (omega arith)
+    go false q z = ltb-false d.value (2 ^ 64) q
 
 -- a digit more, of value x
 module _ (r : DigitRun) (b x : ℕ) (value : x ≡ b - 48) (d : Digits) (held : r ≡ carried d) where
-  v_is : r.value ≡ min d.value (2 ^ 64 - 1)
-  v_is = ap (λ (s : DigitRun). s.value) held
+  count_more : r.count + 1 ≡ d.count + 1
+  count_more = ap (λ (s : DigitRun). s.count + 1) held
 
-  pub carry_past : (2 ^ 64 - 1 - x) / 10 < r.value → run (2 ^ 64 - 1) false (r.count + 1) ≡ carried (with_digit d b)
-  carry_past h =
-      let k : 2 ^ 64 - 1 < r.value * 10 + x = tenth_past _ _ _ h in
-      let l : 2 ^ 64 ≤ d.value * 10 + (b - 48) = omega (arith, v_is) in
-      same_run (omega arith) (sym (le-ltb _ _ l)) (ap (λ (s : DigitRun). s.count + 1) held)
+  module _ (v : ℕ) (is : r.value ≡ Some v) where
+    pub carry_past : (2 ^ 64 - 1 - x) / 10 < v → run None (r.count + 1) ≡ carried (with_digit d b)
+    carry_past h =
+        let k : 2 ^ 64 - 1 < v * 10 + x = tenth_past _ _ _ h in
+        let f = value_fits r v is d held in
+        same_run (carried_none (with_digit d b) (omega (arith, f.0))) count_more
 
-  pub carry_fits : x ≤ 15 → r.value ≤ (2 ^ 64 - 1 - x) / 10 → run (r.value * 10 + x) r.fits (r.count + 1) ≡ carried (with_digit d b)
-  carry_fits s h =
-      let k : r.value * 10 + x ≤ 2 ^ 64 - 1 = tenth_fits _ _ _ (omega arith) h in
-      let w : r.value ≡ d.value = omega (arith, v_is) in
-      let l : d.value * 10 + (b - 48) < 2 ^ 64 = omega arith in
-      same_run (omega arith) (ap (λ (s : DigitRun). s.fits) held ∙ lt-ltb d.value (2 ^ 64) (omega arith) ∙ sym (lt-ltb _ _ l)) (ap (λ (s : DigitRun). s.count + 1) held)
+    pub carry_fits : x ≤ 15 → v ≤ (2 ^ 64 - 1 - x) / 10 → run (Some (v * 10 + x)) (r.count + 1) ≡ carried (with_digit d b)
+    carry_fits s h =
+        let k : v * 10 + x ≤ 2 ^ 64 - 1 = tenth_fits _ _ _ (omega arith) h in
+        let f = value_fits r v is d held in
+        let l : v * 10 + x ≡ d.value * 10 + (b - 48) = omega (arith, f.0) in
+        same_run (ap Some l ∙ carried_fits (with_digit d b) (omega arith)) count_more
 
 -- a value that is no longer than its digits stays so, and so does 2^64 - 1 where it stands for a larger one
 module _ (v n : ℕ) (short : Short v n) where
@@ -49,8 +72,12 @@ module _ (v n : ℕ) (short : Short v n) where
     pub short_more : Short (v * 10 + x) (n + 1)
     short_more = let p = power_more n in omega arith
 
-    pub short_past : (2 ^ 64 - 1 - x) / 10 < v → Short (2 ^ 64 - 1) (n + 1)
-    short_past h = let k : 2 ^ 64 - 1 < v * 10 + x = tenth_past _ _ _ h in omega (arith, short_more)
+-- what is known of a value that is carried, and of one that is not
+pub short_some : (r : DigitRun) (v : ℕ) → r.value ≡ Some v → ShortRead r → Short v r.count
+short_some r v e h = subst (λ (o : Option ℕ). Short (unwrap_or o (2 ^ 64 - 1)) r.count) e h.short
+
+pub short_none : (r : DigitRun) → r.value ≡ None → ShortRead r → Short (2 ^ 64 - 1) r.count
+short_none r e h = subst (λ (o : Option ℕ). Short (unwrap_or o (2 ^ 64 - 1)) r.count) e h.short
 
 -- one digit
 module _ (t : List ℕ) (d : Digits) (i n : ℕ) where
@@ -75,17 +102,14 @@ pub record Scanned (lent : Type 0) (t : List ℕ) (before : DigitRun) (at : ℕ)
   pub left : lent → (d : Digits) → before ≡ carried d → Left t d at r i
 
 module _ (lent : Type 0) (t : List ℕ) (before : DigitRun) (at : ℕ) where
-  pub scanned_none : Bounded before at → Scanned lent t before at before at
-  scanned_none h = record { bounded = h; more = omega arith; left = λ _ d e. record { so_far = d; held = e; same = refl } }
-
   module _ (r : DigitRun) (i : ℕ) (v : Scanned lent t before at r i) where
     -- what is answered there
-    answered : lent → (d : Digits) → before ≡ carried d → ((e : Digits) → digits_from (length t - i) t e i ≡ got e i) → Run r i ≡ carried_at (digits_from (length t - at) t d at)
+    answered : lent → (d : Digits) → before ≡ carried d → ((e : Digits) → digits_from (length t - i) t e i ≡ got e i) → Ok (r, i) ≡ carried_at (digits_from (length t - at) t d at)
     answered x d b ends =
         let l = v.left x d b in
-        ap (λ (s : DigitRun). Run s i) l.held ∙ ap carried_at (sym (ends l.so_far) ∙ l.same)
+        ap (λ (s : DigitRun). Ok (s, i)) l.held ∙ ap carried_at (sym (ends l.so_far) ∙ l.same)
 
-    pub scanned_end : length t ≤ i → lent → (d : Digits) → before ≡ carried d → Run r i ≡ carried_at (digits_from (length t - at) t d at)
+    pub scanned_end : length t ≤ i → lent → (d : Digits) → before ≡ carried d → Ok (r, i) ≡ carried_at (digits_from (length t - at) t d at)
     unfolding digits_from
     scanned_end h x d b = let z : length t - i ≡ 0 = omega arith in answered x d b (λ e. rw z)
 
@@ -93,10 +117,10 @@ module _ (lent : Type 0) (t : List ℕ) (before : DigitRun) (at : ℕ) where
       one_left : length t - i ≡ suc (length t - (i + 1))
       one_left = omega arith
 
-      pub scanned_stop : digit? (byte_at t i) ≡ false → lent → (d : Digits) → before ≡ carried d → Run r i ≡ carried_at (digits_from (length t - at) t d at)
+      pub scanned_stop : digit? (byte_at t i) ≡ false → lent → (d : Digits) → before ≡ carried d → Ok (r, i) ≡ carried_at (digits_from (length t - at) t d at)
       scanned_stop e x d b = answered x d b (λ s. ap (λ (n : ℕ). digits_from n t s i) one_left ∙ no_digit t s i _ e)
 
-      pub scanned_more : (lent → digit? (byte_at t i) ≡ true) → (s : DigitRun) → s.count ≡ r.count + 1 → Short s.value s.count
+      pub scanned_more : (lent → digit? (byte_at t i) ≡ true) → (s : DigitRun) → s.count ≡ r.count + 1 → ShortRead s
           → (digit? (byte_at t i) ≡ true → (d : Digits) → r ≡ carried d → s ≡ carried (with_digit d (byte_at t i))) → Scanned lent t before at s (i + 1)
       scanned_more e s n short more =
           record {

@@ -6,8 +6,10 @@ use native.Mathlib.Nat.{pow-suc, one-le-pow, mul_assoc}
 use native.Mathlib.Omega.{arith}
 use lib.Arith.{digits_div, digits_mod}
 use lib.Pow.{pow-add, field, shl-shr}
-use lib.ListN.{length, take, drop, length-take, length-drop}
+use lib.ListN.{length, take, drop, replicate, length-append, length-take, length-drop}
+use Rattle.std.proofs.lemmas.List.{drop-replicate}
 use lib.Seq.{drop-cons, take_all, take-take, get_or-take, get_or-drop}
+use Rattle.std.specs.Int.{w64, from_le_bytes}
 use Rattle.base.specs.Text.{byte_at}
 use Rattle.jsontext.specs.Decoded.{join_bytes}
 use Rattle.jsontext.specs.Kept.{Bytes}
@@ -32,6 +34,13 @@ module _ (t : List ℕ) where
       omega arith
 
 -- the first k of a list, and the others above them
+-- the library's number of eight bytes
+pub le_joined : (xs : List ℕ) → length xs ≡ 8 → from_le_bytes w64 xs ≡ join_bytes xs
+le_joined xs l =
+    let h = join_eight xs 0 (omega arith) in
+    let e = ap join_bytes (take_all 8 xs (omega arith)) in
+    omega (arith, h, e)
+
 pub join_split : (k : ℕ) (xs : List ℕ) → join_bytes xs ≡ join_bytes (drop k xs) * 256 ^ k + join_bytes (take k xs)
 join_split zero xs = omega arith
 join_split (suc k) [] = omega arith
@@ -112,12 +121,6 @@ pub bytes_append : (xs ys : List ℕ) → Bytes xs → Bytes ys → Bytes (xs ++
 bytes_append [] ys h k = k
 bytes_append (x ∷ xs) ys h k = bytes_cons x (xs ++ ys) (h 0 (omega arith)) (bytes_append xs ys (bytes_tail x xs h) k)
 
--- a byte anywhere, past the end too
-pub byte_anywhere : (bs : List ℕ) → Bytes bs → (i : ℕ) → byte_at bs i < 256
-byte_anywhere [] h i = omega arith
-byte_anywhere (b ∷ bs) h zero = h 0 (omega arith)
-byte_anywhere (b ∷ bs) h (suc i) = byte_anywhere bs (bytes_tail b bs h) i
-
 -- ---- the lowest n bytes of a word
 -- the bytes shifted out leave the others
 pub shifted : (x n : ℕ) → n ≤ 8 → x * 2 ^ (64 - 8 * n) % 2 ^ 64 / 2 ^ (64 - 8 * n) ≡ x % 2 ^ (8 * n)
@@ -133,3 +136,16 @@ word_cut t v i n w h e =
     ∙ ap₂ (λ (x y : ℕ). x % y) e (pow_256 n)
     ∙ sym (join_take n (take 8 (drop i t)) (bytes_take 8 (drop i t) (bytes_drop i t v)))
     ∙ ap join_bytes (take-take n 8 (drop i t) h)
+
+-- ---- zeros behind fewer than eight bytes
+join_zeros : (k : ℕ) → join_bytes (replicate k 0) ≡ 0
+join_zeros zero = refl
+join_zeros (suc k) = omega (arith, join_zeros k)
+
+pub zeros_behind : (bs ys : List ℕ) → ys ≡ bs → length bs ≤ 8 → from_le_bytes w64 (ys ++ drop (length bs) (replicate 8 0)) ≡ join_bytes bs
+zeros_behind bs ys e h =
+    let zeros = drop (length bs) (replicate 8 0) in
+    let none : join_bytes zeros ≡ 0 = ap join_bytes (drop-replicate (length bs) 8 0) ∙ join_zeros (8 - length bs) in
+    let left = length-drop {A = ℕ} (length bs) (replicate 8 0) in
+    let long : length (ys ++ zeros) ≡ 8 = omega (arith, length-append ys zeros, ap length e, left) in
+    le_joined (ys ++ zeros) long ∙ join_append ys zeros ∙ ap (λ (z : ℕ). z * 256 ^ length ys + join_bytes ys) none ∙ omega (arith, ap join_bytes e)

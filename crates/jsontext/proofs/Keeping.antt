@@ -1,25 +1,19 @@
 -- What is kept of bytes as more come behind them, and the slot that comes of it. Assumes nothing.
-use mathlib.Core.Path.{◌≡◌, sym, ap, ap₂, ◌∙◌, subst}
-use mathlib.Core.List.{List, [], ◌∷◌, ◌++◌, append_assoc, append-nil}
+use mathlib.Core.Path.{◌≡◌, sym, ap, ap₂, ◌∙◌}
+use mathlib.Core.List.{List, [], ◌∷◌, ◌++◌, append_assoc}
 use Prim.Native.Nat.{ℕ, zero, suc, ◌+◌, ◌-◌, ◌*◌, ◌/◌, ◌%◌, ◌^◌, ◌<◌, ◌≤◌, min}
 use native.Mathlib.Nat.{mul-mod_left}
 use native.Mathlib.Omega.{arith}
 use lib.Bits.{bit_or, or_shifted_r}
 use lib.Pow.{shl_exact, shl-shr, shr_lt, mod-pow-add}
 use lib.ListN.{length, take, drop, replicate, length-append, length-take, length-drop}
-use lib.Seq.{drop-cons, take-nil, take_all, take-length, take-take, take-append-le, take-append-add, drop-append-le, drop-append-add, drop-drop}
+use lib.Seq.{take-nil, take_all, take-length, take-take, take-append-le, take-append-add, drop-append-le, drop-append-add, drop-drop}
 use Rattle.base.specs.Text.{byte_at}
 use Rattle.jsontext.specs.Decoded.{join_bytes, first_eight, last_eight, hashed, text_slot}
-use Rattle.jsontext.specs.declared.slots.Kept.{Kept}
+use Rattle.jsontext.specs.declared.kept.Kept.{Kept}
 use Rattle.jsontext.specs.Kept.{Bytes, Keeps}
 use Rattle.jsontext.specs.Scanned.{part}
 use Rattle.jsontext.proofs.Joining.{join_take, join_drop, join_append, join_whole, pow_256, bytes_take, bytes_drop, bytes_append}
-
-abbrev kept : ℕ → ℕ → ℕ → ℕ → Kept
-kept n f a z = record { count = n; few = f; first = a; last = z }
-
-pub few_kept : (bs : List ℕ) (k : Kept) → Keeps bs k → k.few ≤ 8
-few_kept bs k v = omega (arith, v.few)
 
 -- ---- the last eight of bytes and more bytes
 abbrev ending : List ℕ → List ℕ
@@ -115,26 +109,26 @@ module _ (bs xs : List ℕ) (k : Kept) (v : Keeps bs k) (u : Bytes xs) (n b z c 
   all_counted : c ≡ length (bs ++ xs) % 2 ^ 32
   all_counted = omega (arith, v.count, more)
 
-  pub keep_short : (m : ℕ) → k.few < 8 → m ≡ min n (8 - k.few) → Keeps (bs ++ xs) (kept c (k.few + m) (bit_or k.first (b * 2 ^ (8 * k.few) % 2 ^ 64)) z)
-  keep_short m h e =
+  pub keep_short : (m : ℕ) → k.few < 8 → m ≡ min n (8 - k.few) → (r : Kept) → r.count ≡ c → r.few ≡ k.few + m → r.first ≡ bit_or k.first (b * 2 ^ (8 * k.few) % 2 ^ 64) → r.last ≡ z → Keeps (bs ++ xs) r
+  keep_short m h e r c_is f_is a_is z_is =
       let f : k.few ≡ length bs = omega (arith, v.few) in
       record {
         bytes = bytes_append bs xs v.bytes u;
-        count = all_counted;
+        count = c_is ∙ all_counted;
         few = omega (arith, v.few, more);
-        first = first_shifted bs xs v.bytes u k.first b k.few f h v.first front;
-        last = last;
+        first = a_is ∙ first_shifted bs xs v.bytes u k.first b k.few f h v.first front;
+        last = z_is ∙ last;
       }
 
-  pub keep_long : 8 ≤ k.few → Keeps (bs ++ xs) (kept c k.few k.first z)
-  keep_long h =
+  pub keep_long : 8 ≤ k.few → (r : Kept) → r.count ≡ c → r.few ≡ k.few → r.first ≡ k.first → r.last ≡ z → Keeps (bs ++ xs) r
+  keep_long h r c_is f_is a_is z_is =
       let f : 8 ≤ length bs = omega (arith, v.few) in
       record {
         bytes = bytes_append bs xs v.bytes u;
-        count = all_counted;
+        count = c_is ∙ all_counted;
         few = omega (arith, v.few, more);
-        first = v.first ∙ first_kept bs xs v.bytes u f;
-        last = last;
+        first = a_is ∙ v.first ∙ first_kept bs xs v.bytes u f;
+        last = z_is ∙ last;
       }
 
 -- ---- bytes of a text
@@ -170,23 +164,7 @@ module _ (t : List ℕ) (at end : ℕ) (order : at ≤ end) (inside : end ≤ le
 pub part_all : (t : List ℕ) → part t 0 (length t) ≡ t
 part_all t = let z : length t - 0 ≡ length t = omega arith in rw z (take-length t)
 
--- none more
-pub keep_same : (bs xs : List ℕ) (k : Kept) → length xs ≡ 0 → Keeps bs k → Keeps (bs ++ xs) k
-keep_same bs [] k e v = subst (λ (l : List ℕ). Keeps l k) (sym (append-nil bs)) v
-keep_same bs (x ∷ xs) k e v = absurd (omega arith)
-
 -- ---- the slot
 pub slot_kept : (bs : List ℕ) (k : Kept) → Keeps bs k → hashed k.count k.first k.last % 2 ^ 32 / 2 ^ 21 ≡ text_slot bs
 unfolding text_slot
 slot_kept bs k v = rw (v.count, v.first, v.last)
-
--- ---- fewer than eight bytes from the last to the first
-pub short_room : (bs : List ℕ) → Bytes bs → length bs < 8 → (i w : ℕ) → 0 < i → w ≡ join_bytes (drop i bs) → w < 256 ^ 6
-short_room bs h s i w l e = rw e (join_whole 6 (drop i bs) (bytes_drop i bs h) (omega (arith, length-drop i bs)))
-
-pub short_next : (bs : List ℕ) (i w b : ℕ) → 0 < i → i ≤ length bs → w ≡ join_bytes (drop i bs) → b ≡ byte_at bs (i - 1) → w * 256 + b ≡ join_bytes (drop (i - 1) bs)
-short_next bs i w b h l e f =
-    let z : suc (i - 1) ≡ i = omega arith in
-    let d : join_bytes (drop (i - 1) bs) ≡ byte_at bs (i - 1) + 256 * join_bytes (drop i bs) =
-    ap join_bytes (drop-cons bs (i - 1) 0 (omega arith)) ∙ ap (λ (n : ℕ). byte_at bs (i - 1) + 256 * join_bytes (drop n bs)) z in
-    omega arith

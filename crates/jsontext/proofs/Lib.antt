@@ -9,6 +9,7 @@ pub mod CharProductions
 pub mod StringProductions
 pub mod Tries
 pub mod Tested
+pub mod Failing
 pub mod LeadRows
 pub mod HexDigits
 pub mod Ways

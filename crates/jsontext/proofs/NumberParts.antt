@@ -7,11 +7,11 @@ use Prim.Native.Nat.{ℕ, ◌-◌}
 use native.Mathlib.Omega.{arith}
 use Rattle.base.specs.Text.{Got, got, fault}
 use Rattle.document.specs.declared.scalar.Scalar.{Scalar}
-use Rattle.jsontext.specs.Number.{Digits, Number, some_digits, whole_at, exponent_at, plain_number, after_fraction, fraction_at, after_whole, as_scalar}
+use Rattle.jsontext.specs.Number.{Digits, Number, some_digits, exponent_at, plain_number, after_fraction, as_scalar}
 use Rattle.jsontext.specs.NumberAnswer.{carried, carried_at}
 use Rattle.jsontext.specs.declared.number.DigitRun.{DigitRun}
-use Rattle.jsontext.specs.declared.number.DigitsRead.{DigitsRead}
-use Rattle.jsontext.specs.declared.number.DigitsRead.TheVariants.{Digits as Run, Fault as NoDigits}
+use Rattle.std.specs.Prelude.{Result, Ok, Err}
+use Rattle.base.specs.declared.text.Fault.{Fault}
 
 -- digits that were answered are those of the definition
 pub record Found (g : Got Digits) (r : DigitRun) (n : ℕ) : Type 0 where
@@ -19,22 +19,18 @@ pub record Found (g : Got Digits) (r : DigitRun) (n : ℕ) : Type 0 where
   pub is : g ≡ got digits n
   pub held : r ≡ carried digits
 
-pub found : (g : Got Digits) (r : DigitRun) (n : ℕ) (a : DigitsRead) → a ≡ Run r n → a ≡ carried_at g → Found g r n
-found (got d m) r n a given is = let p : r ≡ carried d = cc in let q : n ≡ m = cc in record { digits = d; is = ap (got d) (sym q); held = p }
+pub found : (g : Got Digits) (r : DigitRun) (n : ℕ) (a : Result (DigitRun × ℕ) Fault) → a ≡ Ok (r, n) → a ≡ carried_at g → Found g r n
+found (got d m) r n a given is =
+    let e : ◌≡◌ {A = DigitRun × ℕ} (r, n) (carried d, m) = cc in
+    record { digits = d; is = ap (λ (x : DigitRun × ℕ). got d x.1) (sym e); held = ap (λ (x : DigitRun × ℕ). x.0) e }
 found (fault p) r n a given is = let z : ◌≡◌ {A = ℕ} 0 1 = cc in absurd (omega arith)
 
-pub not_found : (g : Got Digits) (p : ℕ) (a : DigitsRead) → a ≡ NoDigits p → a ≡ carried_at g → g ≡ fault p
-not_found (got d n) p a given is = let z : ◌≡◌ {A = ℕ} 0 1 = cc in absurd (omega arith)
-not_found (fault q) p a given is = let e : q ≡ p = cc in ap fault e
+pub not_found : (g : Got Digits) (f : Fault) (a : Result (DigitRun × ℕ) Fault) → a ≡ Err f → a ≡ carried_at g → g ≡ fault f.0
+not_found (got d n) f a given is = let z : ◌≡◌ {A = ℕ} 0 1 = cc in absurd (omega arith)
+not_found (fault q) f a given is = let e : q ≡ f.0 = cc in ap fault e
 
 -- behind the whole part, and behind a point after the whole part d: what the digits read there lead to
 module _ (t : List ℕ) (s : Bool) where
-  pub whole_read : (i : ℕ) (r : DigitRun) (n : ℕ) (f : Found (whole_at t i) r n) → as_scalar (fraction_at t s f.digits n) ≡ as_scalar (after_whole t s (whole_at t i))
-  whole_read i r n f = ap (λ (g : Got Digits). as_scalar (after_whole t s g)) (sym f.is)
-
-  pub whole_faults : (g : Got Digits) (p : ℕ) → g ≡ fault p → fault p ≡ as_scalar (after_whole t s g)
-  whole_faults g p e = ap (λ (x : Got Digits). as_scalar (after_whole t s x)) (sym e)
-
   pub fraction_read : (d : Digits) (i : ℕ) (whole all : DigitRun) (n : ℕ) → whole ≡ carried d → (f : Found (some_digits t d i) all n)
       → (x : Got (Option Scalar)) → x ≡ as_scalar (exponent_at t (plain_number s f.digits (all.count - whole.count) true) n) → (m : Got Number) → m ≡ after_fraction t s d (some_digits t d i) → x ≡ as_scalar m
   fraction_read d i whole all n held f x answer m is =

@@ -2,19 +2,20 @@
 use mathlib.Core.Path.{◌≡◌, refl, sym, ap, ◌∙◌}
 use mathlib.Core.Bool.{Bool, true, false, not, ◌&&◌}
 use mathlib.Core.Option.{Option, none, some}
-use Prim.Native.Nat.{ℕ, ◌-◌, ◌^◌, ◌<◌, ◌≤◌, min}
+use Rattle.std.specs.Prelude.{Some, None}
+use Prim.Native.Nat.{ℕ, ◌-◌, ◌^◌, ◌<◌, ◌≤◌}
 use native.Mathlib.Omega.{arith}
-use borrow.Author.Tests.{ltb-true, le-leb, lt-leb}
-use lib.Dec.{ltb}
+use borrow.Author.Tests.{leb-true, leb-false, lt-ltb, le-ltb, le-leb, lt-leb}
+use lib.Dec.{leb, ltb}
 use lib.Ieee.{Float, binary64, to_bits}
-use Rattle.base.specs.Text.{Got, got, fault}
+use Rattle.base.specs.Text.{Got, got}
 use Rattle.document.specs.Scalars.{row_rate}
 use Rattle.document.specs.declared.scalar.Scalar.{Scalar}
 use Rattle.document.specs.declared.scalar.Scalar.TheVariants.{Count}
 use Rattle.jsontext.specs.Number.{Digits, Number, with_exponent, plain_number, count?, decimal?, rate, number_scalar, as_scalar}
-use Rattle.jsontext.specs.NumberAnswer.{Short, carried}
+use Rattle.jsontext.specs.NumberAnswer.{Short, ShortRead, carried}
 use Rattle.jsontext.specs.declared.number.DigitRun.{DigitRun}
-use Rattle.jsontext.proofs.DigitRuns.{short_up}
+use Rattle.jsontext.proofs.DigitRuns.{short_up, short_none, value_fits, value_past}
 
 -- a number with an exponent is neither a count nor a rate
 abbrev raised : Number → Number
@@ -34,50 +35,64 @@ module _ (m : Number) (g : Got Digits) (e : ℕ) where
   pub exponent_ends : (d : Digits) → g ≡ got d e → got none e ≡ as_scalar (with_exponent m g)
   exponent_ends d q = ap (λ (o : Option Scalar). got o e) (sym (no_scalar m)) ∙ ap (λ (x : Got Digits). as_scalar (with_exponent m x)) (sym q)
 
-  pub exponent_faults : g ≡ fault e → fault e ≡ as_scalar (with_exponent m g)
-  exponent_faults q = ap (λ (x : Got Digits). as_scalar (with_exponent m x)) (sym q)
+-- so large a value has more than 15 digits
+many : (n : ℕ) → Short (2 ^ 64 - 1) n → 15 < n
+many n h = go (leb n 15) refl
+  where
+    go : (b : Bool) → leb n 15 ≡ b → 15 < n
+    go true e = let s = short_up (2 ^ 64 - 1) n h 15 (leb-true n 15 e) in absurd (omega arith)
+    go false e = leb-false n 15 e
 
-module _ (s f : Bool) (k : ℕ) (r : DigitRun) (d : Digits) (held : r ≡ carried d) (next : ℕ) where
-  v_is : r.value ≡ min d.value (2 ^ 64 - 1)
-  v_is = ap (λ (x : DigitRun). x.value) held
-
+module _ (s f : Bool) (k : ℕ) (r : DigitRun) (d : Digits) (held : r ≡ carried d) where
   n_is : r.count ≡ d.count
   n_is = ap (λ (x : DigitRun). x.count) held
 
-  counts : count? (plain_number s d k f) ≡ (not s && not f && r.fits)
+  counts : (b : Bool) → ltb d.value (2 ^ 64) ≡ b → count? (plain_number s d k f) ≡ (not s && not f && b)
   unfolding count?
-  counts = go s f ∙ ap (λ (b : Bool). not s && not f && b) (sym (ap (λ (x : DigitRun). x.fits) held))
+  counts b e = go s f ∙ ap (λ (x : Bool). not s && not f && x) e
     where
       go : (a b : Bool) → (not a && not b && true && ltb d.value (2 ^ 64)) ≡ (not a && not b && ltb d.value (2 ^ 64))
       go true b = refl
       go false true = refl
       go false false = refl
 
-  fits_too : (a b c : Bool) → (a && b && c) ≡ true → c ≡ true
-  fits_too true true c e = e
-  fits_too true false c e = let z : ◌≡◌ {A = ℕ} 0 1 = cc in absurd (omega arith)
-  fits_too false b c e = let z : ◌≡◌ {A = ℕ} 0 1 = cc in absurd (omega arith)
+  none_scalar : count? (plain_number s d k f) ≡ false → 15 < r.count → none ≡ number_scalar (plain_number s d k f)
+  unfolding number_scalar decimal?
+  none_scalar e h = rw (number_scalar, e, lt-leb d.count 15 (omega (arith, n_is)))
 
-  pub as_count : (not s && not f && r.fits) ≡ true → got (some (Count r.value)) next ≡ got (number_scalar (plain_number s d k f)) next
-  unfolding number_scalar
-  as_count e =
-      let below : d.value < 2 ^ 64 = ltb-true d.value (2 ^ 64) (sym (ap (λ (x : DigitRun). x.fits) held) ∙ fits_too (not s) (not f) r.fits e) in
-      let v : r.value ≡ d.value = omega (arith, v_is) in
-      let c : count? (plain_number s d k f) ≡ true = counts ∙ e in
-      rw (number_scalar, c, v)
+  -- a value of 2^64 or more has more digits than a rate
+  pub as_past : r.value ≡ None → ShortRead r → none ≡ number_scalar (plain_number s d k f)
+  as_past e short =
+      let l = value_past r e d held in
+      none_scalar (counts false (le-ltb d.value (2 ^ 64) l) ∙ last s f) (many r.count (short_none r e short))
+    where
+      last : (a b : Bool) → (not a && not b && false) ≡ false
+      last true b = refl
+      last false true = refl
+      last false false = refl
 
-  module _ (no-count : (not s && not f && r.fits) ≡ false) where
-    none_counts : count? (plain_number s d k f) ≡ false
-    none_counts = counts ∙ no-count
+  module _ (v : ℕ) (is : r.value ≡ Some v) where
+    fits : ltb d.value (2 ^ 64) ≡ true
+    fits = let f = value_fits r v is d held in lt-ltb d.value (2 ^ 64) (omega (arith, f.0))
 
-    pub as_none : 15 < r.count → got none next ≡ got (number_scalar (plain_number s d k f)) next
-    unfolding number_scalar decimal?
-    as_none h = rw (number_scalar, none_counts, lt-leb d.count 15 (omega (arith, n_is)))
+    counted : count? (plain_number s d k f) ≡ (not s && not f)
+    counted = counts true fits ∙ go s f
+      where
+        go : (a b : Bool) → (not a && not b && true) ≡ (not a && not b)
+        go true b = refl
+        go false true = refl
+        go false false = refl
 
-    pub as_rate : r.count ≤ 15 → Short r.value r.count → (x : Float) (bits : ℕ) → x ≡ rate s r.value k → bits ≡ to_bits binary64 x → got (some (row_rate bits)) next ≡ got (number_scalar (plain_number s d k f)) next
-    unfolding number_scalar decimal?
-    as_rate h short x bits p q =
-        let low = short_up r.value r.count short 15 h in
-        let v : r.value ≡ d.value = omega (arith, v_is) in
-        let m : bits ≡ to_bits binary64 (rate s d.value k) = q ∙ ap (to_bits binary64) (p ∙ ap (λ (n : ℕ). rate s n k) v) in
-        rw (number_scalar, none_counts, le-leb d.count 15 (omega (arith, n_is)), m)
+    pub as_count : (not s && not f) ≡ true → some (Count v) ≡ number_scalar (plain_number s d k f)
+    unfolding number_scalar
+    as_count e = rw (number_scalar, counted ∙ e, (value_fits r v is d held).0)
+
+    module _ (no-count : (not s && not f) ≡ false) where
+      pub as_none : 15 < r.count → none ≡ number_scalar (plain_number s d k f)
+      as_none h = none_scalar (counted ∙ no-count) h
+
+      pub as_rate : r.count ≤ 15 → (x : Float) (bits : ℕ) → x ≡ rate s v k → bits ≡ to_bits binary64 x → some (row_rate bits) ≡ number_scalar (plain_number s d k f)
+      unfolding number_scalar decimal?
+      as_rate h x bits p q =
+          let m : bits ≡ to_bits binary64 (rate s d.value k) = q ∙ ap (to_bits binary64) (p ∙ ap (λ (n : ℕ). rate s n k) (value_fits r v is d held).0) in
+          rw (number_scalar, counted ∙ no-count, le-leb d.count 15 (omega (arith, n_is)), m)

@@ -13,9 +13,9 @@ use Rattle.base.specs.Text.{byte_at, Got, got, fault}
 use Rattle.base.proofs.Bytes.{inside, class_inside}
 use Rattle.jsontext.specs.Utf8.{Stretch, up_to, broken_at, Sequence, sequences, pass_at, sequence_in, sequence_at}
 use Rattle.jsontext.specs.Strings.{Piece, closed, raw, code, bad, simple, hex_value, hex_from, dee?, low?, high?, as_pair, as_raw, first_unit, second_unit, pair_at, unicode_at, escape_at, piece_at}
-use Rattle.jsontext.specs.StringAnswers.{Ahead, EscapeInside, PieceInside}
-use Rattle.jsontext.specs.declared.pieces.StringPiece.{StringPiece}
-use Rattle.jsontext.specs.declared.pieces.StringPiece.TheVariants.{Closed, Raw, Code, Bad}
+use Rattle.jsontext.specs.StringAnswers.{Ahead, EscapeInside}
+use Rattle.std.specs.Prelude.{Result, Ok, Err}
+use Rattle.base.specs.declared.text.Fault.{Fault}
 use Rattle.jsontext.proofs.LeadRows.{size_bounds, sequence_size}
 use Rattle.jsontext.proofs.HexDigits.{hex_inside}
 use Rattle.jsontext.proofs.Ways.{dee_inside, simple_inside, plain_inside, piece_control}
@@ -204,17 +204,9 @@ module _ (t : List ℕ) (i : ℕ) where
       go (suc b) z = omega arith
 
 -- ---- what the answers say of their places, whatever table is lent
-pub escape_later : (t : List ℕ) (i j : ℕ) (r : StringPiece) → i ≤ j → EscapeInside t j r → EscapeInside t i r
-escape_later t i j Closed h e = e
-escape_later t i j (Raw n) h e = e
-escape_later t i j (Code c n) h e = record { forward = omega (arith, e.forward); inside = e.inside }
-escape_later t i j (Bad p) h e = e
-
-pub escape_piece : (t : List ℕ) (i : ℕ) (r : StringPiece) → EscapeInside t (i + 1) r → PieceInside t i r
-escape_piece t i Closed e = e
-escape_piece t i (Raw n) e = absurd e
-escape_piece t i (Code c n) e = e
-escape_piece t i (Bad p) e = e
+pub escape_later : (t : List ℕ) (i j : ℕ) (r : Result (ℕ × ℕ) Fault) → i ≤ j → EscapeInside t j r → EscapeInside t i r
+escape_later t i j (Ok r) h e = record { forward = omega (arith, e.forward); inside = e.inside }
+escape_later t i j (Err f) h e = e
 
 pub sequence_inside : (t : List ℕ) (i n : ℕ) → byte_at t i < 256 → up_to n ≡ sequence_at t i → Ahead t (i + 1) n × (n ≤ i + 4)
 sequence_inside t i n h e = (subst (StretchEnds t i (i + 1)) (sym e) (sequence_end t i), omega (arith, sequence_size t i n h (sym e), size_bounds (byte_at t i)))

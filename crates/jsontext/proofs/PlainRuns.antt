@@ -37,20 +37,9 @@ module _ (t : List ℕ) (at : ℕ) where
         plains_join (i + 1)
         (record { forward = omega arith; inside = omega arith; each = λ k a b. let z : i ≡ k = omega arith in subst (λ (x : ℕ). plain? (byte_at t x) ≡ true) z e })
 
--- fewer of them
-pub plains_fewer : (t : List ℕ) (i n e : ℕ) → i ≤ n → n ≤ e → Plains t i e → Plains t i n
-plains_fewer t i n e h l v = record { forward = h; inside = omega (arith, v.inside); each = λ k a b. v.each k a (omega arith) }
-
--- a block so far, where all its bytes passed
-pub block_none : (t : List ℕ) (at : ℕ) → at ≤ length t → true ≡ true → Plains t at (at + 0)
-block_none t at h = λ _. let z : at ≡ at + 0 = omega arith in subst (Plains t at) z (plains_none t at h)
-
 module _ (t : List ℕ) (at k : ℕ) (all : Bool) (v : all ≡ true → Plains t at (at + k)) where
   pub block_more : (p : Bool) → at + k < length t → p ≡ plain? (byte_at t (at + k)) → (all && p) ≡ true → Plains t at (at + (k + 1))
   block_more p h e a =
       let (x, y) = true_and all p a in
       let z : at + k + 1 ≡ at + (k + 1) = omega arith in
       subst (Plains t at) z (plains_more t at (at + k) (v x) h (sym e ∙ y))
-
-  pub block_all : k ≡ 64 → all ≡ true → Plains t at (at + 64)
-  block_all z a = subst (λ (n : ℕ). Plains t at (at + n)) z (v a)

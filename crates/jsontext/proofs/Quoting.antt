@@ -10,7 +10,10 @@ use borrow.Author.Tests.{ltb-true}
 use lib.Dec.{eqb, leb, ltb}
 use lib.Pow.{shl_exact, shl-shr}
 use lib.ListN.{length, take, drop, set, length-append, length-take, length-drop, length-set, get_or-append}
-use lib.Seq.{take_all, take-length, take-suc, take-suc-set, take-take, get_or-take, get_or-drop, get_or-append_seam}
+use lib.Seq.{take_all, take-length, take-take, get_or-take, get_or-drop, get_or-append_seam}
+use borrow.Rule.Slice.PartMut.{put_mid}
+use Rattle.std.proofs.lemmas.List.{take_more_set}
+use Rattle.std.proofs.lemmas.Slice.{take-put_mid}
 use Rattle.base.specs.Text.{byte_at, got}
 use Rattle.jsontext.specs.Strings.{plain?, string_at}
 use Rattle.jsontext.specs.Decoded.{join_bytes}
@@ -20,7 +23,7 @@ use Rattle.jsontext.specs.Kept.{Bytes}
 use Rattle.jsontext.specs.Tokens.{quoted, TokenOf}
 use Rattle.jsontext.proofs.Places.{both}
 use Rattle.jsontext.proofs.Joining.{join_same, join_whole, pow_256, word_cut, bytes_take, bytes_drop, bytes_none, bytes_cons, bytes_append}
-use Rattle.jsontext.proofs.PlainRuns.{below_or_not, plains_none, plains_more}
+use Rattle.jsontext.proofs.PlainRuns.{below_or_not}
 use Rattle.jsontext.proofs.Keeping.{drop_take}
 use Rattle.jsontext.proofs.Agreeing.{alike_none, alike_more}
 use Rattle.jsontext.proofs.Writing.{between_quotes}
@@ -102,45 +105,17 @@ module _ (t : List ℕ) (b : Bytes t) (at first last n : ℕ) (room : at + 16 �
           ap (byte_at t) x ∙ agree 8 (at + n - 8) (n - 8) (omega (arith, v.few)) (omega arith) (sym f ∙ u ∙ v.back h) (k - (n - 8)) (omega arith) ∙ ap (byte_at (quoted key)) y
 
 -- ---- the token of bytes
--- of the bytes, i were put behind a quote, each of which stands for itself; m is what there is room for
-pub record Quoting (key : List ℕ) (m : ℕ) (out : List ℕ) (i : ℕ) : Type 0 where
-  pub room : length key + 2 ≤ m
-  pub size : length out ≡ m
-  pub plain : Plains key 0 i
-  pub front : take (i + 1) out ≡ 34 ∷ take i key
-
-pub quoting_none : (key out : List ℕ) → length key + 2 ≤ length out → Quoting key (length (set out 0 34)) (set out 0 34) 0
-quoting_none key out h = record { room = rw length-set h; size = refl; plain = plains_none key 0 zero-le; front = take-suc-set out 0 34 (omega arith) }
-
-module _ (key : List ℕ) (m : ℕ) (out : List ℕ) (i : ℕ) (v : Quoting key m out i) where
-  put_next : (b : ℕ) → i ≤ length key → take (i + 1 + 1) (set out (i + 1) b) ≡ 34 ∷ take i key ++ b ∷ []
-  put_next b h =
-      ap (λ (k : ℕ). take k (set out (i + 1) b)) (add-one (i + 1))
-      ∙ take-suc-set out (i + 1) b (omega (arith, v.room, v.size))
-      ∙ ap (λ (l : List ℕ). l ++ b ∷ []) v.front
-
-  pub quoting_more : i < length key → plain? (byte_at key i) ≡ true → Quoting key m (set out (i + 1) (byte_at key i)) (i + 1)
-  quoting_more h p =
-      record {
-        room = v.room;
-        size = length-set out (i + 1) (byte_at key i) ∙ v.size;
-        plain = plains_more key 0 i v.plain h p;
-        front = put_next (byte_at key i) (omega arith) ∙ ap (λ (l : List ℕ). 34 ∷ l) (sym (take-suc key i 0 h) ∙ ap (λ (k : ℕ). take k key) (sym (add-one i)));
-      }
-
-  module _ (h : length key ≤ i) where
-    all_put : i ≡ length key
-    all_put = omega (arith, v.plain.inside)
-
-    pub quoting_plain : Plains key 0 (length key)
-    quoting_plain = subst (Plains key 0) all_put v.plain
-
-    pub quoting_all : take (length key + 2) (set out (i + 1) 34) ≡ quoted key
-    quoting_all =
-        let z : length key + 2 ≡ i + 1 + 1 = omega (arith, all_put) in
-        ap (λ (k : ℕ). take k (set out (i + 1) 34)) z
-        ∙ put_next 34 (omega (arith, all_put))
-        ∙ ap (λ (l : List ℕ). 34 ∷ l ++ 34 ∷ []) (take_all i key h)
+-- bytes written behind a quote, and a quote behind them
+pub quoted_put : (key out ys : List ℕ) (k : ℕ) → ys ≡ key → k ≡ length key → length key + 2 ≤ length out → take (length key + 2) (set (put_mid 1 k (set out 0 34) ys) (length key + 1) 34) ≡ quoted key
+quoted_put key out ys k e n h =
+    let zs = put_mid 1 k (set out 0 34) ys in
+    let l : length ys ≡ length key = ap length e in
+    let room : length key + 1 < length zs =
+    omega (arith, length-append (take 1 (set out 0 34)) (ys ++ drop k (drop 1 (set out 0 34))), length-append ys (drop k (drop 1 (set out 0 34))), length-take 1 (set out 0 34), length-drop k (drop 1 (set out 0 34)), length-drop 1 (set out 0 34), length-set out 0 34) in
+    let z : length key + 2 ≡ length key + 1 + 1 = omega arith in
+    ap (λ (m : ℕ). take m (set zs (length key + 1) 34)) z
+    ∙ take_more_set zs (length key + 1) 34 room
+    ∙ ap (λ (l : List ℕ). l ++ 34 ∷ []) (take-put_mid 1 k (set out 0 34) ys (length key + 1) (omega arith) (omega (arith, length-set out 0 34)) ∙ ap₂ (λ (a b : List ℕ). a ++ b) (take_more_set out 0 34 (omega arith)) e)
 
 module _ (key all : List ℕ) (n : ℕ) (count : n ≡ length key + 2) (few : n ≤ 16) (plain : Plains key 0 (length key)) (put : take (length key + 2) all ≡ quoted key) where
   is_quoted : take n all ≡ quoted key

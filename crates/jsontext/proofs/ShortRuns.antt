@@ -3,8 +3,9 @@ use mathlib.Core.Path.{◌≡◌, refl, sym, ap, ap₂, ◌∙◌, subst}
 use mathlib.Core.Bool.{Bool, true, false, ◌&&◌, ◌||◌}
 use mathlib.Core.Logic.{◌⊎◌, inl, inr}
 use mathlib.Core.List.{List}
-use mathlib.Core.Option.{some}
-use Prim.Native.Nat.{ℕ, suc, ◌+◌, ◌-◌, ◌*◌, ◌^◌, ◌<◌, ◌≤◌, min}
+use mathlib.Core.Option.{Option, some}
+use Rattle.std.specs.Prelude.{Some}
+use Prim.Native.Nat.{ℕ, suc, ◌+◌, ◌-◌, ◌*◌, ◌^◌, ◌<◌, ◌≤◌}
 use native.Mathlib.Nat.{eq-or-lt_of_le}
 use native.Mathlib.Omega.{arith}
 use borrow.Author.Tests.{eqb-true, eqb-false, eq-eqb, ltb-false, lt-ltb}
@@ -13,6 +14,7 @@ use lib.ListN.{length}
 use Rattle.base.specs.Text.{byte_at, got}
 use Rattle.classes.specs.Classes.{digit?}
 use Rattle.classes.proofs.Ranges.{digit_range}
+use Rattle.document.specs.declared.scalar.Scalar.{Scalar}
 use Rattle.document.specs.declared.scalar.Scalar.TheVariants.{Count}
 use Rattle.jsontext.specs.Number.{digits_of, no_digits, with_digit, digits_from, some_digits, whole_at, exponent_at, plain_number, after_fraction, fraction_at, after_whole, number_at, as_scalar}
 use Rattle.jsontext.specs.NumberAnswer.{Short, carried, Within, Summed, FewRead, ShortWhole, Begins}
@@ -33,10 +35,6 @@ strictly_between a b n e h k =
 zero_alone : (b i n : ℕ) → (eqb b 48 && ltb i n) ≡ false → i ≤ n → b ≡ 48 → n ≡ i
 zero_alone b i n e h z = let l = ltb-false i n (rw (eq-eqb b 48 z) at e) in omega (arith, l)
 
--- place 0 is no place
-pub not_short : {A : Type 0} → (◌≡◌ {A = ℕ} 0 0 → ⊥) → A
-not_short h = absurd (h refl)
-
 -- ---- the loop
 nothing : (n at : ℕ) → n ≡ n + (at - at)
 nothing n at = omega arith
@@ -45,9 +43,6 @@ longer : (n at i : ℕ) → at ≤ i → n + (i - at) + 1 ≡ n + (i + 1 - at)
 longer n at i h = omega arith
 
 module _ (before at last : ℕ) where
-  pub within_none : at ≤ last → Within before at last before at
-  within_none h = record { forward = omega arith; inside = h; short = λ n s. subst (Short before) (nothing n at) s }
-
   module _ (v i : ℕ) (w : Within before at last v i) (more : i < last) where
     -- of at most 18 digits there is room for one more
     pub within_room : (n : ℕ) → Short before n → n + last ≤ at + 19 → Short v 18
@@ -97,12 +92,10 @@ module _ (t : List ℕ) (before at last : ℕ) (r : ShortRun) (x : FewRead t bef
       sym (x.summed.same n) ∙ ap (λ (k : ℕ). digits_from k t d r.end) z ∙ no_digit t d r.end (length t - (r.end + 1)) (x.stops e)
 
 -- as they are carried
-pub carried_short : (v n : ℕ) → Short v n → n ≤ 18 → record { value = v; fits = true; count = n } ≡ carried (digits_of v n)
+pub carried_short : (v n : ℕ) → Short v n → n ≤ 18 → record { value = Some v; count = n } ≡ carried (digits_of v n)
 carried_short v n h l =
     let s = short_up v n h 18 l in
-    let p : v ≡ min v (2 ^ 64 - 1) = omega arith in
-    let q = sym (lt-ltb v (2 ^ 64) (omega arith)) in
-    ap₂ (λ (a : ℕ) (b : Bool). record { value = a; fits = b; count = n }) p q
+    rw (lt-ltb v (2 ^ 64) (omega arith))
 
 -- ---- a number that begins with them
 pub whole_placed : (t : List ℕ) (at : ℕ) (r : ShortRun) → Within 0 at (at + 19) r.value r.end → at + 19 ≤ length t → (eqb r.end at || eqb r.end (at + 19)) ≡ false → ShortWhole t at r
@@ -140,7 +133,7 @@ module _ (t : List ℕ) (at : ℕ) (r : ShortRun) (p : ShortWhole t at r) where
         ∙ ap (after_whole t false) (whole_is alone ∙ few_all t 0 at (at + 19) r x p.inside p.early 0)
         ∙ ap (λ (k : ℕ). fraction_at t false (digits_of r.value k) r.end) z
 
-  whole_carried : record { value = r.value; fits = true; count = r.end - at } ≡ carried (digits_of r.value (r.end - at))
+  whole_carried : record { value = Some r.value; count = r.end - at } ≡ carried (digits_of r.value (r.end - at))
   whole_carried = carried_short r.value (r.end - at) p.short (omega (arith, p.early))
 
   module _ (is : Begins t at r) where
@@ -155,7 +148,7 @@ module _ (t : List ℕ) (at : ℕ) (r : ShortRun) (p : ShortWhole t at r) where
         let d = digits_of r.value (r.end - at) in
         sym (whole_number point)
         ∙ ap as_scalar (exponent_none t r.end b refl (plain_number false d 0 false) letter)
-        ∙ sym (as_count false false 0 (record { value = r.value; fits = true; count = r.end - at }) d whole_carried r.end refl)
+        ∙ sym (ap (λ (o : Option Scalar). got o r.end) (as_count false false 0 (record { value = Some r.value; count = r.end - at }) d whole_carried r.value refl refl))
 
 -- ---- the digits behind the point
 module _ (t : List ℕ) (at : ℕ) (whole : ShortRun) (p : ShortWhole t at whole) (r : ShortRun) (some : whole.end + 1 < r.end) where

@@ -2,7 +2,7 @@
 use Rattle.std.specs.Prelude.{◌≡◌, List, ℕ, ◌%◌, ◌^◌, ◌<◌, min, length}
 use Rattle.base.specs.Text.{byte_at}
 use Rattle.jsontext.specs.Decoded.{first_eight, last_eight}
-use Rattle.jsontext.specs.declared.slots.Kept.{Kept}
+use Rattle.jsontext.specs.declared.kept.Kept.{Kept}
 
 -- all are bytes
 abbrev pub Bytes : List ℕ → Type 0

@@ -7,25 +7,20 @@ ghost use Rattle.jsontext.specs.Chars.{Joined, CharSays, CharInside};
 
 use crate::pieces::{StringPiece, piece_at};
 use crate::words::few_bytes;
+use base::text::Fault;
 
 // Bytes joined into a number, the first lowest, and how many they are.
 #[derive(Clone, Copy)]
 pub(crate) struct Packed {
-    bytes: u32,
-    count: usize,
-}
-
-// A character's bytes, joined, how many they are and the place after it; or the place of the byte that no rule allows.
-#[derive(Clone, Copy)]
-pub(crate) enum CharRead {
-    Char(u64, usize, usize),
-    Broken(usize),
+    pub bytes: u64,
+    pub count: usize,
 }
 
 // The UTF-8 bytes of a code point.
 fn pack(c: u32) -> Packed
     ensures { Joined (utf8 c) result.bytes result.count }
 {
+    let c = u64::from(c);
     if c < 128 {
         return Packed { bytes: c, count: 1 };
     }
@@ -50,19 +45,19 @@ fn pack(c: u32) -> Packed
     }
 }
 
-// The character at a place where no closing quote stands.
-pub(crate) fn char_at(text: &[u8], classes: &[u8; 256], at: usize) -> CharRead
+// The bytes of the character at a place where no closing quote stands, and the place after it.
+pub(crate) fn char_at(text: &[u8], classes: &[u8; 256], at: usize) -> Result<(Packed, usize), Fault>
     requires open { byte_at text.now at ≡ 34 → ⊥ }
     ensures char_says { classes.now ≡ class_table → CharSays text.now at result }
     ensures inside { CharInside text.now at result }
 {
-    match piece_at(text, classes, at) {
-        StringPiece::Closed => CharRead::Broken(at),
-        StringPiece::Bad(p) => CharRead::Broken(p),
-        StringPiece::Raw(n) => CharRead::Char(few_bytes(text, at, n - at), n - at, n),
-        StringPiece::Code(c, n) => {
-            let p = pack(c);
-            CharRead::Char(p.bytes as u64, p.count, n)
+    match piece_at(text, classes, at)? {
+        StringPiece::Closed => Err(Fault(at)),
+        StringPiece::Raw(n) => {
+            let count = n - at;
+            let bytes = few_bytes(text, at, count);
+            Ok((Packed { bytes, count }, n))
         },
+        StringPiece::Code(c, n) => Ok((pack(c), n)),
     }
 }

@@ -6,10 +6,9 @@ ghost use Rattle.jsontext.specs.Decoded.{same_text, is_text};
 ghost use Rattle.jsontext.specs.Scanned.{Scanned};
 ghost use Rattle.jsontext.specs.Compared.{Alike};
 
-use crate::chars::{CharRead, char_at};
+use crate::chars::char_at;
 use crate::plain::{is_plain, marks};
 use crate::words::{WORD, few_bytes, word};
-use base::numbers::smaller;
 use base::text::byte_at;
 
 // How many bytes at two places agree and stand for themselves in a string, one by one.
@@ -18,17 +17,17 @@ fn alike_rest(s: &[u8], i: usize, t: &[u8], j: usize) -> usize
     requires second { j ≤ length t.now }
     ensures { Alike s.now i t.now j result }
 {
-    let mut n: usize = 0;
-    loop {
-        let b = byte_at(s, i + n);
+    let room = (s.len() - i).min(t.len() - j);
+    for n in 0..room {
+        let b = s[i + n];
         if !is_plain(b) {
             return n;
         }
-        if byte_at(t, j + n) != b {
+        if t[j + n] != b {
             return n;
         }
-        n += 1;
     }
+    room
 }
 
 // How many of the eight bytes at two places agree and stand for themselves, up to the first that does not.
@@ -47,7 +46,7 @@ fn alike(s: &[u8], i: usize, t: &[u8], j: usize) -> usize
     requires second { j ≤ length t.now }
     ensures { Alike s.now i t.now j result }
 {
-    let room = smaller(s.len() - i, t.len() - j);
+    let room = (s.len() - i).min(t.len() - j);
     let mut n: usize = 0;
     while room - n >= WORD {
         let m = alike_word(s, i + n, t, j + n);
@@ -76,23 +75,17 @@ fn same_quoted(text: &[u8], classes: &[u8; 256], a: usize, b: usize) -> bool
         if byte_at(text, j) == b'"' {
             return false;
         }
-        match char_at(text, classes, i) {
-            CharRead::Broken(_) => {
-                return false;
-            },
-            CharRead::Char(v, _, x) => match char_at(text, classes, j) {
-                CharRead::Broken(_) => {
-                    return false;
-                },
-                CharRead::Char(w, _, y) => {
-                    if v != w {
-                        return false;
-                    }
-                    i = x;
-                    j = y;
-                },
-            },
+        let Ok((v, x)) = char_at(text, classes, i) else {
+            return false;
+        };
+        let Ok((w, y)) = char_at(text, classes, j) else {
+            return false;
+        };
+        if v.bytes != w.bytes {
+            return false;
         }
+        i = x;
+        j = y;
     }
 }
 
@@ -125,20 +118,16 @@ pub fn is_text(text: &[u8], classes: &[u8; 256], at: usize, bytes: &[u8]) -> boo
         if byte_at(text, i) == b'"' {
             return k == bytes.len();
         }
-        match char_at(text, classes, i) {
-            CharRead::Broken(_) => {
-                return false;
-            },
-            CharRead::Char(w, m, x) => {
-                if bytes.len() - k < m {
-                    return false;
-                }
-                if few_bytes(bytes, k, m) != w {
-                    return false;
-                }
-                i = x;
-                k += m;
-            },
+        let Ok((c, x)) = char_at(text, classes, i) else {
+            return false;
+        };
+        if bytes.len() - k < c.count {
+            return false;
         }
+        if few_bytes(bytes, k, c.count) != c.bytes {
+            return false;
+        }
+        i = x;
+        k += c.count;
     }
 }

@@ -20,7 +20,7 @@ pub(crate) fn digit_value(b: u8) -> u64
     ensures few { result ≤ 15 }
     ensures value { digit? b ≡ true → result ≡ b - 48 }
 {
-    (b % 16) as u64
+    u64::from(b % 16)
 }
 
 // The digits from a place up to another, after others that come to a number; together at most 19.
@@ -36,15 +36,13 @@ pub(crate) fn few_digits(
     ensures within { Within before at last result.value result.end }
     ensures few_read { classes.now ≡ class_table → FewRead text.now before at last result }
 {
-    let mut v = before;
-    let mut i = at;
-    while i < last {
+    let mut value = before;
+    for i in at..last {
         let b = text[i];
         if !is_digit(classes, b) {
-            return ShortRun { value: v, end: i };
+            return ShortRun { value, end: i };
         }
-        v = v * 10 + digit_value(b);
-        i += 1;
+        value = value * 10 + digit_value(b);
     }
-    ShortRun { value: v, end: i }
+    ShortRun { value, end: last }
 }

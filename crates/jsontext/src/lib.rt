@@ -11,6 +11,7 @@ mod words; // words.rt: eight bytes at once
 mod plain; // plain.rt: bytes that stand for themselves
 mod chars; // chars.rt: a character of a string, decoded
 pub mod decoded; // decoded.rt: strings compared after decoding
+mod kept; // kept.rt: what is kept of a string's bytes for its slot
 pub mod slots; // slots.rt: where a text is looked for first
 pub mod written; // written.rt: a string that is written just as it is
 pub mod tokens; // tokens.rt: short strings that are known beforehand

@@ -6,7 +6,6 @@ ghost use Rattle.jsontext.specs.StringAnswers.{Plains, mark};
 ghost use Rattle.jsontext.specs.Kept.{Bytes};
 
 use crate::words::{WORD, word};
-use base::numbers::smaller;
 
 // In each byte of a word: the highest bit, the others, the quote, the backslash, and what 32 lacks to 128.
 const HIGH: u64 = 0x8080_8080_8080_8080;
@@ -29,6 +28,14 @@ pub(crate) fn is_plain(b: u8) -> bool
     ensures { result ≡ plain? b }
 {
     (b != b'"') & (b != b'\\') & (32 <= b) & (b < 128)
+}
+
+// Whether all of these bytes stand for themselves.
+pub(crate) fn are_plain(bytes: &[u8]) -> bool
+    ensures plain { result ≡ true → Plains bytes.now 0 (length bytes.now) }
+    ensures done { Plains bytes.now 0 (length bytes.now) → result ≡ true }
+{
+    bytes.iter().all(|b| is_plain(*b))
 }
 
 // The highest bit of each byte that does not stand for itself. No sum goes over into the next byte: its highest bit says whether the byte is 32 or more, is no quote, is no backslash.
@@ -55,14 +62,12 @@ fn plain_rest(text: &[u8], at: usize) -> usize
     requires { at ≤ length text.now }
     ensures { Plains text.now at result }
 {
-    let mut i = at;
-    while i < text.len() {
+    for i in at..text.len() {
         if !is_plain(text[i]) {
             return i;
         }
-        i += 1;
     }
-    i
+    text.len()
 }
 
 // A place up to which the eight bytes at a place stand for themselves; behind them where all do.
@@ -73,7 +78,7 @@ pub(crate) fn plain_word(text: &[u8], i: usize) -> usize
     i + (u64::trailing_zeros(word_marks(text, i)) / 8) as usize
 }
 
-// A place up to which all bytes stand for themselves, eight at once.
+// A place up to which all bytes stand for themselves, eight at once. By place, not by `chunks_exact`: the answer is a place, and the bytes left are read from one.
 fn plain_words(text: &[u8], at: usize) -> usize
     requires { at ≤ length text.now }
     ensures { Plains text.now at result }
@@ -95,15 +100,13 @@ fn is_plain_block(text: &[u8], at: usize) -> bool
     ensures { result ≡ true → Plains text.now at (at + 64) }
 {
     let mut all = true;
-    let mut k: usize = 0;
-    while k < BLOCK {
+    for k in 0..BLOCK {
         all = all & is_plain(text[at + k]);
-        k += 1;
     }
     all
 }
 
-// A place up to which whole blocks stand for themselves.
+// A place up to which whole blocks stand for themselves. By place, not by `chunks_exact`: the answer is one.
 fn plain_blocks(text: &[u8], at: usize) -> usize
     requires { at ≤ length text.now }
     ensures { Plains text.now at result }
@@ -118,7 +121,8 @@ fn plain_blocks(text: &[u8], at: usize) -> usize
     i
 }
 
-// A place up to which all bytes stand for themselves, of many: by blocks, then by words.
+// A place up to which all bytes stand for themselves, of many: by blocks, then by words. Called, not inlined: in the loop of its callers it would slow them.
+#[inline(never)]
 pub(crate) fn plain_far(text: &[u8], at: usize) -> usize
     requires { at ≤ length text.now }
     ensures { Plains text.now at result }
@@ -126,12 +130,12 @@ pub(crate) fn plain_far(text: &[u8], at: usize) -> usize
     plain_words(text, plain_blocks(text, at))
 }
 
-// The same, where they may be few.
+// The same, where they may be few: a word or two by place, then what is left from there.
 pub(crate) fn plain_end(text: &[u8], at: usize) -> usize
     requires { at ≤ length text.now }
     ensures { Plains text.now at result }
 {
-    let near = at + smaller(text.len() - at, NEAR);
+    let near = at + NEAR.min(text.len() - at);
     let mut i = at;
     while near - i >= WORD {
         let e = plain_word(text, i);

@@ -1,5 +1,5 @@
 // Short strings whose bytes all stand for themselves, as most are: read without a loop, and compared in one or two words.
-ghost use Rattle.std.specs.Prelude.{◌≡◌, true, ◌+◌};
+ghost use Rattle.std.specs.Prelude.{◌≡◌, true, ◌+◌, IfSome};
 ghost use Rattle.base.specs.Text.{byte_at};
 ghost use Rattle.jsontext.specs.StringAnswers.{Plains};
 ghost use Rattle.jsontext.specs.Shorts.{ShortAt, SameBytes};
@@ -15,45 +15,37 @@ const AHEAD: usize = 24;
 // The most bytes that two words hold.
 const LONGEST: usize = 16;
 
-// The slot of a string and the place of its closing quote. Place 0: it is to be read in another way.
+// The slot of a string and the place of its closing quote.
 #[derive(Clone, Copy)]
 pub struct ShortString {
     pub slot: u16,
     pub end: usize,
 }
 
-fn no_short() -> ShortString
-    ensures { result.end ≡ 0 }
-{
-    ShortString { slot: 0, end: 0 }
-}
-
 // The string at a place, of which the bytes up to a quote stand for themselves.
-fn short_to(text: &[u8], at: usize, end: usize) -> ShortString
+fn short_to(text: &[u8], at: usize, end: usize) -> Option<ShortString>
     requires { (byte_at text.now at ≡ 34) × Plains text.now (at + 1) end }
-    ensures { (result.end ≡ 0 → ⊥) → ShortAt text.now at result.slot result.end }
+    ensures { IfSome result (λ s. ShortAt text.now at s.slot s.end) }
 {
     if byte_at(text, end) != b'"' {
-        return no_short();
+        return None;
     }
-    ShortString {
-        slot: kept_slot(keep_part(keep_none(), text, at + 1, end)),
-        end: end,
-    }
+    let slot = kept_slot(keep_part(keep_none(), text, at + 1, end));
+    Some(ShortString { slot, end })
 }
 
-// The string at a place, of at most 16 bytes that all stand for themselves, before the last bytes of the text.
-pub fn short(text: &[u8], at: usize) -> ShortString
-    ensures { (result.end ≡ 0 → ⊥) → ShortAt text.now at result.slot result.end }
+// The string at a place, of at most 16 bytes that all stand for themselves, before the last bytes of the text. None: it is to be read in another way.
+pub fn short(text: &[u8], at: usize) -> Option<ShortString>
+    ensures { IfSome result (λ s. ShortAt text.now at s.slot s.end) }
 {
     if text.len() < AHEAD {
-        return no_short();
+        return None;
     }
     if at > text.len() - AHEAD {
-        return no_short();
+        return None;
     }
     if text[at] != b'"' {
-        return no_short();
+        return None;
     }
     let first = at + 1;
     let end = plain_word(text, first);

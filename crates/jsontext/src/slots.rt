@@ -4,22 +4,13 @@ ghost use Rattle.jsontext.specs.Decoded.{join_bytes, last_eight, text_slot};
 ghost use Rattle.jsontext.specs.Scanned.{part};
 ghost use Rattle.jsontext.specs.Kept.{Bytes, Keeps};
 
+use crate::kept::Kept;
 use crate::words::{WORD, few_bytes, word};
-use base::numbers::smaller;
 
 const MODULUS: u64 = 4294967296;
 
 // The highest eleven bits of a hash.
 const SLOT_UNIT: u64 = 2097152;
-
-// How many bytes there are, modulo 2^32, and counted up to eight; the first eight, with zeros behind fewer, and the last eight, with zeros ahead of fewer.
-#[derive(Clone, Copy)]
-pub(crate) struct Kept {
-    count: u32,
-    few: usize,
-    first: u64,
-    last: u64,
-}
 
 pub(crate) fn keep_none() -> Kept
     ensures { Keeps [] result }
@@ -40,34 +31,31 @@ fn low(x: u64) -> u32
 
 // n bytes more, of which the first eight are given, and the last eight of all.
 fn keep(k: Kept, n: usize, front: u64, last: u64) -> Kept
-    requires { k.few ≤ 8 }
-    ensures kept { (bs xs : List ℕ) → Keeps bs k → Bytes xs → n ≡ length xs → front ≡ join_bytes (take 8 xs) → last ≡ last_eight (bs ++ xs) → Keeps (bs ++ xs) result }
-    ensures few { result.few ≤ 8 }
+    ensures { (bs xs : List ℕ) → Keeps bs k → Bytes xs → n ≡ length xs → front ≡ join_bytes (take 8 xs) → last ≡ last_eight (bs ++ xs) → Keeps (bs ++ xs) result }
 {
     let few = k.few;
     let first = k.first;
-    let count = low(k.count as u64 + n as u64 % MODULUS);
+    let count = low(u64::from(k.count) + n as u64 % MODULUS);
     if few < WORD {
         return Kept {
-            count: count,
-            few: few + smaller(n, WORD - few),
+            count,
+            few: few + n.min(WORD - few),
             first: first | front << (8 * few),
-            last: last,
+            last,
         };
     }
     Kept {
-        count: count,
-        few: few,
-        first: first,
-        last: last,
+        count,
+        few,
+        first,
+        last,
     }
 }
 
 // A few bytes more, joined.
 pub(crate) fn keep_few(k: Kept, w: u64, n: usize) -> Kept
-    requires { (k.few ≤ 8) × (0 < n) × (n < 8) }
-    ensures kept { (bs xs : List ℕ) → Keeps bs k → Bytes xs → n ≡ length xs → w ≡ join_bytes xs → Keeps (bs ++ xs) result }
-    ensures few { result.few ≤ 8 }
+    requires { (0 < n) × (n < 8) }
+    ensures { (bs xs : List ℕ) → Keeps bs k → Bytes xs → n ≡ length xs → w ≡ join_bytes xs → Keeps (bs ++ xs) result }
 {
     let last = k.last;
     keep(k, n, w, last >> (8 * n) | w << (64 - 8 * n))
@@ -75,9 +63,8 @@ pub(crate) fn keep_few(k: Kept, w: u64, n: usize) -> Kept
 
 // The bytes from a place up to another more.
 pub(crate) fn keep_part(k: Kept, text: &[u8], at: usize, end: usize) -> Kept
-    requires { (k.few ≤ 8) × (at ≤ end) × (end ≤ length text.now) }
-    ensures kept { (bs : List ℕ) → Keeps bs k → Keeps (bs ++ part text.now at end) result }
-    ensures few { result.few ≤ 8 }
+    requires { (at ≤ end) × (end ≤ length text.now) }
+    ensures { (bs : List ℕ) → Keeps bs k → Keeps (bs ++ part text.now at end) result }
 {
     let n = end - at;
     if n == 0 {
@@ -97,7 +84,7 @@ pub(crate) fn kept_slot(k: Kept) -> u16
     let last = k.last;
     let a = first % MODULUS * 2246822519 ^ first / MODULUS * 3266489917;
     let z = last % MODULUS * 2654435761 ^ last / MODULUS * 668265263;
-    let h = a ^ z ^ k.count as u64 * 374761393;
+    let h = a ^ z ^ u64::from(k.count) * 374761393;
     (h % MODULUS / SLOT_UNIT) as u16
 }
 

@@ -12,8 +12,7 @@ const BLANK: u8 = 32;
 pub fn space_end(text: &[u8], classes: &[u8; 256], at: usize) -> usize
     ensures { classes.now ≡ class_table → result ≡ space_end text.now at }
 {
-    let mut i = at;
-    while i < text.len() {
+    for i in at..text.len() {
         let b = text[i];
         if b > BLANK {
             return i;
@@ -21,7 +20,6 @@ pub fn space_end(text: &[u8], classes: &[u8; 256], at: usize) -> usize
         if !is_space(classes, b) {
             return i;
         }
-        i += 1;
     }
-    i
+    at.max(text.len())
 }

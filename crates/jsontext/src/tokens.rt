@@ -1,11 +1,11 @@
 // A short string that is known beforehand, compared with the text in one or two words, its quotes included.
-ghost use Rattle.std.specs.Prelude.{◌≡◌, true, List, ℕ, ◌+◌, ◌≤◌, length, take};
+ghost use Rattle.std.specs.Prelude.{◌≡◌, true, List, ℕ, ◌+◌, ◌≤◌, length, take, IfSome, IsSomeAnd};
 ghost use Rattle.base.specs.Text.{got};
 ghost use Rattle.jsontext.specs.Strings.{string_at};
 ghost use Rattle.jsontext.specs.StringAnswers.{Plains};
 ghost use Rattle.jsontext.specs.Tokens.{quoted, TokenOf};
 
-use crate::plain::is_plain;
+use crate::plain::are_plain;
 use crate::words::{WORD, few_bytes, word};
 
 // The most bytes of a token, two words, and how many of them are quotes.
@@ -13,22 +13,12 @@ const LONGEST: usize = 16;
 
 const QUOTES: usize = 2;
 
-// What a string is compared by. Fewer than eight bytes stand in the highest places of the first number; of others the first holds the first eight and the last the last eight, which may overlap. Length 0: there is none.
+// What a string is compared by. Fewer than eight bytes stand in the highest places of the first number; of others the first holds the first eight and the last the last eight, which may overlap.
 #[derive(Clone, Copy)]
 pub struct Token {
     pub first: u64,
     pub last: u64,
     pub length: usize,
-}
-
-fn no_token() -> Token
-    ensures { result.length ≡ 0 }
-{
-    Token {
-        first: 0,
-        last: 0,
-        length: 0,
-    }
 }
 
 // Puts the bytes between quotes at the front, where all stand for themselves.
@@ -38,51 +28,53 @@ fn put_quoted(out: &mut [u8], bytes: &[u8]) -> bool
     ensures put { result ≡ true → take (length bytes.now + 2) out.new ≡ quoted bytes.now }
     ensures done { Plains bytes.now 0 (length bytes.now) → result ≡ true }
 {
-    out[0] = b'"';
-    let mut i: usize = 0;
-    while i < bytes.len() {
-        let b = bytes[i];
-        if !is_plain(b) {
-            return false;
-        }
-        i += 1;
-        out[i] = b;
+    if !are_plain(bytes) {
+        return false;
     }
-    out[i + 1] = b'"';
+    let n = bytes.len();
+    out[0] = b'"';
+    out[1..n + 1].copy_from_slice(bytes);
+    out[n + 1] = b'"';
     true
 }
 
 // The token of at most 14 bytes that all stand for themselves; none of others.
-pub fn token_of(bytes: &[u8]) -> Token
-    ensures token_of { (result.length ≡ 0 → ⊥) → TokenOf bytes.now result.first result.last result.length }
-    ensures some { Plains bytes.now 0 (length bytes.now) → length bytes.now ≤ 14 → result.length ≡ length bytes.now + 2 }
+pub fn token_of(bytes: &[u8]) -> Option<Token>
+    ensures token_of { IfSome result (λ t. TokenOf bytes.now t.first t.last t.length) }
+    ensures some { Plains bytes.now 0 (length bytes.now) → length bytes.now ≤ 14 → IsSomeAnd result (λ t. t.length ≡ length bytes.now + 2) }
 {
     if bytes.len() > LONGEST - QUOTES {
-        return no_token();
+        return None;
     }
-    let n = bytes.len() + QUOTES;
+    let length = bytes.len() + QUOTES;
     let mut all = [0u8; LONGEST];
     if !put_quoted(&mut all, bytes) {
-        return no_token();
+        return None;
     }
-    if n < WORD {
-        return Token {
-            first: few_bytes(&all, 0, n) << (64 - 8 * n),
+    if length < WORD {
+        let first = few_bytes(&all, 0, length) << (64 - 8 * length);
+        return Some(Token {
+            first,
             last: 0,
-            length: n,
-        };
+            length,
+        });
     }
-    Token {
+    Some(Token {
         first: word(&all, 0),
-        last: word(&all, n - WORD),
-        length: n,
-    }
+        last: word(&all, length - WORD),
+        length,
+    })
 }
 
 // Whether the string at a place is written as the token. False also near the end of the text, where the longest cannot be read: the string is then to be read in another way.
-pub fn has_token(text: &[u8], at: usize, first: u64, last: u64, n: usize) -> bool
-    ensures { result ≡ true → (key : List ℕ) → TokenOf key first last n → string_at text.now at ≡ got key (at + n) }
+pub fn has_token(text: &[u8], at: usize, token: Token) -> bool
+    ensures { result ≡ true → (key : List ℕ) → TokenOf key token.first token.last token.length → string_at text.now at ≡ got key (at + token.length) }
 {
+    let Token {
+        first,
+        last,
+        length: n,
+    } = token;
     if text.len() < LONGEST {
         return false;
     }

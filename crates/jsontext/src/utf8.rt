@@ -4,14 +4,7 @@ ghost use Rattle.jsontext.specs.Utf8.{between, tail, pass_at, sequence_at};
 ghost use Rattle.jsontext.specs.Lead.{follows, lowest, highest};
 ghost use Rattle.jsontext.specs.StringAnswers.{stretch_of};
 
-use base::text::byte_at;
-
-// The place up to which bytes belong together, or the place of the first that does not.
-#[derive(Clone, Copy)]
-pub(crate) enum StretchRead {
-    UpTo(usize),
-    BrokenAt(usize),
-}
+use base::text::{Fault, byte_at};
 
 // Whether a byte is one from `lo` to `hi`.
 pub(crate) fn within(lo: u8, hi: u8, b: u8) -> bool
@@ -61,33 +54,30 @@ fn highest(b: u8) -> u8
     191
 }
 
-// So many bytes from 80 to BF.
-fn tails(text: &[u8], at: usize, count: usize) -> StretchRead
+// The place after so many bytes from 80 to BF.
+fn tails(text: &[u8], at: usize, count: usize) -> Result<usize, Fault>
     ensures { stretch_of result ≡ pass_at (replicate count tail) text.now at }
 {
-    let mut i = at;
-    let mut left = count;
-    while left > 0 {
+    for k in 0..count {
+        let i = at + k;
         if !within(128, 191, byte_at(text, i)) {
-            return StretchRead::BrokenAt(i);
+            return Err(Fault(i));
         }
-        i += 1;
-        left -= 1;
     }
-    StretchRead::UpTo(i)
+    Ok(at + count)
 }
 
-// The sequence whose lead byte stands at a place.
-pub(crate) fn sequence(text: &[u8], at: usize) -> StretchRead
+// The place after the sequence whose lead byte stands at a place.
+pub(crate) fn sequence(text: &[u8], at: usize) -> Result<usize, Fault>
     ensures { stretch_of result ≡ sequence_at text.now at }
 {
     let b = byte_at(text, at);
     let n = follows(b);
     if n == 0 {
-        return StretchRead::BrokenAt(at);
+        return Err(Fault(at));
     }
     if !within(lowest(b), highest(b), byte_at(text, at + 1)) {
-        return StretchRead::BrokenAt(at + 1);
+        return Err(Fault(at + 1));
     }
     tails(text, at + 2, n - 1)
 }

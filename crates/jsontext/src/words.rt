@@ -5,26 +5,21 @@ ghost use Rattle.jsontext.specs.Decoded.{join_bytes};
 // The bytes in a word.
 pub(crate) const WORD: usize = 8;
 
-// A byte among 64-bit numbers.
-pub(crate) fn wide(b: u8) -> u64
-    ensures { (result ≡ b) × (result < 256) }
-{
-    b as u64
-}
-
-// The eight bytes at a place.
+// The eight bytes at a place. Named one by one: `first_chunk` was tried, and reads of strings took an eighth longer.
 pub(crate) fn word(bytes: &[u8], i: usize) -> u64
     requires { i + 8 ≤ length bytes.now }
     ensures { result ≡ join_bytes (take 8 (drop i bytes.now)) }
 {
-    wide(bytes[i])
-        + wide(bytes[i + 1]) * 256
-        + wide(bytes[i + 2]) * 65536
-        + wide(bytes[i + 3]) * 16777216
-        + wide(bytes[i + 4]) * 4294967296
-        + wide(bytes[i + 5]) * 1099511627776
-        + wide(bytes[i + 6]) * 281474976710656
-        + wide(bytes[i + 7]) * 72057594037927936
+    u64::from_le_bytes([
+        bytes[i],
+        bytes[i + 1],
+        bytes[i + 2],
+        bytes[i + 3],
+        bytes[i + 4],
+        bytes[i + 5],
+        bytes[i + 6],
+        bytes[i + 7],
+    ])
 }
 
 // All of fewer than eight bytes.
@@ -32,13 +27,9 @@ fn short_word(bytes: &[u8]) -> u64
     requires { length bytes.now < 8 }
     ensures { result ≡ join_bytes bytes.now }
 {
-    let mut w: u64 = 0;
-    let mut i = bytes.len();
-    while i > 0 {
-        i -= 1;
-        w = w * 256 + wide(bytes[i]);
-    }
-    w
+    let mut all = [0u8; WORD];
+    all[..bytes.len()].copy_from_slice(bytes);
+    u64::from_le_bytes(all)
 }
 
 // The n bytes at a place, one to seven: most often eight can be read, and the others are shifted out.

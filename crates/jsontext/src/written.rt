@@ -4,27 +4,17 @@ ghost use Rattle.base.specs.Text.{got};
 ghost use Rattle.jsontext.specs.Strings.{string_at};
 ghost use Rattle.jsontext.specs.Compared.{Alike};
 
-use crate::plain::{is_plain, word_marks};
+use crate::plain::{are_plain, word_marks};
 use crate::words::{WORD, word};
 
-// Whether n bytes at two places agree and stand for themselves, one by one.
+// Whether n bytes at two places agree and stand for themselves, byte by byte.
 fn same_bytes(text: &[u8], i: usize, bytes: &[u8], j: usize, n: usize) -> bool
     requires first { i + n ≤ length text.now }
     requires second { j + n ≤ length bytes.now }
     ensures { result ≡ true → Alike text.now i bytes.now j n }
 {
-    let mut k: usize = 0;
-    while k < n {
-        let b = text[i + k];
-        if !is_plain(b) {
-            return false;
-        }
-        if bytes[j + k] != b {
-            return false;
-        }
-        k += 1;
-    }
-    true
+    let part = &bytes[j..j + n];
+    are_plain(part) && part == &text[i..i + n]
 }
 
 // The same of one to eight bytes, in a word of which the others are shifted out.
@@ -54,7 +44,7 @@ fn same_few(text: &[u8], i: usize, bytes: &[u8], j: usize, n: usize) -> bool
     same_word(text, i, bytes, j, n)
 }
 
-// Whether n bytes at two places agree and stand for themselves, eight at once.
+// Whether n bytes at two places agree and stand for themselves, eight at once. By place, not by `chunks_exact`: two texts are read there, and the last step from there.
 fn same_part(text: &[u8], i: usize, bytes: &[u8], n: usize) -> bool
     requires first { i + n ≤ length text.now }
     requires second { n ≤ length bytes.now }
@@ -70,6 +60,7 @@ fn same_part(text: &[u8], i: usize, bytes: &[u8], n: usize) -> bool
     same_few(text, i + k, bytes, k, n - k)
 }
 
+// The count stands beside the bytes, since those behind the n-th are read with them, a word at once.
 // Whether the string at a place is the first n of these bytes, written just as they are. Where it is not, the string may still be these bytes, of which some are escaped or do not stand for themselves: it is then to be read.
 pub fn written(text: &[u8], at: usize, bytes: &[u8], n: usize) -> bool
     ensures { result ≡ true → string_at text.now at ≡ got (take n bytes.now) (at + n + 2) }

@@ -8,17 +8,23 @@ use mathlib.Core.Bool.{Bool, true, false, cond}
 use Prim.Native.Nat.{ℕ, zero, suc, ◌+◌, ◌-◌, ◌<◌, ◌≤◌}
 use native.Mathlib.Omega.{arith}
 use lib.ListN.{get_or, set}
+use Rattle.std.specs.Prelude.{Some}
 use Rattle.model.specs.Lists.{any, concat_map, only}
 use Rattle.model.specs.Annotation.{Memory, Annotation, annotation, agree?, joined, eq_annotation}
 use Rattle.model.proofs.Members.{T_true, any_in, eq_annotation_refl, add_new_known, add_new_new}
-use Rattle.judging.specs.Cells.{memory_of, without, annotations_in}
+use Rattle.membership.specs.Cells.{memory_of, without, annotations_in}
 use Rattle.judging.specs.Index.{Indexed}
-use Rattle.judging.specs.Entries.{Entry, annotations_of, entries_in, add_entry, add_entries, Grown}
-use Rattle.judging.specs.Search.{span, no_annotation, choosable?, tags_in, arity_in, base_in, room_in, low_in, high_in, row_asked, rule_asked, target_asked, forget_asked, state_asked, chosen, found}
+use Rattle.membership.specs.Entries.{Entry, annotations_of, entries_in, add_entry, add_entries}
+use Rattle.judging.specs.Entries.{Grown}
+use Rattle.membership.specs.Search.{span, no_annotation, choosable?}
+use Rattle.judging.specs.Search.{tags_in, arity_in, base_in, room_in, low_in, high_in, row_asked, rule_asked, target_asked, forget_asked, state_asked, chosen, found}
 use Rattle.judging.specs.Tried.{slots, stamp_in, tried_in, stamp_of, SlotIs, Stands, Kept, Fresh, Tried}
-use Rattle.judging.proofs.Adding.{Ext, ext_same, ext_entries, same_annotations}
-use Rattle.judging.proofs.Storing.{entries_annotations}
-use Rattle.judging.proofs.Listing.{add_is}
+use Rattle.membership.proofs.Adding.{Ext, ext_same, ext_entries, same_annotations}
+use Rattle.membership.proofs.Storing.{entries_annotations}
+use Rattle.membership.proofs.Listing.{add_is}
+use Rattle.membership.specs.declared.table.Plan.{Plan}
+use Rattle.judging.specs.declared.search.Want.{Want}
+use Rattle.judging.specs.declared.tried.Slot.{Slot}
 
 -- what is known already is not added
 adds_nothing : (xs known : List Entry) → ((a : Annotation) → In a (annotations_of xs) → In a (annotations_of known)) → add_entries known xs ≡ known
@@ -44,7 +50,7 @@ map_concat h f g (j ∷ l) e = map_append (f j) (concat_map f l) ∙ cc (e j, ma
     map_append [] ys = refl
     map_append (x ∷ xs) ys = ap (λ l. h x ∷ l) (map_append xs ys)
 
-module _ (known : List Annotation) (plan asked : List ℕ) (own : Memory) where
+module _ (known : List Annotation) (plan : Plan) (asked : Want) (own : Memory) where
   pub found_annotations : (left : ℕ) (m : Memory) (c d : List ℕ) → annotations_of (found known plan asked own left m c) ≡ annotations_of (found known plan asked own left m d)
   unfolding found
   found_annotations zero m c d = go (agree? left own)
@@ -73,7 +79,7 @@ module _ (known : List Annotation) (plan asked : List ℕ) (own : Memory) where
       one true xs ys e = e
       one false xs ys e = refl
 
-module _ (plan asked own : List ℕ) where
+module _ (plan : Plan) (asked : Want) (own : List ℕ) where
   abbrev tags : ℕ
   tags = tags_in plan
 
@@ -81,7 +87,7 @@ module _ (plan asked own : List ℕ) where
   from work left m c = found (annotations_in (tags_in plan) work (base_in plan)) plan asked (memory_of (tags_in plan) own) left m c
 
   -- before a rule
-  pub tried_fresh : (work : List ℕ) (n : ℕ) (cells : List ℕ) (i r : ℕ) → row_asked asked ≡ i → rule_asked asked ≡ r → i < 1024 → r < 1024 → Fresh i r cells → Tried plan asked own work n cells
+  pub tried_fresh : (work : List ℕ) (n : ℕ) (cells : List Slot) (i r : ℕ) → row_asked asked ≡ i → rule_asked asked ≡ r → i < 1024 → r < 1024 → Fresh i r cells → Tried plan asked own work n cells
   tried_fresh work n cells i r ei er li lr f =
       record {
         few_rows = omega arith;
@@ -91,7 +97,7 @@ module _ (plan asked own : List ℕ) where
       }
 
   -- as entries are added
-  pub tried_grows : (work work' : List ℕ) (n m : ℕ) (cells : List ℕ) (xs : List Entry) → Tried plan asked own work n cells → base_in plan ≤ n → n ≤ m → entries_in (tags_in plan) work' m ≡ add_entries (entries_in (tags_in plan) work n) xs → Tried plan asked own work' m cells
+  pub tried_grows : (work work' : List ℕ) (n m : ℕ) (cells : List Slot) (xs : List Entry) → Tried plan asked own work n cells → base_in plan ≤ n → n ≤ m → entries_in (tags_in plan) work' m ≡ add_entries (entries_in (tags_in plan) work n) xs → Tried plan asked own work' m cells
   tried_grows work work' n m cells xs t lb ln e =
       let front = ext_entries xs (entries_in (tags_in plan) work n) in
       let whole = subst (Ext (entries_in (tags_in plan) work' m)) e (ext_same (entries_in (tags_in plan) work' m)) in
@@ -106,14 +112,14 @@ module _ (plan asked own : List ℕ) where
       }
 
   -- where the memory stands in a slot
-  pub tried_before : (work heads : List ℕ) (n left : ℕ) (m : Memory) (c cells : List ℕ) → Tried plan asked own work n cells → n ≤ room_in plan → Indexed (tags_in plan) (room_in plan) work heads n → Stands (stamp_of (row_asked asked) (rule_asked asked) left) (tags_in plan) m cells → Grown n (room_in plan) (tags_in plan) (add_entries (entries_in (tags_in plan) work n) (from work left m c)) work heads n
+  pub tried_before : (work heads : List ℕ) (n left : ℕ) (m : Memory) (c : List ℕ) (cells : List Slot) → Tried plan asked own work n cells → n ≤ room_in plan → Indexed (tags_in plan) (room_in plan) work heads n → Stands (stamp_of (row_asked asked) (rule_asked asked) left) (tags_in plan) m cells → Grown n (room_in plan) (tags_in plan) (add_entries (entries_in (tags_in plan) work n) (from work left m c)) work heads (Some n)
   tried_before work heads n left m c cells t l index st =
       let e = adds_nothing (from work left m c) (entries_in (tags_in plan) work n) (λ a h. subst (In a) (sym (entries_annotations (tags_in plan) work n))
       (t.known st.slot left st.inside st.stamped a (subst (λ z. In a (annotations_of (from work left z []))) (sym st.holds) (subst (In a) (found_annotations (annotations_in (tags_in plan) work (base_in plan)) plan asked (memory_of (tags_in plan) own) left m c []) h)))) in
-      record { more = omega arith; held = λ _. sym e; full = λ h. let z : ⊥ = omega arith in absurd z; indexed = λ _. index }
+      record { more = omega arith; count = l; held = sym e; indexed = index }
 
   -- the memory is put in a slot, once all that is found from it is added
-  pub tried_kept : (work₀ work : List ℕ) (n m left : ℕ) (memory c cells cells' : List ℕ) → Tried plan asked own work m cells → tags_in plan ≤ 16 → left ≤ 4 → base_in plan ≤ n → n ≤ m → entries_in (tags_in plan) work m ≡ add_entries (entries_in (tags_in plan) work₀ n) (from work₀ left (memory_of (tags_in plan) memory) c) → Kept cells (stamp_of (row_asked asked) (rule_asked asked) left) memory cells' → Tried plan asked own work m cells'
+  pub tried_kept : (work₀ work : List ℕ) (n m left : ℕ) (memory c : List ℕ) (cells cells' : List Slot) → Tried plan asked own work m cells → tags_in plan ≤ 16 → left ≤ 4 → base_in plan ≤ n → n ≤ m → entries_in (tags_in plan) work m ≡ add_entries (entries_in (tags_in plan) work₀ n) (from work₀ left (memory_of (tags_in plan) memory) c) → Kept cells (stamp_of (row_asked asked) (rule_asked asked) left) memory cells' → Tried plan asked own work m cells'
   tried_kept work₀ work n m left memory c cells cells' t few ll lb ln e k =
       record {
         few_rows = t.few_rows;
@@ -142,5 +148,5 @@ module _ (plan asked own : List ℕ) where
           subst (In a) (ap annotations_of (sym e) ∙ entries_annotations (tags_in plan) work m) (adds_all xs (entries_in (tags_in plan) work₀ n) a h₄)
 
   -- after a rule: no slot has a later stamp
-  pub tried_after : (work : List ℕ) (n : ℕ) (cells : List ℕ) (i r : ℕ) → row_asked asked ≡ i → rule_asked asked ≡ r → Tried plan asked own work n cells → Fresh i (r + 1) cells
+  pub tried_after : (work : List ℕ) (n : ℕ) (cells : List Slot) (i r : ℕ) → row_asked asked ≡ i → rule_asked asked ≡ r → Tried plan asked own work n cells → Fresh i (r + 1) cells
   tried_after work n cells i r ei er t s l = let x = t.latest s l in omega arith

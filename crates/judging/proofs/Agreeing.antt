@@ -13,8 +13,8 @@ use Rattle.model.specs.Annotation.{Memory, places_agree, joined_place, agree?, j
 use Rattle.model.proofs.Members.{T_and, and_T}
 use Rattle.model.proofs.Tab.{tab_at, tab_past}
 use Rattle.automaton.proofs.Parts.{tab_same}
-use Rattle.judging.specs.Cells.{without}
-use Rattle.judging.proofs.Places.{joined_tab}
+use Rattle.membership.specs.Cells.{without}
+use Rattle.membership.proofs.Places.{joined_tab}
 
 -- two tests that hold together are one
 pub same_test : (a b : Bool) → (T a → T b) → (T b → T a) → a ≡ b

@@ -1,55 +1,50 @@
 -- The loop over the rows: the entries so far are those of the rows below, and their counts stand in the starts. Assumes nothing.
 use mathlib.Core.Path.{◌≡◌, refl, sym, ap, ◌∙◌}
 use mathlib.Core.List.{List}
-use mathlib.Core.Bool.{Bool, true, false, cond}
-use Prim.Native.Nat.{ℕ, suc, ◌+◌, ◌*◌, ◌/◌, ◌<◌, ◌≤◌}
+use Prim.Native.Nat.{ℕ, zero, suc, ◌+◌, ◌*◌, ◌<◌, ◌≤◌}
 use native.Mathlib.Omega.{arith}
-use native.Mathlib.Nat.{div-mul-le_self}
 use native.Mathlib.Numerals.{add-one}
 use native.Mathlib.Decide.{ℕ_discrete}
-use borrow.Author.Tests.{leb-true, leb-false}
-use lib.Dec.{leb}
-use lib.ListN.{length, get_or, set, replicate, length-set, length-map}
+use lib.ListN.{length, get_or, set, replicate, length-set}
 use lib.Seq.{get_or-set_same, get_or-set_other}
-use Rattle.model.specs.Limits.{max_steps, max_rows}
-use Rattle.model.specs.Automaton.{Automaton}
-use Rattle.model.specs.Table.{Row, SoundTable}
+use Rattle.model.specs.Limits.{max_rows}
+use Rattle.model.specs.Table.{SoundTable}
 use Rattle.model.specs.Annotation.{annotations}
 use Rattle.automaton.specs.Stored.{decode}
 use Rattle.automaton.specs.Check.{check_of}
 use Rattle.automaton.proofs.Sound.{sound_decode}
 use Rattle.document.specs.Rows.{decode_rows}
-use Rattle.judging.specs.Cells.{annotation_cells, room_of}
+use Rattle.membership.specs.Cells.{room_of}
 use Rattle.judging.specs.Index.{Indexed}
-use Rattle.judging.specs.Entries.{Entry, annotations_of, entries_in, Grown}
-use Rattle.judging.specs.Listing.{entries_below}
-use Rattle.judging.specs.Plan.{Starts, Before}
-use Rattle.judging.specs.Annotated.{Annotated}
-use Rattle.judging.specs.Tried.{stamp_in, Fresh}
-use Rattle.judging.proofs.Adding.{length_entries}
-use Rattle.judging.proofs.Storing.{entries_annotations}
-use Rattle.judging.proofs.Listing as listing
-use Rattle.judging.proofs.ByRow.{few_children}
-use Rattle.judging.proofs.Rowing.{zeros}
-use Rattle.judging.proofs.Starts.{starts_rise, sourced_in}
+use Rattle.membership.specs.Entries.{annotations_of, entries_in}
+use Rattle.judging.specs.Entries.{Held}
+use Rattle.membership.specs.Listing.{entries_below}
+use Rattle.membership.specs.Plan.{Starts}
+use Rattle.judging.specs.Plan.{Before}
+use Rattle.membership.specs.Annotated.{AllIn}
+use Rattle.judging.specs.Tried.{untried, stamp_in, Fresh}
+use Rattle.membership.proofs.Adding.{length_entries}
+use Rattle.membership.proofs.Storing.{entries_annotations}
+use Rattle.membership.proofs.Listing as listing
+use Rattle.membership.proofs.ByRow.{few_children}
+use Rattle.membership.proofs.Starts.{starts_rise, sourced_in}
+use Rattle.judging.specs.declared.tried.Slot.{Slot}
+use Rattle.membership.proofs.Annotating.{room_fits, none_in, count_all}
 
--- the room fits the space
-pub room_fits : (cells : ℕ) → (room_of cells ≤ max_steps) × (room_of cells * annotation_cells ≤ cells)
-unfolding room_of
-room_fits cells = go (leb (cells / annotation_cells) max_steps) refl
-  where
-    go : (b : Bool) → leb (cells / annotation_cells) max_steps ≡ b → (cond b (cells / annotation_cells) max_steps ≤ max_steps) × (cond b (cells / annotation_cells) max_steps * annotation_cells ≤ cells)
-    go true e = (leb-true (cells / annotation_cells) max_steps e, div-mul-le_self cells annotation_cells)
-    go false e = let l = leb-false (cells / annotation_cells) max_steps e in (omega arith, omega (arith, div-mul-le_self cells annotation_cells))
-
--- slots of zeros
-pub fresh_zeros : (n : ℕ) → Fresh 0 0 (replicate n 0)
+-- slots that hold nothing
+pub fresh_slots : (n : ℕ) (memory : List ℕ) → Fresh 0 0 (replicate n (record { row = 0; stamp = 0; memory = memory }))
 unfolding stamp_in
-fresh_zeros n s l = let a = zeros n (s * 18) in let b = zeros n (s * 18 + 1) in omega (arith, a, b)
+fresh_slots n memory s l = omega (arith, row_is n s, stamp_is n s)
+  where
+    row_is : (n s : ℕ) → (get_or (replicate n (record { row = 0; stamp = 0; memory = memory })) s untried).row ≡ 0
+    row_is zero s = refl
+    row_is (suc n) zero = refl
+    row_is (suc n) (suc s) = row_is n s
 
-none_in : (tags : ℕ) (work : List ℕ) (A : Automaton) (rows : List Row) → entries_in tags work 0 ≡ entries_below A rows 0
-unfolding entries_in entries_below
-none_in tags work A rows = refl
+    stamp_is : (n s : ℕ) → (get_or (replicate n (record { row = 0; stamp = 0; memory = memory })) s untried).stamp ≡ 0
+    stamp_is zero s = refl
+    stamp_is (suc n) zero = refl
+    stamp_is (suc n) (suc s) = stamp_is n s
 
 none_indexed : (tags room : ℕ) (work slots : List ℕ) → Indexed tags room work slots 0
 none_indexed tags room work slots = record { chains = λ j l. absurd (none j l); short = λ j l. absurd (none j l) }
@@ -57,11 +52,7 @@ none_indexed tags room work slots = record { chains = λ j l. absurd (none j l);
     none : (j : ℕ) → j < 0 → ⊥
     none j l = omega arith
 
--- the entries of all rows are the table's annotations
-count_all : (A : Automaton) (rows : List Row) → length (entries_below A rows (length rows)) ≡ length (annotations A rows)
-count_all A rows = sym (length-map (entries_below A rows (length rows)) (λ (e : Entry). e.annotation)) ∙ ap length (listing.entries_annotations A rows (length rows))
-
-pub record Annotating (s cells : List ℕ) (room tags long : ℕ) (starts tried work slots : List ℕ) (n i : ℕ) : Type 0 where
+pub record Annotating (s cells : List ℕ) (room tags long : ℕ) (starts : List ℕ) (tried : List Slot) (work slots : List ℕ) (n i : ℕ) : Type 0 where
   pub ok : check_of s ≡ 0
   pub table : SoundTable (decode s) (decode_rows cells)
   pub tags_are : tags ≡ (decode s).tags
@@ -76,7 +67,7 @@ pub record Annotating (s cells : List ℕ) (room tags long : ℕ) (starts tried 
   pub started : (c : ℕ) → c < i → get_or starts c 0 ≡ length (entries_below (decode s) (decode_rows cells) c)
 
 module _ (s cells : List ℕ) (room tags long : ℕ) where
-  pub annotating_start : (starts tried work slots : List ℕ) → check_of s ≡ 0 → SoundTable (decode s) (decode_rows cells) → tags ≡ (decode s).tags → room ≡ room_of long → length work ≡ long → length starts ≡ max_rows → Fresh 0 0 tried → Annotating s cells room tags long starts tried work slots 0 0
+  pub annotating_start : (starts : List ℕ) (tried : List Slot) (work slots : List ℕ) → check_of s ≡ 0 → SoundTable (decode s) (decode_rows cells) → tags ≡ (decode s).tags → room ≡ room_of long → length work ≡ long → length starts ≡ max_rows → Fresh 0 0 tried → Annotating s cells room tags long starts tried work slots 0 0
   annotating_start starts tried work slots ok table et er el ew ef =
       record {
         ok = ok;
@@ -93,7 +84,7 @@ module _ (s cells : List ℕ) (room tags long : ℕ) where
         started = λ c l. let z : ⊥ = omega arith in absurd z;
       }
 
-  module _ (starts tried work slots : List ℕ) (n i : ℕ) (h : Annotating s cells room tags long starts tried work slots n i) where
+  module _ (starts : List ℕ) (tried : List Slot) (work slots : List ℕ) (n i : ℕ) (h : Annotating s cells room tags long starts tried work slots n i) where
     pub room_small : (n ≤ 4096) × (room ≤ 4096) × (room * 32 ≤ length work)
     room_small = let (a, b) = room_fits long in let e = h.room_is in let c = h.count in let l = h.space in (omega arith, omega arith, omega arith)
 
@@ -112,9 +103,9 @@ module _ (s cells : List ℕ) (room tags long : ℕ) where
             rw q (get_or-set_same starts i v 0 (omega arith) ∙ ev ∙ sym (length_entries tags work n) ∙ ap length h.entries)
         go (no q) = get_or-set_other starts i c v 0 q ∙ h.started c (omega (arith, q))
 
-    module _ (l : i < length (decode_rows cells)) (v : ℕ) (ev : v ≡ n) (work' tried' slots' : List ℕ) (n' : ℕ) (g : Grown n room tags (entries_below (decode s) (decode_rows cells) (suc i)) work' slots' n') (f' : n' ≤ room → Fresh (suc i) 0 tried') where
-      pub annotating_more : length work' ≡ length work → n' ≤ room → Annotating s cells room tags long (set starts i v) tried' work' slots' n' (i + 1)
-      annotating_more e f =
+    module _ (l : i < length (decode_rows cells)) where
+      pub annotating_more : (v : ℕ) → v ≡ n → (work' : List ℕ) (tried' : List Slot) (slots' : List ℕ) (n' : ℕ) → Held n room tags (entries_below (decode s) (decode_rows cells) (suc i)) work' slots' n' → Fresh (suc i) 0 tried' → length work' ≡ length work → Annotating s cells room tags long (set starts i v) tried' work' slots' n' (i + 1)
+      annotating_more v ev work' tried' slots' n' g f' e =
           record {
             ok = h.ok;
             table = h.table;
@@ -123,32 +114,26 @@ module _ (s cells : List ℕ) (room tags long : ℕ) where
             space = e ∙ h.space;
             wide = length-set starts i v ∙ h.wide;
             inside = omega arith;
-            count = f;
-            entries = g.held f ∙ ap (entries_below (decode s) (decode_rows cells)) (sym (add-one i));
-            indexed = g.indexed f;
-            fresh = λ k m. let z = f' f k m in omega arith;
+            count = g.count;
+            entries = g.held ∙ ap (entries_below (decode s) (decode_rows cells)) (sym (add-one i));
+            indexed = g.indexed;
+            fresh = λ k m. let z = f' k m in omega arith;
             started = λ c m. row_starts l v ev c (omega arith);
           }
 
-      pub annotating_full : room < n' → Annotated (decode s) (decode_rows cells) (room_of long) work' n'
+      pub annotating_full : room < length (entries_below (decode s) (decode_rows cells) (suc i)) → room_of long < length (annotations (decode s) (decode_rows cells))
       annotating_full f =
           let e = h.room_is in
-          record {
-            held = λ m. let z : ⊥ = omega arith in absurd z;
-            sourced = λ m. let z : ⊥ = omega arith in absurd z;
-            full = λ _.
-                let a = g.full f in
-                let b = starts_rise (decode s) (decode_rows cells) (suc i) (length (decode_rows cells)) l in
-                let c = count_all (decode s) (decode_rows cells) in
-                omega arith;
-          }
+          let b = starts_rise (decode s) (decode_rows cells) (suc i) (length (decode_rows cells)) l in
+          let c = count_all (decode s) (decode_rows cells) in
+          omega arith
 
-    pub annotating_all : length (decode_rows cells) ≤ i → Annotated (decode s) (decode_rows cells) (room_of long) work n
+    pub annotating_all : length (decode_rows cells) ≤ i → AllIn (decode s) (decode_rows cells) (room_of long) work n
     annotating_all l =
         let q : i ≡ length (decode_rows cells) = let a = h.inside in omega arith in
         let held : entries_in (decode s).tags work n ≡ entries_below (decode s) (decode_rows cells) (length (decode_rows cells)) = ap (λ t. entries_in t work n) (sym h.tags_are) ∙ h.entries ∙ ap (entries_below (decode s) (decode_rows cells)) q in
         record {
-          held = λ _. sym (entries_annotations (decode s).tags work n) ∙ ap annotations_of held ∙ listing.entries_annotations (decode s) (decode_rows cells) (length (decode_rows cells));
-          sourced = λ _. sourced_in (decode s) (decode_rows cells) (few_children (decode s) (decode_rows cells) (sound_decode s h.ok) h.table) (decode s).tags work n (length (decode_rows cells)) (omega arith) held;
-          full = λ f. let a = h.count in let e = h.room_is in let z : ⊥ = omega arith in absurd z;
+          count = let a = h.count in let e = h.room_is in omega arith;
+          held = sym (entries_annotations (decode s).tags work n) ∙ ap annotations_of held ∙ listing.entries_annotations (decode s) (decode_rows cells) (length (decode_rows cells));
+          sourced = sourced_in (decode s) (decode_rows cells) (few_children (decode s) (decode_rows cells) (sound_decode s h.ok) h.table) (decode s).tags work n (length (decode_rows cells)) (omega arith) held;
         }

@@ -9,6 +9,7 @@ use native.Mathlib.Decide.{dec_lt}
 use native.Mathlib.Numerals.{add-one}
 use borrow.Author.Tests.{eq-eqb, ne_eqb}
 use lib.ListN.{length, get_or, length-map}
+use Rattle.std.specs.Prelude.{Option}
 use Rattle.model.specs.Limits.{max_children, unused}
 use Rattle.model.specs.Lists.{concat_map, only}
 use Rattle.model.specs.Order.{place}
@@ -20,24 +21,30 @@ use Rattle.model.specs.Annotation.{Memory, Annotation, empty_memory, own_memory}
 use Rattle.model.proofs.Tab.{tab_at}
 use Rattle.model.proofs.Rows.{in_get_d}
 use Rattle.automaton.specs.Window.{FirstFrom}
-use Rattle.judging.specs.Cells.{no_memory, annotations_in}
+use Rattle.membership.specs.Cells.{annotations_in}
+use Rattle.judging.specs.Cells.{no_memory}
 use Rattle.judging.specs.Index.{Indexed}
-use Rattle.judging.specs.Entries.{Entry, annotations_of, entries_in, add_entries, Grown}
+use Rattle.membership.specs.Entries.{Entry, annotations_of, entries_in, add_entries}
+use Rattle.judging.specs.Entries.{Grown}
 use Rattle.judging.specs.Chains.{class_in, AsideOrSame}
-use Rattle.judging.specs.Search.{span, no_annotation, tags_in, arity_in, base_in, room_in, low_in, high_in, state_asked, found, class_of, Ready, Windows, Separate, Alike}
-use Rattle.judging.specs.Listing.{last_step, made, no_children, rule_entries, by_rule, entries_below}
-use Rattle.judging.specs.Plan.{asked_by, Starts, Before}
+use Rattle.membership.specs.Search.{span, no_annotation}
+use Rattle.judging.specs.Search.{tags_in, arity_in, base_in, room_in, low_in, high_in, state_asked, found, class_of, Ready, Windows, Separate, Alike}
+use Rattle.membership.specs.Listing.{last_step, made, no_children, rule_entries, by_rule, entries_below}
+use Rattle.membership.specs.Plan.{Starts}
+use Rattle.judging.specs.Plan.{asked_by, Before}
 use Rattle.judging.proofs.Spans.{span_window}
-use Rattle.judging.proofs.Adding.{Ext, ext_length, length_entries, annotation_at_lem, same_annotations}
-use Rattle.judging.proofs.Storing.{entries_annotations}
+use Rattle.membership.proofs.Adding.{Ext, ext_length, length_entries, annotation_at_lem, same_annotations}
+use Rattle.membership.proofs.Storing.{entries_annotations}
 use Rattle.judging.proofs.Children.{found_alike}
 use Rattle.judging.proofs.States.{class_state, opened_same, chained_same}
 use Rattle.judging.proofs.Turning.{Turning, turn_start, turn_front}
-use Rattle.judging.proofs.Found.{Window, Asked, found_made}
-use Rattle.judging.proofs.Starts.{ext_below, window_of}
-
-pub few_children : (A : Automaton) (rows : List Row) → Sound A → SoundTable A rows → (i : ℕ) → i < length rows → length (row_at rows i).children ≤ max_children
-few_children A rows sound table i l = let e = (table.each i l).as_many in let h = sound.few_children (row_at rows i).symbol in omega arith
+use Rattle.membership.proofs.Found.{Window}
+use Rattle.judging.proofs.Found.{Asked, found_made}
+use Rattle.membership.proofs.Starts.{ext_below, window_of}
+use Rattle.membership.specs.declared.table.Plan.{Plan}
+use Rattle.judging.specs.declared.search.Want.{Want}
+use Rattle.automaton.specs.declared.State.{State}
+use Rattle.membership.proofs.ByRow.{few_children}
 
 module _ (A : Automaton) (rows : List Row) (sound : Sound A) (table : SoundTable A rows) (i room tags : ℕ) (work₀ slots₀ : List ℕ) (n : ℕ) (b : Before A rows i room tags work₀ slots₀ n) where
   abbrev pub known : List Annotation
@@ -92,7 +99,7 @@ module _ (A : Automaton) (rows : List Row) (sound : Sound A) (table : SoundTable
     in_rules r m = le_trans m last.within
 
   -- the plan of the row, with the windows of its children
-  module _ (starts : List ℕ) (st : Starts A rows starts i) (plan : List ℕ) (width : ℕ) (ew : width ≡ arity_of A (row_at rows i).symbol)
+  module _ (starts : List ℕ) (st : Starts A rows starts i) (plan : Plan) (width : ℕ) (ew : width ≡ arity_of A (row_at rows i).symbol)
       (tags_are : tags_in plan ≡ tags) (arity_is : arity_in plan ≡ width) (base_is : base_in plan ≡ n) (room_is : room_in plan ≡ room)
       (el : (p : ℕ) → p < width → low_in plan p ≡ get_or starts (get_or cs p 0) 0)
       (eh : (p : ℕ) → p < width → high_in plan p ≡ get_or starts (get_or cs p 0 + 1) 0) where
@@ -191,7 +198,7 @@ module _ (A : Automaton) (rows : List Row) (sound : Sound A) (table : SoundTable
               class_state work₀ k (get_or now k no_annotation).state (ap (λ (a : Annotation). a.state) (sym (annotation_at_lem tags work₀ n k (omega arith)) ∙ ap (λ (a : List Annotation). get_or a k no_annotation) now_is))
 
       -- what a rule of the row's symbol asks
-      module _ (lr : r < length A.rules) (same_symbol : (rule_at A r).symbol ≡ (row_at rows i).symbol) (asked : List ℕ) (ea : asked ≡ asked_by A i r) (own : Memory) (eo : own ≡ own_memory A (rule_at A r).target i) where
+      module _ (lr : r < length A.rules) (same_symbol : (rule_at A r).symbol ≡ (row_at rows i).symbol) (asked : Want) (ea : asked ≡ asked_by A i r) (own : Memory) (eo : own ≡ own_memory A (rule_at A r).target i) where
         states_are : length (rule_at A r).children ≡ width
         states_are = sound.wellformed.as_many (rule_at A r) (in_get_d no_rule A.rules r lr) ∙ ap (arity_of A) same_symbol ∙ sym ew
 
@@ -199,7 +206,7 @@ module _ (A : Automaton) (rows : List Row) (sound : Sound A) (table : SoundTable
         state_at_lem p l =
             let f = few_places in
             let e = states_are in
-            (let four : 4 + p ≡ suc (suc (suc (suc p))) = omega arith in ap (λ (z : List ℕ). get_or z (4 + p) 0) ea ∙ ap (λ k. get_or (asked_by A i r) k 0) four) ∙ tab_at 0 max_children (place (rule_at A r)) p (omega arith) ∙ default (rule_at A r).children p (omega arith)
+            ap (λ (z : Want). state_asked z p) ea ∙ ap (λ (q : State). q.0) (tab_at (record { 0 = 0 }) max_children (λ k. record { 0 = place (rule_at A r) k }) p (omega arith)) ∙ default (rule_at A r).children p (omega arith)
           where
             default : (l : List ℕ) (p : ℕ) → p < length l → get_or l p unused ≡ get_or l p 0
             default [] p h = let z : ⊥ = omega arith in absurd z
@@ -209,10 +216,10 @@ module _ (A : Automaton) (rows : List Row) (sound : Sound A) (table : SoundTable
         asks : Asked A known plan asked own i r cs (rule_at A r).children
         asks =
             record {
-              row = ap (λ (z : List ℕ). get_or z 0 0) ea;
-              target = ap (λ (z : List ℕ). get_or z 2 0) ea;
-              rule = ap (λ (z : List ℕ). get_or z 1 0) ea;
-              forget = ap (λ (z : List ℕ). get_or z 3 0) ea;
+              row = ap (λ (z : Want). z.row.0) ea;
+              target = ap (λ (z : Want). z.target.0) ea;
+              rule = ap (λ (z : Want). z.rule) ea;
+              forget = ap (λ (z : Want). z.forget) ea;
               tags = tags_are ∙ b.tags_are;
               own_is = eo;
               rows_are = width_is ∙ sym arity_is;
@@ -231,7 +238,7 @@ module _ (A : Automaton) (rows : List Row) (sound : Sound A) (table : SoundTable
             ∙ ap (λ m. made known (last_step A i r) 0 m no_children cs (rule_at A r).children) ee
             ∙ sym (ap (λ b. only b (rule_entries A rows known i r)) (eq-eqb (rule_at A r).symbol (row_at rows i).symbol same_symbol))
 
-        pub rule_grown : (own' : Memory) (free work' slots' : List ℕ) (m' : ℕ) → own' ≡ own → Alike 0 width no_children free → Grown m (room_in plan) (tags_in plan) (add_entries (entries_in (tags_in plan) work m) (found (annotations_in (tags_in plan) work (base_in plan)) plan asked own' (arity_in plan) (no_memory (tags_in plan)) free)) work' slots' m' → Grown m room tags (add_entries (entries_in tags work m) (step r)) work' slots' m'
+        pub rule_grown : (own' : Memory) (free work' slots' : List ℕ) (m' : Option ℕ) → own' ≡ own → Alike 0 width no_children free → Grown m (room_in plan) (tags_in plan) (add_entries (entries_in (tags_in plan) work m) (found (annotations_in (tags_in plan) work (base_in plan)) plan asked own' (arity_in plan) (no_memory (tags_in plan)) free)) work' slots' m' → Grown m room tags (add_entries (entries_in tags work m) (step r)) work' slots' m'
         rule_grown own' free work' slots' m' eown ef g =
             let g₁ = subst (λ z. Grown m z (tags_in plan) (add_entries (entries_in (tags_in plan) work m) (found (annotations_in (tags_in plan) work (base_in plan)) plan asked own' (arity_in plan) (no_memory (tags_in plan)) free)) work' slots' m') room_is g in
             let g₂ = subst (λ z. Grown m room z (add_entries (entries_in z work m) (found (annotations_in z work (base_in plan)) plan asked own' (arity_in plan) (no_memory z) free)) work' slots' m') tags_are g₁ in

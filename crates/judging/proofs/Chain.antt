@@ -1,57 +1,23 @@
 -- The index finds an equal annotation exactly where there is one, and a new annotation keeps it whole; the slots may be any. Assumes nothing.
-use mathlib.Core.Path.{◌≡◌, refl, sym, ap, ◌∙◌, subst}
+use mathlib.Core.Path.{◌≡◌, sym, ap, ◌∙◌, subst}
 use mathlib.Core.List.{List}
-use mathlib.Core.Bool.{Bool, true, false, cond}
-use Prim.Native.Nat.{ℕ, suc, ◌+◌, ◌*◌, ◌-◌, ◌<◌, ◌≤◌}
+use mathlib.Core.Bool.{Bool, true, false}
+use Prim.Native.Nat.{ℕ, ◌+◌, ◌*◌, ◌-◌, ◌<◌, ◌≤◌}
 use native.Mathlib.Omega.{arith}
 use native.Mathlib.Numerals.{add-one}
 use borrow.Author.Rules.{rules}
-use borrow.Author.Tests.{le-leb, lt-leb, leb-true}
-use lib.Dec.{T, leb}
+use lib.Dec.{T}
 use lib.ListN.{length, get_or, set}
 use lib.Seq.{get_or-set_same, get_or-set_other}
 use Rattle.model.specs.Lists.{any, tab}
 use Rattle.model.specs.Annotation.{Annotation, eq_annotation}
 use Rattle.model.proofs.Members.{T_true, in_any, any_in, eq_annotation→eq}
 use Rattle.model.proofs.Tab.{in_tab, tab_in}
-use Rattle.judging.specs.Cells.{cell_of, annotation_in, ShortIn, annotations_in}
-use Rattle.judging.specs.Index.{slot_of, first_in, next_in, link_of, OnChain, newest, older, Indexed, Linked}
-
-pub not_T : (b : Bool) → (T b → ⊥) → false ≡ b
-not_T true h = absurd (h tt)
-not_T false h = refl
-
-pub T_of : (b r : Bool) → r ≡ b → r ≡ true → T b
-T_of b r e t = subst T (sym t ∙ e) tt
-
-link_bound : (most x : ℕ) → link_of most x ≤ most
-link_bound most x = go (leb x most) refl
-  where
-    go : (b : Bool) → leb x most ≡ b → cond b x 0 ≤ most
-    go true e = leb-true x most e
-    go false e = omega arith
-
-pub link_is : (most x : ℕ) → x ≤ most → link_of most x ≡ x
-link_is most x l = ap (λ b. cond b x 0) (le-leb x most l)
-
-module _ (work : List ℕ) (n : ℕ) where
-  pub chain_bound : {j i : ℕ} → OnChain work n j i → i ≤ n
-  chain_bound (newest l) = l
-  chain_bound (older l m c) = l
-
-  chain_none : {j i : ℕ} → OnChain work n j i → i ≡ 0 → ⊥
-  chain_none (newest l) e = omega arith
-  chain_none (older l m c) e = omega arith
-
-  -- the rest of a chain whose first is another annotation
-  chain_rest : {j i : ℕ} → OnChain work n j i → (k : ℕ) → i ≡ suc k → (j ≡ k → ⊥) → (next_in work k ≤ k) × OnChain work n j (next_in work k)
-  chain_rest (newest l) k e other = absurd (other (omega arith))
-  chain_rest {j = j} (older {k = h} l m c) k e other = let same : h ≡ k = omega arith in subst (λ z. (next_in work z ≤ z) × OnChain work n j (next_in work z)) same (m, c)
-
--- the walk along a chain in search of an annotation: all that equal it are on what is left
-pub record Walking (tags : ℕ) (work : List ℕ) (n : ℕ) (a : Annotation) (i : ℕ) : Type 0 where
-  pub inside : i ≤ n
-  pub left : (j : ℕ) → j < n → T (eq_annotation a (annotation_in tags work j)) → OnChain work n j i
+use Rattle.membership.specs.Cells.{cell_of, annotation_in, annotations_in}
+use Rattle.judging.specs.Cells.{ShortIn}
+use Rattle.membership.specs.Index.{slot_of, next_in, link_of, OnChain}
+use Rattle.judging.specs.Index.{first_in, Indexed, Linked}
+use Rattle.membership.proofs.Chain.{not_T, T_of, link_bound, link_is, chain_bound, chain_none, chain_rest, Walking}
 
 module _ (tags room : ℕ) (work : List ℕ) (n : ℕ) (a : Annotation) where
   pub walk_start : (slots : List ℕ) (s i : ℕ) → Indexed tags room work slots n → s ≡ slot_of room a → i ≡ link_of n (get_or slots s 0) → Walking tags work n a i
@@ -92,14 +58,6 @@ module _ (tags room : ℕ) (work : List ℕ) (n : ℕ) (a : Annotation) where
                 let rest = chain_rest work n (w.left j l t) (i - 1) (omega arith) (λ q. subst T (sym er ∙ f) (subst (λ z. T (eq_annotation a (annotation_in tags work z))) q t)) in
                 subst (OnChain work n j) (sym (e ∙ link_is (i - 1) (get_or work ((i - 1) * 32 + 25) 0) rest.0)) rest.1;
           }
-
-pub link_some : (most x y : ℕ) → x ≡ y → x ≤ most → x ≡ link_of most y
-link_some most x y e l = rw (← e) (sym (link_is most x l))
-
-pub link_none : (most x y : ℕ) → x ≡ y → most < x → 0 ≡ link_of most y
-link_none most x y e l = rw (← e) (sym (ap (λ b. cond b x 0) (lt-leb x most l)))
-
-pub ruleset links = (link_some, link_none, rules)
 
 -- a new first of a slot
 pub linked : (work slots : List ℕ) (s n v : ℕ) → n * 32 + 32 ≤ length work → s < length slots → v ≡ link_of n (first_in slots s) → Linked work slots s n (set work (n * 32 + 25) v) (set slots s (n + 1))

@@ -8,9 +8,12 @@ use lib.ListN.{length, get_or, set, length-set, get_or-eq_default}
 use lib.Seq.{get_or-set_same, get_or-set_other, ext_get_or}
 use Rattle.model.specs.Lists.{only}
 use Rattle.model.specs.Annotation.{Memory, Annotation, joined}
-use Rattle.judging.specs.Entries.{Entry}
-use Rattle.judging.specs.Search.{no_annotation, choosable?, arity_in, low_in, high_in, state_asked, leaving, chosen, found, Alike}
+use Rattle.membership.specs.Entries.{Entry}
+use Rattle.membership.specs.Search.{no_annotation, choosable?}
+use Rattle.judging.specs.Search.{arity_in, low_in, high_in, state_asked, leaving, chosen, found, Alike}
 use Rattle.judging.proofs.Spans.{concat_map_same}
+use Rattle.membership.specs.declared.table.Plan.{Plan}
+use Rattle.judging.specs.declared.search.Want.{Want}
 
 pub alike_same : (p q : ℕ) (c : List ℕ) → Alike p q c c
 alike_same p q c = record { as_long = refl; below = λ k l. refl; above = λ k l. refl }
@@ -51,7 +54,7 @@ alike_all q c d a = ext_get_or 0 d c a.as_long (λ k l. go k (dec_lt k q))
     go k (yes l) = a.below k l
     go k (no l) = a.above k (omega (arith, l))
 
-module _ (known : List Annotation) (plan asked : List ℕ) (own : Memory) where
+module _ (known : List Annotation) (plan : Plan) (asked : Want) (own : Memory) where
   pub found_alike : (left : ℕ) (m : Memory) (c d : List ℕ) → left ≤ arity_in plan → Alike (arity_in plan - left) (arity_in plan) c d → found known plan asked own left m d ≡ found known plan asked own left m c
   unfolding found
   found_alike zero m c d l a = ap (leaving plan asked own m) (alike_all (arity_in plan) c d (subst (λ z. Alike z (arity_in plan) c d) (let e : arity_in plan - 0 ≡ arity_in plan = omega arith in e) a))

@@ -13,19 +13,23 @@ use Rattle.model.specs.Annotation.{Memory, Annotation, places_agree, joined_plac
 use Rattle.model.proofs.Members.{T_and, and_T, T_true}
 use Rattle.model.proofs.Tab.{tab_at, tab_past}
 use Rattle.automaton.proofs.Parts.{tab_same}
-use Rattle.judging.specs.Cells.{no_memory, without}
-use Rattle.judging.specs.Entries.{Entry}
-use Rattle.judging.specs.Search.{no_annotation, choosable?, tags_in, arity_in, low_in, high_in, forget_asked, state_asked, row_asked, target_asked, rule_asked, chosen, found}
+use Rattle.membership.specs.Cells.{without}
+use Rattle.judging.specs.Cells.{no_memory}
+use Rattle.membership.specs.Entries.{Entry}
+use Rattle.membership.specs.Search.{no_annotation, choosable?}
+use Rattle.judging.specs.Search.{tags_in, arity_in, low_in, high_in, forget_asked, state_asked, row_asked, target_asked, rule_asked, chosen, found}
 use Rattle.judging.proofs.Spans.{concat_map_same, none}
-use Rattle.judging.proofs.Places.{joined_tab}
+use Rattle.membership.proofs.Places.{joined_tab}
 use Rattle.judging.proofs.Agreeing.{agree_all, same_test, agree_swap, agree_first, agree_second, agree_both, agree_self, joined_turn, dropped_there, dropped_here, joined_early}
+use Rattle.membership.specs.declared.table.Plan.{Plan}
+use Rattle.judging.specs.declared.search.Want.{Want}
 
 -- a test that does not hold
 pub not_T : (b : Bool) → (T b → ⊥) → b ≡ false
 not_T true h = absurd (h tt)
 not_T false h = refl
 
-module _ (known : List Annotation) (plan asked : List ℕ) (own : Memory) where
+module _ (known : List Annotation) (plan : Plan) (asked : Want) (own : Memory) where
   abbrev memory_at : ℕ → Memory
   memory_at j = (get_or known j no_annotation).memory
 

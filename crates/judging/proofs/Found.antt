@@ -2,7 +2,7 @@
 use mathlib.Core.Path.{◌≡◌, refl, sym, ap, ◌∙◌}
 use mathlib.Core.List.{List, [], ◌∷◌, map}
 use mathlib.Core.Bool.{Bool, true, false, ◌&&◌}
-use Prim.Native.Nat.{ℕ, zero, suc, ◌+◌, ◌-◌, ◌<◌, ◌≤◌}
+use Prim.Native.Nat.{ℕ, zero, suc, ◌+◌, ◌-◌, ◌<◌}
 use native.Mathlib.Omega.{arith}
 use borrow.Author.Tests.{eq-eqb, ne_eqb}
 use lib.ListN.{length, get_or, drop, set, drop_of_length-le}
@@ -11,21 +11,18 @@ use Rattle.model.specs.Lists.{concat_map, only}
 use Rattle.model.specs.Automaton.{Automaton}
 use Rattle.model.specs.Written.{rule_at}
 use Rattle.model.specs.Annotation.{Memory, Annotation, annotation, agree?, joined, own_memory, kept}
-use Rattle.judging.specs.Cells.{without}
-use Rattle.judging.specs.Entries.{Entry}
-use Rattle.judging.specs.Search.{span, no_annotation, choosable?, tags_in, arity_in, low_in, high_in, row_asked, rule_asked, target_asked, forget_asked, state_asked, finished, leaving, chosen, found}
-use Rattle.judging.specs.Listing.{last_step, taken, made}
+use Rattle.membership.proofs.Found.{Window}
+use Rattle.membership.specs.Cells.{without}
+use Rattle.membership.specs.Entries.{Entry}
+use Rattle.membership.specs.Search.{span, no_annotation, choosable?}
+use Rattle.judging.specs.Search.{tags_in, arity_in, low_in, high_in, row_asked, rule_asked, target_asked, forget_asked, state_asked, finished, leaving, chosen, found}
+use Rattle.membership.specs.Listing.{last_step, taken, made}
 use Rattle.judging.proofs.Spans.{concat_map_same, span_window}
-
--- the annotations of a row are those from low up to high
-pub record Window (known : List Annotation) (row low high : ℕ) : Type 0 where
-  pub order : low ≤ high
-  pub top : high ≤ length known
-  pub inside : (j : ℕ) → low ≤ j → j < high → (get_or known j no_annotation).row ≡ row
-  pub all : (j : ℕ) → j < length known → (get_or known j no_annotation).row ≡ row → (low ≤ j) × (j < high)
+use Rattle.membership.specs.declared.table.Plan.{Plan}
+use Rattle.judging.specs.declared.search.Want.{Want}
 
 -- what a plan and what is asked say of rule r on row i, with children on the rows cs in the states qs
-pub record Asked (A : Automaton) (known : List Annotation) (plan asked : List ℕ) (own : Memory) (i r : ℕ) (cs qs : List ℕ) : Type 0 where
+pub record Asked (A : Automaton) (known : List Annotation) (plan : Plan) (asked : Want) (own : Memory) (i r : ℕ) (cs qs : List ℕ) : Type 0 where
   pub row : row_asked asked ≡ i
   pub target : target_asked asked ≡ (rule_at A r).target
   pub rule : rule_asked asked ≡ r
@@ -37,7 +34,7 @@ pub record Asked (A : Automaton) (known : List Annotation) (plan asked : List �
   pub states : (p : ℕ) → p < arity_in plan → state_asked asked p ≡ get_or qs p 0
   pub windows : (p : ℕ) → p < arity_in plan → Window known (get_or cs p 0) (low_in plan p) (high_in plan p)
 
-module _ (A : Automaton) (known : List Annotation) (plan asked : List ℕ) (own : Memory) (i r : ℕ) (cs qs : List ℕ) (asks : Asked A known plan asked own i r cs qs) where
+module _ (A : Automaton) (known : List Annotation) (plan : Plan) (asked : Want) (own : Memory) (i r : ℕ) (cs qs : List ℕ) (asks : Asked A known plan asked own i r cs qs) where
   last_is : (m : Memory) (children : List ℕ) → leaving plan asked own m children ≡ last_step A i r m children
   last_is m children =
       ap (λ x. finished asked own x children) (λ x. without (asks.tags x) (asks.forget x) m)

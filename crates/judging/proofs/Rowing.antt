@@ -6,6 +6,7 @@ use Prim.Native.Nat.{ℕ, zero, suc, ◌+◌, ◌<◌, ◌≤◌}
 use native.Mathlib.Omega.{arith}
 use lib.Dec.{eqb}
 use lib.ListN.{length, get_or, replicate}
+use Rattle.std.specs.Prelude.{Option, Some, None}
 use Rattle.model.specs.Limits.{unused}
 use Rattle.model.specs.Lists.{tab}
 use Rattle.model.specs.Automaton.{Automaton, arity_of, bit?, carries?}
@@ -20,17 +21,23 @@ use Rattle.automaton.proofs.Sound.{sound_decode}
 use Rattle.document.specs.Rows.{used, places_in, row_in, decode_rows}
 use Rattle.document.specs.Check.{place_in}
 use Rattle.document.proofs.Places.{row_at_lem, rows_length}
-use Rattle.judging.specs.Cells.{annotations_in}
-use Rattle.judging.specs.Entries.{Entry, annotations_of, entries_in, add_entries, Grown}
+use Rattle.membership.specs.Cells.{annotations_in}
+use Rattle.membership.specs.Entries.{Entry, annotations_of, entries_in, add_entries}
+use Rattle.judging.specs.Entries.{Held, Grown}
 use Rattle.judging.specs.Chains.{class_in}
 use Rattle.judging.specs.Search.{tags_in, arity_in, base_in, room_in, low_in, high_in, class_of, Ready, Windows, Separate, Alike}
-use Rattle.judging.specs.Listing.{no_children, by_rule, entries_below}
-use Rattle.judging.specs.Plan.{Planned, RulesRead, asked_in, own_in, rule_found, Starts, Before}
+use Rattle.membership.specs.Listing.{no_children, by_rule, entries_below}
+use Rattle.membership.specs.Plan.{Starts}
+use Rattle.judging.specs.Plan.{Planned, RulesRead, asked_in, own_in, rule_found, Before}
 use Rattle.judging.proofs.Rules.{asked_read, tags_read}
 use Rattle.judging.specs.Tried.{Fresh}
 use Rattle.judging.proofs.Children.{alike_same, alike_trans}
 use Rattle.judging.proofs.Turning.{Turning, turn_in, turn_full, turn_end}
 use Rattle.judging.proofs.ByRow.{rules_start, in_symbol, in_rules, row_separate, rule_ready, rule_windows, rule_grown}
+use Rattle.membership.specs.declared.table.Plan.{Plan}
+use Rattle.judging.specs.declared.table.ReadRule.{ReadRule}
+use Rattle.judging.specs.declared.tried.Slot.{Slot}
+use Rattle.membership.proofs.Rowing.{few_rules}
 
 -- a used place holds its child
 used_at : (ps : List ℕ) (p : ℕ) → p < length (used ps) → get_or (used ps) p 0 ≡ get_or ps p unused
@@ -58,7 +65,7 @@ abbrev made : List ℕ → List ℕ → ℕ → ℕ → List Entry
 made s cells i = by_rule (A s) (R cells) (annotations_of (entries_below (A s) (R cells) i)) i
 
 -- at the head of the loop over the rules of row i, with the lent arrays of slots, of children, free, and of tried memories
-pub record Rowing (s cells starts rules work₀ slots₀ : List ℕ) (i tags room n x width : ℕ) (plan heads links : List ℕ) (end r₀ : ℕ) (work slots free cells' : List ℕ) (m r : ℕ) : Type 0 where
+pub record Rowing (s cells starts : List ℕ) (rules : List ReadRule) (work₀ slots₀ : List ℕ) (i tags room n x width : ℕ) (plan : Plan) (heads links : List ℕ) (end r₀ : ℕ) (work slots free : List ℕ) (cells' : List Slot) (m r : ℕ) : Type 0 where
   pub ok : check_of s ≡ 0
   pub table : SoundTable (A s) (R cells)
   pub before : Before (A s) (R cells) i room tags work₀ slots₀ n
@@ -94,14 +101,8 @@ module _ (s cells : List ℕ) (i : ℕ) (ok : check_of s ≡ 0) (table : SoundTa
   pub width_small : (x width : ℕ) → width ≡ arity_of (A s) x → width ≤ 4
   width_small x width e = let h = (sound_decode s ok).few_children x in omega arith
 
-pub few_rules : (s : List ℕ) → check_of s ≡ 0 → length (A s).rules ≤ 1024
-few_rules s ok = (sound_decode s ok).few_rules
-
-pub tags_small : (s : List ℕ) (tags : ℕ) → check_of s ≡ 0 → tags ≡ (A s).tags → tags ≤ 16
-tags_small s tags ok e = let h = (sound_decode s ok).few_tags in omega arith
-
 -- the row, its children and their windows
-module _ (s cells starts work₀ slots₀ : List ℕ) (i tags room n x width : ℕ) (plan : List ℕ) (ok : check_of s ≡ 0) (table : SoundTable (A s) (R cells)) (before : Before (A s) (R cells) i room tags work₀ slots₀ n) (started : Starts (A s) (R cells) starts i) (ex : x ≡ (row_in cells i).symbol) (ew : width ≡ arity_of (A s) x) (planned : Planned cells starts i tags width n room width plan) where
+module _ (s cells starts work₀ slots₀ : List ℕ) (i tags room n x width : ℕ) (plan : Plan) (ok : check_of s ≡ 0) (table : SoundTable (A s) (R cells)) (before : Before (A s) (R cells) i room tags work₀ slots₀ n) (started : Starts (A s) (R cells) starts i) (ex : x ≡ (row_in cells i).symbol) (ew : width ≡ arity_of (A s) x) (planned : Planned cells starts i tags width n room width plan) where
   sound_of : Sound (A s)
   sound_of = sound_decode s ok
 
@@ -131,8 +132,8 @@ module _ (s cells starts work₀ slots₀ : List ℕ) (i tags room n x width : �
   pub separate_of : Separate plan work₀
   separate_of = row_separate (A s) (R cells) sound_of table i room tags work₀ slots₀ n before starts started plan width width_of planned.tags_are planned.arity_is planned.base_is planned.room_is low_of high_of
 
-module _ (s cells starts rules work₀ slots₀ : List ℕ) (i tags room n x width : ℕ) (plan heads links : List ℕ) (end r₀ : ℕ) where
-  pub rowing_start : check_of s ≡ 0 → SoundTable (A s) (R cells) → Before (A s) (R cells) i room tags work₀ slots₀ n → Starts (A s) (R cells) starts i → x ≡ (row_in cells i).symbol → width ≡ arity_of (A s) x → Planned cells starts i tags width n room width plan → FirstFrom (A s) x r₀ → FirstFrom (A s) (x + 1) end → RulesRead (A s) (length (A s).rules) rules → (tried : List ℕ) → Fresh i 0 tried → Windows (class_in work₀) plan (arity_in plan) heads links → Rowing s cells starts rules work₀ slots₀ i tags room n x width plan heads links end r₀ work₀ slots₀ no_children tried n r₀
+module _ (s cells starts : List ℕ) (rules : List ReadRule) (work₀ slots₀ : List ℕ) (i tags room n x width : ℕ) (plan : Plan) (heads links : List ℕ) (end r₀ : ℕ) where
+  pub rowing_start : check_of s ≡ 0 → SoundTable (A s) (R cells) → Before (A s) (R cells) i room tags work₀ slots₀ n → Starts (A s) (R cells) starts i → x ≡ (row_in cells i).symbol → width ≡ arity_of (A s) x → Planned cells starts i tags width n room width plan → FirstFrom (A s) x r₀ → FirstFrom (A s) (x + 1) end → RulesRead (A s) (length (A s).rules) rules → (tried : List Slot) → Fresh i 0 tried → Windows (class_in work₀) plan (arity_in plan) heads links → Rowing s cells starts rules work₀ slots₀ i tags room n x width plan heads links end r₀ work₀ slots₀ no_children tried n r₀
   rowing_start ok table before started ex ew planned first last read tried fresh windows =
       record {
         ok = ok;
@@ -153,7 +154,7 @@ module _ (s cells starts rules work₀ slots₀ : List ℕ) (i tags room n x wid
         turning = rules_start (A s) (R cells) (sound_decode s ok) table i room tags work₀ slots₀ n before r₀ end x (ex ∙ ap (λ (r : Row). r.symbol) (sym (row_is s cells i ok table before.row))) first last;
       }
 
-  module _ (work slots free tried : List ℕ) (m r : ℕ) (h : Rowing s cells starts rules work₀ slots₀ i tags room n x width plan heads links end r₀ work slots free tried m r) where
+  module _ (work slots free : List ℕ) (tried : List Slot) (m r : ℕ) (h : Rowing s cells starts rules work₀ slots₀ i tags room n x width plan heads links end r₀ work slots free tried m r) where
     sound : Sound (A s)
     sound = sound_decode s h.ok
 
@@ -200,41 +201,39 @@ module _ (s cells starts rules work₀ slots₀ : List ℕ) (i tags room n x wid
           let rules = few_rules s h.ok in
           (omega arith, omega arith)
 
-      module _ (work' slots' free' tried' : List ℕ) (m' : ℕ) (g : Grown m (room_in plan) (tags_in plan) (add_entries (entries_in (tags_in plan) work m) (rule_found (annotations_in (tags_in plan) work (base_in plan)) plan rules i r free)) work' slots' m')
-          (a : Alike 0 (arity_in plan) free free') (t' : m' ≤ room_in plan → Fresh i (r + 1) tried') where
-        grown : Grown m room tags (add_entries (entries_in tags work m) (made s cells i r)) work' slots' m'
-        grown =
-            let p = h.planned in
-            rule_grown (A s) (R cells) sound h.table i room tags work₀ slots₀ n h.before starts h.started plan width width_here p.tags_are p.arity_is p.base_is p.room_is low_at high_at end work slots m r h.turning known_rule same_symbol (asked_in rules i r) (asked_read (A s) (length (A s).rules) rules h.read r known_rule i) (own_memory (A s) (rule_at (A s) r).target i) refl
-            (own_in rules (tags_in plan) i r) free work' slots' m' own_is h.alike g
+      grown : (work' slots' : List ℕ) (m' : Option ℕ) → Grown m (room_in plan) (tags_in plan) (add_entries (entries_in (tags_in plan) work m) (rule_found (annotations_in (tags_in plan) work (base_in plan)) plan rules i r free)) work' slots' m' → Grown m room tags (add_entries (entries_in tags work m) (made s cells i r)) work' slots' m'
+      grown work' slots' m' g =
+          let p = h.planned in
+          rule_grown (A s) (R cells) sound h.table i room tags work₀ slots₀ n h.before starts h.started plan width width_here p.tags_are p.arity_is p.base_is p.room_is low_at high_at end work slots m r h.turning known_rule same_symbol (asked_in rules i r) (asked_read (A s) (length (A s).rules) rules h.read r known_rule i) (own_memory (A s) (rule_at (A s) r).target i) refl
+          (own_in rules (tags_in plan) i r) free work' slots' m' own_is h.alike g
 
-        free_after : Alike 0 width no_children free'
-        free_after =
-            alike_trans 0 width no_children free free' h.alike (subst (λ k. Alike 0 k free free') h.planned.arity_is a)
+      free_after : (free' : List ℕ) → Alike 0 (arity_in plan) free free' → Alike 0 width no_children free'
+      free_after free' a =
+          alike_trans 0 width no_children free free' h.alike (subst (λ k. Alike 0 k free free') h.planned.arity_is a)
 
-        pub rowing_more : length work' ≡ length work → m' ≤ room → Rowing s cells starts rules work₀ slots₀ i tags room n x width plan heads links end r₀ work' slots' free' tried' m' (r + 1)
-        rowing_more e f =
-            record {
-              ok = h.ok;
-              table = h.table;
-              before = h.before;
-              started = h.started;
-              symbol_is = h.symbol_is;
-              width_is = h.width_is;
-              planned = h.planned;
-              first = h.first;
-              last = h.last;
-              above = let a = h.above in omega arith;
-              read = h.read;
-              alike = free_after;
-              few = let k = known_rule in let f = few_rules s h.ok in omega arith;
-              fresh = t' (let z = h.planned.room_is in omega arith);
-              windows = h.windows;
-              turning = turn_in (made s cells i) end n room tags (length work₀) (entries_below (A s) (R cells) (suc i)) work slots m r h.turning work' slots' m' l grown e f;
-            }
+      pub rowing_more : (work' slots' free' : List ℕ) (tried' : List Slot) (m' : ℕ) → Grown m (room_in plan) (tags_in plan) (add_entries (entries_in (tags_in plan) work m) (rule_found (annotations_in (tags_in plan) work (base_in plan)) plan rules i r free)) work' slots' (Some m') → Alike 0 (arity_in plan) free free' → Fresh i (r + 1) tried' → length work' ≡ length work → Rowing s cells starts rules work₀ slots₀ i tags room n x width plan heads links end r₀ work' slots' free' tried' m' (r + 1)
+      rowing_more work' slots' free' tried' m' g a t' e =
+          record {
+            ok = h.ok;
+            table = h.table;
+            before = h.before;
+            started = h.started;
+            symbol_is = h.symbol_is;
+            width_is = h.width_is;
+            planned = h.planned;
+            first = h.first;
+            last = h.last;
+            above = let a = h.above in omega arith;
+            read = h.read;
+            alike = free_after free' a;
+            few = let k = known_rule in let f = few_rules s h.ok in omega arith;
+            fresh = t';
+            windows = h.windows;
+            turning = turn_in (made s cells i) end n room tags (length work₀) (entries_below (A s) (R cells) (suc i)) work slots m r h.turning l work' slots' m' (grown work' slots' (Some m') g) e;
+          }
 
-        pub rowing_full : room < m' → Grown n room tags (entries_below (A s) (R cells) (suc i)) work' slots' m' × (m' ≤ room → Fresh (suc i) 0 tried')
-        rowing_full f = (turn_full (made s cells i) end n room tags (length work₀) (entries_below (A s) (R cells) (suc i)) work slots m r h.turning work' slots' m' l grown f, λ g. let z : ⊥ = omega arith in absurd z)
+      pub rowing_full : (work' slots' : List ℕ) → Grown m (room_in plan) (tags_in plan) (add_entries (entries_in (tags_in plan) work m) (rule_found (annotations_in (tags_in plan) work (base_in plan)) plan rules i r free)) work' slots' None → room < length (entries_below (A s) (R cells) (suc i))
+      rowing_full work' slots' g = turn_full (made s cells i) end n room tags (length work₀) (entries_below (A s) (R cells) (suc i)) work slots m r h.turning l (grown work' slots' None g)
 
-    pub rowing_all : end ≤ r → Grown n room tags (entries_below (A s) (R cells) (suc i)) work slots m × (m ≤ room → Fresh (suc i) 0 tried)
-    rowing_all l = (turn_end (made s cells i) end n room tags (length work₀) (entries_below (A s) (R cells) (suc i)) work slots m r h.turning l, λ _ k g. let f = h.fresh k g in let e = h.few in omega arith)
+    pub rowing_all : end ≤ r → Held n room tags (entries_below (A s) (R cells) (suc i)) work slots m × Fresh (suc i) 0 tried
+    rowing_all l = (turn_end (made s cells i) end n room tags (length work₀) (entries_below (A s) (R cells) (suc i)) work slots m r h.turning l, λ k g. let f = h.fresh k g in let e = h.few in omega arith)

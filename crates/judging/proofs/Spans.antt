@@ -1,14 +1,10 @@
 -- Numbers in a row, and what is made of each: one more, none left, and that only a window counts where nothing is made outside it. Assumes nothing.
 use mathlib.Core.Path.{◌≡◌, refl, sym, ap, ◌∙◌}
-use mathlib.Core.List.{List, [], ◌∷◌, ◌++◌, map, append-nil, append_assoc}
+use mathlib.Core.List.{List, [], ◌∷◌, ◌++◌, append-nil, append_assoc}
 use Prim.Native.Nat.{ℕ, zero, suc, ◌+◌, ◌-◌, ◌<◌, ◌≤◌}
 use native.Mathlib.Omega.{arith}
-use Rattle.model.specs.Lists.{concat_map, tab}
-use Rattle.judging.specs.Search.{span}
-
-pub map_tab : {A B : Type 0} (g : A → B) (n : ℕ) (f : ℕ → A) → map g (tab n f) ≡ tab n (λ k. g (f k))
-map_tab g zero f = refl
-map_tab {B = B} g (suc n) f = ap (λ (l : List B). g (f 0) ∷ l) (map_tab g n (λ k. f (suc k)))
+use Rattle.model.specs.Lists.{concat_map}
+use Rattle.membership.specs.Search.{span}
 
 module _ {B : Type 0} where
   pub concat_map_append : {A : Type 0} (f : A → List B) (xs ys : List A) → concat_map f (xs ++ ys) ≡ concat_map f xs ++ concat_map f ys

@@ -7,10 +7,10 @@ use native.Mathlib.Omega.{arith}
 use native.Mathlib.Decide.{ℕ_discrete}
 use native.Mathlib.Nat.{mod-lt}
 use native.Mathlib.Numerals.{add-one}
-use borrow.Author.Rules.{rules}
 use lib.ListN.{length, get_or, set}
 use lib.Seq.{get_or-set_same, get_or-set_other}
-use Rattle.judging.specs.Cells.{cell_of}
+use Rattle.std.specs.Prelude.{Option, Some, None, MatchOption, unwrap_or}
+use Rattle.membership.specs.Cells.{cell_of}
 use Rattle.judging.specs.Chains.{classes, class_in, FirstWith, HeadOf, Heads, Links, Many, Opened, Chained, AsideOrSame, Apart, Opening}
 
 pub class_small : (work : List ℕ) (j : ℕ) → class_in work j < classes
@@ -21,9 +21,6 @@ class_small work j = mod-lt (cell_of work j 1) (omega arith)
 pub class_state : (work : List ℕ) (j q : ℕ) → cell_of work j 1 ≡ q → class_in work j ≡ q % classes
 unfolding class_in
 class_state work j q e = ap (λ x. x % classes) e
-
-pub class_same : (work work' : List ℕ) (j : ℕ) → cell_of work j 1 ≡ cell_of work' j 1 → class_in work j ≡ class_in work' j
-class_same work work' j e = class_state work j (cell_of work' j 1) e ∙ sym (class_state work' j (cell_of work' j 1) refl)
 
 pub class_read : (work : List ℕ) (j r : ℕ) → r ≡ get_or work (j * 32 + 1) 0 → (r % classes ≡ class_in work j) × (r % classes < classes)
 unfolding cell_of
@@ -50,28 +47,10 @@ module _ (f g : ℕ → ℕ) (high : ℕ) (e : (k : ℕ) → k < high → f k �
   pub chained_same : (low : ℕ) (links : List ℕ) → Chained f low high links → Chained g low high links
   chained_same low links h m = links_same low links (h m)
 
--- the scan: no number from low up to j has the class
-module _ (f : ℕ → ℕ) (c low : ℕ) where
-  pub scan_none : FirstWith f c low low low
-  scan_none = record { from = omega arith; to = omega arith; is = λ l. let z : ⊥ = omega arith in absurd z; none = λ k a b q. omega arith }
-
-  module _ (j x : ℕ) (h : FirstWith f c low j j) (e : x ≡ f j) where
-    pub scan_more : (x ≡ c → ⊥) → FirstWith f c low (j + 1) (j + 1)
-    scan_more other =
-        let t = h.from in
-        record { from = omega arith; to = omega arith; is = λ l. let z : ⊥ = omega arith in absurd z; none = λ k a b q. go k a b q (ℕ_discrete k j) }
-      where
-        go : (k : ℕ) → low ≤ k → k < j + 1 → f k ≡ c → Dec (k ≡ j) → ⊥
-        go k a b q (yes s) = other (e ∙ ap f (sym s) ∙ q)
-        go k a b q (no s) = h.none k a (omega (arith, s)) q
-
-    pub scan_found : (high : ℕ) → j < high → x ≡ c → FirstWith f c low high j
-    scan_found high l q = record { from = h.from; to = omega arith; is = λ _. sym e ∙ q; none = h.none }
-
-  pub scan_all : (j high : ℕ) → FirstWith f c low j j → j ≤ high → high ≤ j → FirstWith f c low high high
-  scan_all j high h a b = let e : j ≡ high = omega arith in subst (λ k. FirstWith f c low k k) e h
-
-pub ruleset scans = (scan_none, scan_more, scan_found, scan_all, rules)
+-- what the scan answers, by `find`
+pub scanned : (f : ℕ → ℕ) (c low high : ℕ) (r : Option ℕ) → low ≤ high → MatchOption r ((k : ℕ) → low ≤ k → k < high → f k ≡ c → ⊥) (λ i. (low ≤ i) × (i < high) × (f i ≡ c) × ((k : ℕ) → low ≤ k → k < i → f k ≡ c → ⊥)) → FirstWith f c low high (unwrap_or r high)
+scanned f c low high None l none = record { from = l; to = omega arith; is = λ m. let z : ⊥ = omega arith in absurd z; none = none }
+scanned f c low high (Some i) l (from, to, is, none) = record { from = from; to = omega arith; is = λ _. is; none = none }
 
 -- what a head says, by the tests on it
 module _ (f : ℕ → ℕ) (c low high h y : ℕ) (head : HeadOf f c low high y) (ey : h ≡ y) where

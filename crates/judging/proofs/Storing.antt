@@ -11,38 +11,28 @@ use native.Mathlib.Numerals.{add-one}
 use borrow.Author.Rules.{rules}
 use lib.ListN.{length, get_or, set, length-set, length-append}
 use lib.Seq.{get_or-set_same, get_or-set_other}
+use Rattle.std.specs.Prelude.{Option, Some, None}
 use Rattle.model.specs.Limits.{max_children}
 use Rattle.model.specs.Lists.{any, only, tab}
 use Rattle.model.specs.Space.{put_at}
-use Rattle.model.specs.Annotation.{Annotation, annotation, joined, eq_annotation}
+use Rattle.model.specs.Annotation.{joined, eq_annotation}
 use Rattle.model.proofs.Tab.{tab_snoc}
 use Rattle.automaton.proofs.Parts.{tab_same, tab_is}
-use Rattle.judging.specs.Cells.{memory_of, Short, AgreeIn, JoinedIn, without, cell_of, memory_in, annotation_in, ShortIn, annotations_in, rule_in, child_in}
-use Rattle.judging.specs.Index.{slot_of, first_in, next_in, link_of, OnChain, newest, older, Indexed, Linked}
-use Rattle.judging.specs.Entries.{Entry, annotations_of, entry_in, entries_in, add_entry, add_entries, Grown, Stored}
+use Rattle.membership.specs.Cells.{memory_of, JoinedIn, without, cell_of, memory_in, annotation_in, annotations_in, rule_in, child_in}
+use Rattle.judging.specs.Cells.{Short, AgreeIn, ShortIn}
+use Rattle.membership.specs.Index.{slot_of, next_in, link_of, OnChain, newest, older}
+use Rattle.judging.specs.Index.{first_in, Indexed, Linked}
+use Rattle.membership.specs.Entries.{Entry, entry_in, entries_in, add_entry, add_entries}
+use Rattle.judging.specs.Entries.{Grown, Stored}
 use Rattle.judging.specs.Search.{tags_in, row_asked, rule_asked, target_asked, forget_asked, finished, leaving}
-use Rattle.judging.proofs.Spans.{map_tab}
 use Rattle.judging.proofs.Places.{join_short}
 use Rattle.judging.proofs.Own.{nothing_dropped}
-use Rattle.judging.proofs.Copying.{Copied, copied}
-use Rattle.judging.proofs.Adding.{length_entries, add_nothing, add_single}
-use Rattle.judging.proofs.Chain.{link_is, chain_bound}
-
-abbrev pub entry : ℕ → ℕ → List ℕ → ℕ → List ℕ → Entry
-entry i q m r c = record { annotation = annotation i q m; rule = r; children = c }
-
-entry_same : (i i' q q' : ℕ) (m m' : List ℕ) (r r' : ℕ) (c c' : List ℕ) → i ≡ i' → q ≡ q' → m ≡ m' → r ≡ r' → c ≡ c' → entry i q m r c ≡ entry i' q' m' r' c'
-entry_same i i' q q' m m' r r' c c' ei eq em er ec =
-    λ x. record { annotation = record { row = ei x; state = eq x; memory = em x }; rule = er x; children = ec x }
-
--- the cells of an entry are its first 24
-pub entry_cells : (tags : ℕ) (work work' : List ℕ) (j : ℕ) → tags ≤ 16 → ((k : ℕ) → k < 24 → cell_of work' j k ≡ cell_of work j k) → entry_in tags work' j ≡ entry_in tags work j
-unfolding memory_in rule_in child_in
-entry_cells tags work work' j few h =
-    entry_same _ _ _ _ _ _ _ _ _ _ (h 0 (omega arith)) (h 1 (omega arith))
-    (tab_same tags (λ k. cell_of work' j (2 + k)) (λ k. cell_of work j (2 + k)) (λ k l. h (2 + k) (omega arith)))
-    (h 19 (omega arith))
-    (tab_same max_children (λ p. cell_of work' j (20 + p)) (λ p. cell_of work j (20 + p)) (λ p l. h (20 + p) (omega arith)))
+use Rattle.membership.proofs.Copying.{Copied, copied}
+use Rattle.membership.proofs.Adding.{length_entries, add_nothing, add_single}
+use Rattle.membership.proofs.Chain.{link_is, chain_bound}
+use Rattle.membership.specs.declared.table.Plan.{Plan}
+use Rattle.judging.specs.declared.search.Want.{Want}
+use Rattle.membership.proofs.Storing.{entry, entry_same, entry_cells, entries_annotations, none_known}
 
 -- the writes of an entry, one after the other
 module _ (tags : ℕ) (w₀ w₃ w₆ : List ℕ) (n i q rule : ℕ) (memory children : List ℕ) (few : tags ≤ 16) (fits : n * 32 + 32 ≤ length w₀) (long₃ : length w₃ ≡ length w₀)
@@ -114,11 +104,6 @@ module _ (tags : ℕ) (w₀ w₃ w₆ : List ℕ) (n i q rule : ℕ) (memory chi
       apart j k l (inl h) = inl (omega arith)
       apart j k l (inr h) = inr (omega arith)
 
--- the test for an equal annotation is over the entries' annotations
-pub entries_annotations : (tags : ℕ) (work : List ℕ) (n : ℕ) → annotations_of (entries_in tags work n) ≡ annotations_in tags work n
-unfolding entries_in annotations_in
-entries_annotations tags work n = map_tab (λ (e : Entry). e.annotation) n (entry_in tags work)
-
 -- an entry is written as number n and linked into its slot
 module _ (tags room : ℕ) (work mid after slots slots' : List ℕ) (n s : ℕ) (e : Entry) (few : tags ≤ 16) (st : Stored tags work n e mid) (li : Linked mid slots s n after slots') where
   cell_kept : (j k : ℕ) → k < 24 → (j ≡ n → ⊥) → cell_of after j k ≡ cell_of work j k
@@ -186,55 +171,45 @@ module _ (tags room : ℕ) (work : List ℕ) (n : ℕ) (e : Entry) (k : Bool) (e
   unfolding add_entry
   add_is = ap (λ b. cond b (entries_in tags work n) (entries_in tags work n ++ e ∷ [])) (ap (any (eq_annotation e.annotation)) (entries_annotations tags work n) ∙ sym ek)
 
-  pub add_known : (slots : List ℕ) → n ≤ room → Indexed tags room work slots n → k ≡ true → Grown n room tags (add_entry (entries_in tags work n) e) work slots n
+  pub add_known : (slots : List ℕ) → n ≤ room → Indexed tags room work slots n → k ≡ true → Grown n room tags (add_entry (entries_in tags work n) e) work slots (Some n)
   add_known slots l index y =
-      rw (add_is, y) (record { more = omega arith; held = λ h. refl; full = λ h. let z : ⊥ = omega arith in absurd z; indexed = λ h. index })
+      rw (add_is, y) (record { more = omega arith; count = l; held = refl; indexed = index })
 
-  pub add_new_lem : (mid after slots slots' : List ℕ) (s : ℕ) → n < room → tags ≤ 16 → Indexed tags room work slots n → k ≡ false → s ≡ slot_of room e.annotation → Stored tags work n e mid → Linked mid slots s n after slots' → Grown n room tags (add_entry (entries_in tags work n) e) after slots' (n + 1)
+  pub add_new_lem : (mid after slots slots' : List ℕ) (s : ℕ) → n < room → tags ≤ 16 → Indexed tags room work slots n → k ≡ false → s ≡ slot_of room e.annotation → Stored tags work n e mid → Linked mid slots s n after slots' → Grown n room tags (add_entry (entries_in tags work n) e) after slots' (Some (n + 1))
   add_new_lem mid after slots slots' s l few index y es st li =
       rw (add_is, y)
       (record {
         more = omega arith;
-        held = λ h. entries_more tags room work mid after slots slots' n s e few st li;
-        full = λ h. let z : ⊥ = omega arith in absurd z;
-        indexed = λ h. index_more tags room work mid after slots slots' n s e few st li es index;
+        count = omega arith;
+        held = entries_more tags room work mid after slots slots' n s e few st li;
+        indexed = index_more tags room work mid after slots slots' n s e few st li es index;
       })
 
-  pub add_full : (after slots : List ℕ) → room ≤ n → k ≡ false → Grown n room tags (add_entry (entries_in tags work n) e) after slots (n + 1)
+  pub add_full : (after slots : List ℕ) → room ≤ n → k ≡ false → Grown n room tags (add_entry (entries_in tags work n) e) after slots None
   add_full after slots l y =
       rw (add_is, y)
-      (record {
-        more = omega arith;
-        held = λ h. let z : ⊥ = omega arith in absurd z;
-        full = λ h. let a = length-append (entries_in tags work n) (e ∷ []) in let b = length_entries tags work n in omega arith;
-        indexed = λ h. let z : ⊥ = omega arith in absurd z;
-      })
+      (let a = length-append (entries_in tags work n) (e ∷ []) in let b = length_entries tags work n in omega arith)
 
--- a work space with no room has no annotation
-none_known : (tags : ℕ) (work : List ℕ) (f : Annotation → Bool) (n : ℕ) → n ≡ 0 → false ≡ any f (annotations_in tags work n)
-unfolding annotations_in
-none_known tags work f n q = rw q refl
-
-pub add_nowhere : (tags room : ℕ) (work after slots : List ℕ) (n : ℕ) (e : Entry) → room ≡ 0 → n ≤ room → Grown n room tags (add_entry (entries_in tags work n) e) after slots (n + 1)
+pub add_nowhere : (tags room : ℕ) (work after slots : List ℕ) (n : ℕ) (e : Entry) → room ≡ 0 → n ≤ room → Grown n room tags (add_entry (entries_in tags work n) e) after slots None
 add_nowhere tags room work after slots n e z l = add_full tags room work n e false (none_known tags work (eq_annotation e.annotation) n (omega arith)) after slots (omega arith) refl
 
 pub ruleset adding = (add_known, add_new_lem, add_full, add_nowhere, rules)
 
 -- the last step, where the memories agree and where they do not
-module _ (asked work : List ℕ) (n tags : ℕ) (own memory children : List ℕ) (r : Bool) (few : tags ≤ 16) (x : Short tags memory) (y : Short tags own) (agrees : AgreeIn memory own r) where
+module _ (asked : Want) (work : List ℕ) (n tags : ℕ) (own memory children : List ℕ) (r : Bool) (few : tags ≤ 16) (x : Short tags memory) (y : Short tags own) (agrees : AgreeIn memory own r) where
   abbrev last : List ℕ → Entry
   last m = entry (row_asked asked) (target_asked asked) m (rule_asked asked) children
 
   finished_is : finished asked (memory_of tags own) (memory_of tags memory) children ≡ only r (last (joined (memory_of tags memory) (memory_of tags own)) ∷ [])
   finished_is = ap (λ b. only b (last (joined (memory_of tags memory) (memory_of tags own)) ∷ [])) (sym (agrees tags few x y))
 
-  pub finish_joined : (room k : ℕ) (all after slots : List ℕ) → r ≡ true → JoinedIn memory own all → Grown n room tags (add_entry (entries_in tags work n) (last (memory_of tags all))) after slots k → Grown n room tags (add_entries (entries_in tags work n) (finished asked (memory_of tags own) (memory_of tags memory) children)) after slots k
+  pub finish_joined : (room : ℕ) (k : Option ℕ) (all after slots : List ℕ) → r ≡ true → JoinedIn memory own all → Grown n room tags (add_entry (entries_in tags work n) (last (memory_of tags all))) after slots k → Grown n room tags (add_entries (entries_in tags work n) (finished asked (memory_of tags own) (memory_of tags memory) children)) after slots k
   finish_joined room k all after slots t e g =
       rw (finished_is, t, add_single) (subst (λ z. Grown n room tags (add_entry (entries_in tags work n) (last z)) after slots k) (e tags few) g)
 
-  pub finish_clash : (room : ℕ) (slots : List ℕ) → n ≤ room → Indexed tags room work slots n → r ≡ false → Grown n room tags (add_entries (entries_in tags work n) (finished asked (memory_of tags own) (memory_of tags memory) children)) work slots n
+  pub finish_clash : (room : ℕ) (slots : List ℕ) → n ≤ room → Indexed tags room work slots n → r ≡ false → Grown n room tags (add_entries (entries_in tags work n) (finished asked (memory_of tags own) (memory_of tags memory) children)) work slots (Some n)
   finish_clash room slots l index f =
-      rw (finished_is, f, add_nothing) (record { more = omega arith; held = λ h. refl; full = λ h. let z : ⊥ = omega arith in absurd z; indexed = λ h. index })
+      rw (finished_is, f, add_nothing) (record { more = omega arith; count = l; held = refl; indexed = index })
 
 -- nothing stands past the tags in the joined memory
 pub joined_short : (tags : ℕ) (a b out : List ℕ) → Short tags a → Short tags b → JoinedIn a b out → Short tags out
@@ -244,7 +219,7 @@ joined_short tags a b out x y e = join_short tags out (λ k. get_or a k 0) (λ k
 pub ruleset finishing = (finish_joined, finish_clash, rules)
 
 -- the last step on what is left of a memory is what the rule leaves
-pub left_grown : (plan asked : List ℕ) (list : List Entry) (n room tags k : ℕ) (own m x children after slots : List ℕ) → x ≡ without (tags_in plan) (forget_asked asked) m → Grown n room tags (add_entries list (finished asked own x children)) after slots k → Grown n room tags (add_entries list (leaving plan asked own m children)) after slots k
+pub left_grown : (plan : Plan) (asked : Want) (list : List Entry) (n room tags : ℕ) (k : Option ℕ) (own m x children after slots : List ℕ) → x ≡ without (tags_in plan) (forget_asked asked) m → Grown n room tags (add_entries list (finished asked own x children)) after slots k → Grown n room tags (add_entries list (leaving plan asked own m children)) after slots k
 left_grown plan asked list n room tags k own m x children after slots e g = subst (λ z. Grown n room tags (add_entries list (finished asked own z children)) after slots k) e g
 
 pub ruleset leaves = (left_grown, nothing_dropped, rules)

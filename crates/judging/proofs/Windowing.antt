@@ -9,8 +9,9 @@ use lib.ListN.{length}
 use Rattle.judging.specs.Chains.{class_in, Opened, Chained, Opening}
 use Rattle.judging.specs.Search.{arity_in, low_in, high_in, Windows, Separate}
 use Rattle.judging.proofs.States.{class_small, opened_after, chained_after}
+use Rattle.membership.specs.declared.table.Plan.{Plan}
 
-module _ (work plan : List ℕ) where
+module _ (work : List ℕ) (plan : Plan) where
   -- the first p windows are opened
   pub record Opens (heads links : List ℕ) (p : ℕ) : Type 0 where
     pub separate : Separate plan work

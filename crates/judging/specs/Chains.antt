@@ -1,6 +1,6 @@
 -- Annotations of a window by class, a class being the state's remainder by 256: for each place a table of heads, the first of each class, and for each annotation a link, the next of its class. Assumes nothing.
 use Rattle.std.specs.Prelude.{◌≡◌, ◌⊎◌, List, ℕ, suc, ◌+◌, ◌*◌, ◌%◌, ◌<◌, ◌≤◌, get_or}
-use Rattle.judging.specs.Cells.{cell_of}
+use Rattle.membership.specs.Cells.{cell_of}
 
 abbrev pub classes : ℕ
 classes = 256

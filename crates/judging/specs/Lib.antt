@@ -4,10 +4,4 @@ pub mod Entries
 pub mod Chains
 pub mod Search
 pub mod Tried
-pub mod Listing
 pub mod Plan
-pub mod Sources
-pub mod Annotated
-pub mod Trace
-pub mod Handed
-pub mod Judge

@@ -1,47 +1,17 @@
 // Annotations with their sources in the work space: the test whether one may be chosen, the test for an equal one, and a new one's cells.
 ghost use Rattle.std.specs.Prelude.{◌≡◌, ◌+◌, ◌*◌, ◌≤◌, ◌<◌, length};
 ghost use Rattle.model.specs.Annotation.{annotation, eq_annotation};
-ghost use Rattle.judging.specs.Cells.{memory_of, Short, annotation_in, ShortIn};
+ghost use Rattle.membership.specs.Cells.{memory_of, annotation_in};
+ghost use Rattle.judging.specs.Cells.{Short, ShortIn};
 ghost use Rattle.judging.specs.Entries.{Stored};
-ghost use Rattle.judging.specs.Search.{choosable?, JoinedWith};
+ghost use Rattle.membership.specs.Search.{choosable?, JoinedWith};
 
-use crate::memory::{agree, join, same};
+use crate::memory::{agree, same};
 use automaton::State;
 use base::limits::PLACES;
-use base::space::put_cells;
 use document::rows::Row;
-
-pub const ANNOTATION_CELLS: usize = 32;
-
-// The cells of an annotation.
-pub(crate) const ROW: usize = 0;
-
-pub(crate) const STATE: usize = 1;
-
-const MEMORY: usize = 2;
-
-const MEMORY_END: usize = 18;
-
-const MARK: usize = 18;
-
-pub(crate) const RULE: usize = 19;
-
-pub(crate) const CHILD: usize = 20;
-
-// That of the index: the annotation after it in its slot.
-pub(crate) const NEXT: usize = 25;
-
-// Those of the run: 1 where the annotation is reached, and its step's number.
-pub(crate) const REACHED: usize = 26;
-
-pub(crate) const NUMBER: usize = 27;
-
-pub(crate) fn narrow(x: usize) -> u16
-    requires { x < 65536 }
-    ensures { result ≡ x }
-{
-    x as u16
-}
+use membership::cells::{ANNOTATION_CELLS, CHILD, MARK, MEMORY, MEMORY_END, ROW, RULE, STATE};
+use membership::join;
 
 // Annotation j may be chosen for a child in a state, the memory being joined so far.
 pub(crate) fn choosable(
@@ -74,7 +44,7 @@ pub(crate) fn joined_with(work: &[u16], j: usize, memory: &[u16; 16]) -> [u16; 1
     join(memory, &work[start..end])
 }
 
-// Annotation j is the one with this row, state and memory.
+// Annotation j is the one with this row, state and memory. Here and in the index these stay three parameters: the memory is lent, and a struct of them would be made for one call and taken apart in it.
 pub(crate) fn is_same(
     work: &[u16],
     j: usize,
@@ -87,7 +57,7 @@ pub(crate) fn is_same(
     ensures { result ≡ eq_annotation (annotation row.0 state.0 (memory_of tags memory.now)) (annotation_in tags work.now j) }
 {
     let at = j * ANNOTATION_CELLS;
-    if row.0 != work[at] {
+    if row.0 != work[at + ROW] {
         return false;
     }
     if state.0 != work[at + STATE] {
@@ -115,8 +85,8 @@ pub(crate) fn put(
     let at = n * ANNOTATION_CELLS;
     work[at] = row.0;
     work[at + STATE] = state.0;
-    put_cells(work, at + MEMORY, memory);
+    base::space::put(work, at + MEMORY, memory);
     work[at + MARK] = 0;
     work[at + RULE] = rule;
-    put_cells(work, at + CHILD, children);
+    base::space::put(work, at + CHILD, children);
 }

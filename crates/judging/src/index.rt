@@ -3,48 +3,20 @@ ghost use Rattle.std.specs.Prelude.{◌≡◌, ◌+◌, ◌*◌, ◌≤◌, ◌<
 ghost use Rattle.model.specs.Limits.{max_steps};
 ghost use Rattle.model.specs.Lists.{any};
 ghost use Rattle.model.specs.Annotation.{annotation, eq_annotation};
-ghost use Rattle.judging.specs.Cells.{memory_of, Short, annotations_in};
-ghost use Rattle.judging.specs.Index.{mixed, slot_of, link_of, Indexed, Linked};
+ghost use Rattle.membership.specs.Cells.{memory_of, annotations_in};
+ghost use Rattle.judging.specs.Cells.{Short};
+ghost use Rattle.membership.specs.Index.{slot_of};
+ghost use Rattle.judging.specs.Index.{Indexed, Linked};
 
-use crate::entries::{ANNOTATION_CELLS, NEXT, is_same};
+use crate::entries::is_same;
 use automaton::State;
 use base::limits::MAX_STEPS;
-use base::numbers::size;
 use document::rows::Row;
+use membership::cells::{ANNOTATION_CELLS, NEXT};
+use membership::link_at;
 
 // As many slots as the largest room has.
 pub(crate) const SLOTS: usize = MAX_STEPS as usize;
-
-// A number more goes into a hash.
-fn mix(h: usize, x: u16) -> usize
-    requires { h < 65536 }
-    ensures { (result ≡ mixed h x) × (result < 65536) }
-{
-    (h * 40503 + size(x)) % 65536
-}
-
-// An annotation's slot.
-pub(crate) fn slot_of(row: Row, state: State, memory: &[u16; 16], tags: usize, room: usize) -> usize
-    requires { (tags ≤ 16) × (0 < room) }
-    ensures { (result ≡ slot_of room (annotation row.0 state.0 (memory_of tags memory.now))) × (result < room) }
-{
-    let mut h = mix(size(row.0), state.0);
-    let mut k = 0;
-    while k < tags {
-        h = mix(h, memory[k]);
-        k += 1;
-    }
-    h % room
-}
-
-// The link in a cell: a number and 1, at most `most`, or 0.
-fn link_at(cells: &[u16], at: usize, most: usize) -> usize
-    requires { at < length cells.now }
-    ensures { (result ≡ link_of most (get_or cells.now at 0)) × (result ≤ most) }
-{
-    let x = size(cells[at]);
-    if x <= most { x } else { 0 }
-}
 
 // One of the first n annotations has this row, state and memory, whose slot is given.
 pub(crate) fn is_known(

@@ -1,7 +1,10 @@
 // Memories: a place for each tag, 0 where the tag has no row, else the row's number and 1. Nothing stands past the tags, so all 16 places are compared without a branch.
-ghost use Rattle.std.specs.Prelude.{◌≡◌, cond, ◌%◌, ◌≤◌, eqb, length};
-ghost use Rattle.model.specs.Annotation.{places_agree, joined_place};
-ghost use Rattle.judging.specs.Cells.{memory_of, Short, AgreeIn, SameIn, JoinedIn, without};
+ghost use Rattle.std.specs.Prelude.{◌≡◌, ◌≤◌, length};
+ghost use Rattle.model.specs.Annotation.{places_agree};
+ghost use Rattle.membership.specs.Cells.{memory_of, without};
+ghost use Rattle.judging.specs.Cells.{Short, AgreeIn, SameIn};
+
+use membership::kept_place;
 
 // A memory has 16 places, the first of them the tags'.
 pub(crate) const MEMORY_PLACES: usize = 16;
@@ -12,22 +15,14 @@ fn places_agree(x: u16, y: u16) -> bool
     (x == 0) | (y == 0) | (x == y)
 }
 
-fn joined_place(x: u16, y: u16) -> u16
-    ensures { result ≡ joined_place x y }
-{
-    if x == 0 { y } else { x }
-}
-
 // No tag gets two rows.
 pub(crate) fn agree(a: &[u16; 16], b: &[u16]) -> bool
     requires { length b.now ≡ 16 }
     ensures { AgreeIn a.now b.now result }
 {
     let mut all = true;
-    let mut k = 0;
-    while k < MEMORY_PLACES {
+    for k in 0..MEMORY_PLACES {
         all = all & places_agree(a[k], b[k]);
-        k += 1;
     }
     all
 }
@@ -38,33 +33,10 @@ pub(crate) fn same(a: &[u16; 16], b: &[u16]) -> bool
     ensures { SameIn a.now b.now result }
 {
     let mut all = true;
-    let mut k = 0;
-    while k < MEMORY_PLACES {
+    for k in 0..MEMORY_PLACES {
         all = all & (a[k] == b[k]);
-        k += 1;
     }
     all
-}
-
-// What two memories that agree say together. All places are joined, those past the tags too, so that the loop has a fixed length.
-pub(crate) fn join(a: &[u16; 16], b: &[u16]) -> [u16; 16]
-    requires { length b.now ≡ 16 }
-    ensures { JoinedIn a.now b.now result }
-{
-    let mut out = [0u16; MEMORY_PLACES];
-    let mut k = 0;
-    while k < MEMORY_PLACES {
-        out[k] = joined_place(a[k], b[k]);
-        k += 1;
-    }
-    out
-}
-
-// A place, nothing where the lowest bit of a mask is set.
-fn kept_place(mask: u16, x: u16) -> u16
-    ensures { result ≡ cond (eqb (mask % 2) 1) 0 x }
-{
-    if mask % 2 == 1 { 0 } else { x }
 }
 
 // What is left of a memory once a mask's tags are dropped.
@@ -77,11 +49,9 @@ pub(crate) fn kept(memory: &[u16; 16], mask: u16, tags: usize) -> [u16; 16]
     }
     let mut out = [0u16; MEMORY_PLACES];
     let mut rest = mask;
-    let mut k = 0;
-    while k < tags {
+    for k in 0..tags {
         out[k] = kept_place(rest, memory[k]);
         rest = rest / 2;
-        k += 1;
     }
     out
 }

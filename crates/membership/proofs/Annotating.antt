@@ -21,10 +21,10 @@ use Rattle.automaton.proofs.Sound.{sound_decode}
 use Rattle.document.specs.Rows.{decode_rows}
 use Rattle.membership.specs.Cells.{annotation_cells, room_of}
 use Rattle.membership.specs.Index.{Indexed}
-use Rattle.membership.specs.Entries.{Entry, annotations_of, entries_in, Grown}
+use Rattle.membership.specs.Entries.{Entry, annotations_of, entries_in, Held}
 use Rattle.membership.specs.Listing.{entries_below}
 use Rattle.membership.specs.Plan.{Starts, Before}
-use Rattle.membership.specs.Annotated.{Annotated}
+use Rattle.membership.specs.Annotated.{AllIn}
 use Rattle.membership.proofs.Adding.{length_entries}
 use Rattle.membership.proofs.Storing.{entries_annotations}
 use Rattle.membership.proofs.Listing as listing
@@ -40,7 +40,7 @@ room_fits cells = go (leb (cells / annotation_cells) max_steps) refl
     go true e = (leb-true (cells / annotation_cells) max_steps e, div-mul-le_self cells annotation_cells)
     go false e = let l = leb-false (cells / annotation_cells) max_steps e in (omega arith, omega (arith, div-mul-le_self cells annotation_cells))
 
-none_in : (tags : ℕ) (work : List ℕ) (A : Automaton) (rows : List Row) → entries_in tags work 0 ≡ entries_below A rows 0
+pub none_in : (tags : ℕ) (work : List ℕ) (A : Automaton) (rows : List Row) → entries_in tags work 0 ≡ entries_below A rows 0
 unfolding entries_in entries_below
 none_in tags work A rows = refl
 
@@ -49,7 +49,7 @@ unfolding Indexed
 none_indexed tags room work j l = let z : ⊥ = omega arith in absurd z
 
 -- the entries of all rows are the table's annotations
-count_all : (A : Automaton) (rows : List Row) → length (entries_below A rows (length rows)) ≡ length (annotations A rows)
+pub count_all : (A : Automaton) (rows : List Row) → length (entries_below A rows (length rows)) ≡ length (annotations A rows)
 count_all A rows = sym (length-map (entries_below A rows (length rows)) (λ (e : Entry). e.annotation)) ∙ ap length (listing.entries_annotations A rows (length rows))
 
 pub record Annotating (s cells : List ℕ) (room tags long : ℕ) (starts work : List ℕ) (n i : ℕ) : Type 0 where
@@ -101,9 +101,9 @@ module _ (s cells : List ℕ) (room tags long : ℕ) where
             rw q (get_or-set_same starts i v 0 (omega arith) ∙ ev ∙ sym (length_entries tags work n) ∙ ap length h.entries)
         go (no q) = get_or-set_other starts i c v 0 q ∙ h.started c (omega (arith, q))
 
-    module _ (l : i < length (decode_rows cells)) (v : ℕ) (ev : v ≡ n) (work' : List ℕ) (n' : ℕ) (g : Grown n room tags (entries_below (decode s) (decode_rows cells) (suc i)) work' n') where
-      pub annotating_more : length work' ≡ length work → n' ≤ room → Annotating s cells room tags long (set starts i v) work' n' (i + 1)
-      annotating_more e f =
+    module _ (l : i < length (decode_rows cells)) where
+      pub annotating_more : (v : ℕ) → v ≡ n → (work' : List ℕ) (n' : ℕ) → Held n room tags (entries_below (decode s) (decode_rows cells) (suc i)) work' n' → length work' ≡ length work → Annotating s cells room tags long (set starts i v) work' n' (i + 1)
+      annotating_more v ev work' n' g e =
           record {
             ok = h.ok;
             table = h.table;
@@ -112,31 +112,25 @@ module _ (s cells : List ℕ) (room tags long : ℕ) where
             space = e ∙ h.space;
             wide = length-set starts i v ∙ h.wide;
             inside = omega arith;
-            count = f;
-            entries = g.held f ∙ ap (entries_below (decode s) (decode_rows cells)) (sym (add-one i));
-            indexed = g.indexed f;
+            count = g.count;
+            entries = g.held ∙ ap (entries_below (decode s) (decode_rows cells)) (sym (add-one i));
+            indexed = g.indexed;
             started = λ c m. row_starts l v ev c (omega arith);
           }
 
-      pub annotating_full : room < n' → Annotated (decode s) (decode_rows cells) (room_of long) work' n'
+      pub annotating_full : room < length (entries_below (decode s) (decode_rows cells) (suc i)) → room_of long < length (annotations (decode s) (decode_rows cells))
       annotating_full f =
           let e = h.room_is in
-          record {
-            held = λ m. let z : ⊥ = omega arith in absurd z;
-            sourced = λ m. let z : ⊥ = omega arith in absurd z;
-            full = λ _.
-                let a = g.full f in
-                let b = starts_rise (decode s) (decode_rows cells) (suc i) (length (decode_rows cells)) l in
-                let c = count_all (decode s) (decode_rows cells) in
-                omega arith;
-          }
+          let b = starts_rise (decode s) (decode_rows cells) (suc i) (length (decode_rows cells)) l in
+          let c = count_all (decode s) (decode_rows cells) in
+          omega arith
 
-    pub annotating_all : length (decode_rows cells) ≤ i → Annotated (decode s) (decode_rows cells) (room_of long) work n
+    pub annotating_all : length (decode_rows cells) ≤ i → AllIn (decode s) (decode_rows cells) (room_of long) work n
     annotating_all l =
         let q : i ≡ length (decode_rows cells) = let a = h.inside in omega arith in
         let held : entries_in (decode s).tags work n ≡ entries_below (decode s) (decode_rows cells) (length (decode_rows cells)) = ap (λ t. entries_in t work n) (sym h.tags_are) ∙ h.entries ∙ ap (entries_below (decode s) (decode_rows cells)) q in
         record {
-          held = λ _. sym (entries_annotations (decode s).tags work n) ∙ ap annotations_of held ∙ listing.entries_annotations (decode s) (decode_rows cells) (length (decode_rows cells));
-          sourced = λ _. sourced_in (decode s) (decode_rows cells) (few_children (decode s) (decode_rows cells) (sound_decode s h.ok) h.table) (decode s).tags work n (length (decode_rows cells)) (omega arith) held;
-          full = λ f. let a = h.count in let e = h.room_is in let z : ⊥ = omega arith in absurd z;
+          count = let a = h.count in let e = h.room_is in omega arith;
+          held = sym (entries_annotations (decode s).tags work n) ∙ ap annotations_of held ∙ listing.entries_annotations (decode s) (decode_rows cells) (length (decode_rows cells));
+          sourced = sourced_in (decode s) (decode_rows cells) (few_children (decode s) (decode_rows cells) (sound_decode s h.ok) h.table) (decode s).tags work n (length (decode_rows cells)) (omega arith) held;
         }

@@ -8,6 +8,7 @@ use native.Mathlib.Decide.{dec_lt}
 use native.Mathlib.Numerals.{add-one}
 use borrow.Author.Tests.{eq-eqb, ne_eqb}
 use lib.ListN.{length, get_or, length-map, get_or-map}
+use Rattle.std.specs.Prelude.{Option}
 use Rattle.model.specs.Limits.{max_children, unused}
 use Rattle.model.specs.Lists.{concat_map, only}
 use Rattle.model.specs.Order.{place}
@@ -180,7 +181,7 @@ module _ (A : Automaton) (rows : List Row) (sound : Sound A) (table : SoundTable
             same_annotations tags work₀ work n m list (subst (λ l. Ext l list) (sym b.entries) (subst (λ z. Ext (entries_below A rows i) (entries_below A rows z)) (add-one i) (ext_below A rows i 1))) (turn_front step high n room tags (length work₀) list work m r t) n (omega arith) h
             ∙ known_is
 
-        pub rule_grown : (own' empty free work' : List ℕ) (m' : ℕ) → memory_of tags own' ≡ own → memory_of tags empty ≡ empty_memory A → free ≡ no_children → Grown m want.room want.tags (add_entries (entries_in want.tags work m) (found (annotations_in want.tags work want.base) want (memory_of want.tags own') width (memory_of want.tags empty) free)) work' m' → Grown m room tags (add_entries (entries_in tags work m) (step r)) work' m'
+        pub rule_grown : (own' empty free work' : List ℕ) (m' : Option ℕ) → memory_of tags own' ≡ own → memory_of tags empty ≡ empty_memory A → free ≡ no_children → Grown m want.room want.tags (add_entries (entries_in want.tags work m) (found (annotations_in want.tags work want.base) want (memory_of want.tags own') width (memory_of want.tags empty) free)) work' m' → Grown m room tags (add_entries (entries_in tags work m) (step r)) work' m'
         rule_grown own' empty free work' m' eown ee ef g =
             let g₁ = subst (λ z. Grown m z want.tags (add_entries (entries_in want.tags work m) (found (annotations_in want.tags work want.base) want (memory_of want.tags own') width (memory_of want.tags empty) free)) work' m') (wf.room ∙ eroom) g in
             let g₂ = subst (λ z. Grown m room z (add_entries (entries_in z work m) (found (annotations_in z work want.base) want (memory_of z own') width (memory_of z empty) free)) work' m') (wf.tags ∙ et) g₁ in

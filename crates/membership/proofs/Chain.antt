@@ -24,7 +24,7 @@ not_T false h = refl
 pub T_of : (b r : Bool) → r ≡ b → r ≡ true → T b
 T_of b r e t = subst T (sym t ∙ e) tt
 
-link_bound : (most x : ℕ) → link_of most x ≤ most
+pub link_bound : (most x : ℕ) → link_of most x ≤ most
 link_bound most x = go (leb x most) refl
   where
     go : (b : Bool) → leb x most ≡ b → cond b x 0 ≤ most
@@ -39,12 +39,12 @@ module _ (work : List ℕ) (n : ℕ) where
   chain_bound (newest l) = l
   chain_bound (older l m c) = l
 
-  chain_none : {j i : ℕ} → OnChain work n j i → i ≡ 0 → ⊥
+  pub chain_none : {j i : ℕ} → OnChain work n j i → i ≡ 0 → ⊥
   chain_none (newest l) e = omega arith
   chain_none (older l m c) e = omega arith
 
   -- the rest of a chain whose first is another annotation
-  chain_rest : {j i : ℕ} → OnChain work n j i → (k : ℕ) → i ≡ suc k → (j ≡ k → ⊥) → (next_in work k ≤ k) × OnChain work n j (next_in work k)
+  pub chain_rest : {j i : ℕ} → OnChain work n j i → (k : ℕ) → i ≡ suc k → (j ≡ k → ⊥) → (next_in work k ≤ k) × OnChain work n j (next_in work k)
   chain_rest (newest l) k e other = absurd (other (omega arith))
   chain_rest {j = j} (older {k = h} l m c) k e other = let same : h ≡ k = omega arith in subst (λ z. (next_in work z ≤ z) × OnChain work n j (next_in work z)) same (m, c)
 

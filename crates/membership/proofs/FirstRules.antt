@@ -4,7 +4,6 @@ use mathlib.Core.List.{List}
 use Prim.Native.Nat.{ℕ, ◌+◌, ◌<◌, ◌≤◌}
 use native.Mathlib.Omega.{arith}
 use native.Mathlib.Decide.{ℕ_discrete}
-use borrow.Author.Rules.{rules}
 use lib.ListN.{length, get_or, set, length-set}
 use lib.Seq.{get_or-set_same, get_or-set_other}
 use Rattle.model.specs.Automaton.{Automaton}
@@ -18,9 +17,6 @@ pub record Ruling (A : Automaton) (out : List ℕ) (k : ℕ) : Type 0 where
   pub done : (f : ℕ) → f < k → FirstFrom A f (get_or out f 0)
 
 module _ (A : Automaton) (out : List ℕ) where
-  pub ruling_none : length out ≡ 65 → Ruling A out 0
-  ruling_none e = record { inside = omega arith; wide = e; done = λ f l. let z : ⊥ = omega arith in absurd z }
-
   pub ruling_more : (k v x : ℕ) → Ruling A out k → k < 65 → x ≡ k → FirstFrom A x v → Ruling A (set out k v) (k + 1)
   ruling_more k v x h l e first =
       record { inside = omega arith; wide = length-set out k v ∙ h.wide; done = λ f m. go f m (ℕ_discrete f k) }
@@ -31,8 +27,6 @@ module _ (A : Automaton) (out : List ℕ) where
 
   pub ruling_all : (k : ℕ) → Ruling A out k → 65 ≤ k → FirstRules A out
   ruling_all k h l f m = h.done f (omega arith)
-
-pub ruleset rulings = (ruling_none, rules)
 
 -- what stands there for symbol k, read at a place that is its number
 pub first_at : (A : Automaton) (firsts : List ℕ) (k x v : ℕ) → FirstRules A firsts → k ≤ 64 → x ≡ k → v ≡ get_or firsts x 0 → FirstFrom A k v

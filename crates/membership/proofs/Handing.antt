@@ -8,6 +8,7 @@ use native.Mathlib.Decide.{dec_lt}
 use borrow.Author.Tests.{lt-ltb, le-ltb}
 use lib.Dec.{T, eqb, eqb→eq}
 use lib.ListN.{length, get_or, drop}
+use Rattle.std.specs.Prelude.{Some, None}
 use Rattle.model.specs.Limits.{max_children, max_steps, unused}
 use Rattle.model.specs.Lists.{only, any, tab, any_below}
 use Rattle.model.specs.Automaton.{Automaton, final?}
@@ -22,7 +23,7 @@ use Rattle.runs.specs.Steps.{step_cells, encode_step, encode_steps}
 use Rattle.membership.specs.Cells.{cell_of, annotation_in, annotations_in, rule_in, child_in}
 use Rattle.membership.specs.Entries.{Entry, entry_in}
 use Rattle.membership.specs.Sources.{annotation_at, Sourced, SourcedIn}
-use Rattle.membership.specs.Trace.{reached?, rank_of, KeptBut, Reached, Traced, step_place, steps_written, accepting_in, FirstOf}
+use Rattle.membership.specs.Trace.{reached?, rank_of, KeptBut, Reached, Traced, step_place, steps_written, accepting_in}
 use Rattle.membership.specs.Handed.{StepsWritten, RunWritten}
 use Rattle.membership.proofs.Reading.{any_annotation}
 use Rattle.membership.proofs.Spans.{concat_map_append}
@@ -51,18 +52,18 @@ unfolding any_below
 none_below zero p h = refl
 none_below (suc n) p h = λ x. none_below n p (λ j l. h j (omega arith)) x || h n (omega arith) x
 
-module _ (A : Automaton) (rows : List Row) (work : List ℕ) (n last r : ℕ) (held : annotations_in A.tags work n ≡ annotations A rows) (el : last ≡ length rows - 1) (first : FirstOf (accepting_in A last work) n r) where
+module _ (A : Automaton) (rows : List Row) (work : List ℕ) (n last : ℕ) (held : annotations_in A.tags work n ≡ annotations A rows) (el : last ≡ length rows - 1) where
   accepts_any : accepts? A rows ≡ any_below n (accepting_in A last work)
   accepts_any =
       ap (any (accepting? A rows)) (sym held)
       ∙ any_annotation (accepting? A rows) A.tags work n
       ∙ ap (λ k. any_below n (accepting_in A k work)) (sym el)
 
-  accepts_none : r ≡ n → accepts? A rows ≡ false
-  accepts_none e = accepts_any ∙ none_below n (accepting_in A last work) (λ j l. first.before j (omega arith))
+  accepts_none : ((j : ℕ) → j < n → accepting_in A last work j ≡ false) → accepts? A rows ≡ false
+  accepts_none none = accepts_any ∙ none_below n (accepting_in A last work) none
 
-  accepts_some : r < n → accepts? A rows ≡ true
-  accepts_some l = accepts_any ∙ (T_true _).0 (below_any n (accepting_in A last work) r l ((T_true _).1 (first.found l)))
+  accepts_some : (r : ℕ) → r < n → accepting_in A last work r ≡ true → accepts? A rows ≡ true
+  accepts_some r l found = accepts_any ∙ (T_true _).0 (below_any n (accepting_in A last work) r l ((T_true _).1 found))
 
 -- the cells of the run are those of its steps
 module _ (A : Automaton) (rows : List Row) (narrow : (i : ℕ) → i < length rows → length (row_at rows i).children ≤ max_children) (work : List ℕ) (n root : ℕ) (is_root : root < n) (few : n ≤ max_steps) (src : SourcedIn A rows A.tags work n) (reached : Reached work root) where
@@ -98,29 +99,23 @@ module _ (A : Automaton) (rows : List Row) (narrow : (i : ℕ) → i < length ro
       go false = refl
 
 -- THE RUN WRITTEN, in the two cases.
-module _ (A : Automaton) (rows : List Row) (narrow : (i : ℕ) → i < length rows → length (row_at rows i).children ≤ max_children) (tags : A.tags ≤ 16) (work : List ℕ) (n last root : ℕ) (few : n ≤ max_steps) (held : annotations_in A.tags work n ≡ annotations A rows) (src : SourcedIn A rows A.tags work n) (el : last ≡ length rows - 1) (first : FirstOf (accepting_in A last work) n root) (run₀ : List ℕ) where
-  pub nothing_written : root ≡ n → RunWritten A rows n run₀ run₀ 0
-  nothing_written e = record { few = omega arith; rejected = λ _. (accepts_none A rows work n last root held el first e, refl); accepted = λ l. let z : ⊥ = omega arith in absurd z }
+module _ (A : Automaton) (rows : List Row) (narrow : (i : ℕ) → i < length rows → length (row_at rows i).children ≤ max_children) (tags : A.tags ≤ 16) (work : List ℕ) (n last : ℕ) (few : n ≤ max_steps) (held : annotations_in A.tags work n ≡ annotations A rows) (src : SourcedIn A rows A.tags work n) (el : last ≡ length rows - 1) (run₀ : List ℕ) where
+  pub nothing_written : ((j : ℕ) → j < n → accepting_in A last work j ≡ false) → RunWritten A rows n run₀ run₀ None
+  nothing_written none = (accepts_none A rows work n last held el none, refl)
 
-  pub run_written : (root ≡ n → ⊥) → (work' run' : List ℕ) (r : ℕ) → Traced work root work' → StepsWritten work' root run₀ run' r → RunWritten A rows n run₀ run' r
-  run_written other work' run' r t w =
-      record {
-        few = let e = w.count in let m = rank_most (reached? work') (suc root) in omega arith;
-        rejected = λ e. let a = w.count in let b = rank_below (reached? work') root (suc root) (omega arith) t.reached.from in let z : ⊥ = omega arith in absurd z;
-        accepted = λ _. (
-          accepts_some A rows work n last root held el first is_root,
-          record {
-            run = run A rows narrow work' n root is_root few src' t.reached;
-            written = traced_run A rows narrow work' n root is_root few src' t.reached root_row root_final;
-            count = length_picked (reached? work') (step_for A rows narrow work' n root is_root few src' t.reached) (suc root) ∙ sym w.count;
-            cells = w.cells ∙ ap (λ z. z ++ drop (r * step_cells) run₀) (sym (run_cells A rows narrow work' n root is_root few src' t.reached (suc root) is_root));
-          },
-        );
-      }
+  pub run_written : (root : ℕ) → root < n → accepting_in A last work root ≡ true → (work' run' : List ℕ) (r : ℕ) → Traced work root work' → StepsWritten work' root run₀ run' r → RunWritten A rows n run₀ run' (Some r)
+  run_written root is_root found work' run' r t w = (
+    let a = w.count in let b = rank_below (reached? work') root (suc root) (omega arith) t.reached.from in omega arith,
+    let e = w.count in let m = rank_most (reached? work') (suc root) in omega arith,
+    accepts_some A rows work n last held el root is_root found,
+    record {
+      run = run A rows narrow work' n root is_root few src' t.reached;
+      written = traced_run A rows narrow work' n root is_root few src' t.reached root_row root_final;
+      count = length_picked (reached? work') (step_for A rows narrow work' n root is_root few src' t.reached) (suc root) ∙ sym w.count;
+      cells = w.cells ∙ ap (λ z. z ++ drop (r * step_cells) run₀) (sym (run_cells A rows narrow work' n root is_root few src' t.reached (suc root) is_root));
+    },
+  )
     where
-      is_root : root < n
-      is_root = let h = first.within in omega (arith, other)
-
       src' : SourcedIn A rows A.tags work' n
       src' = sources_kept A rows work work' n tags t.kept src
 
@@ -128,7 +123,7 @@ module _ (A : Automaton) (rows : List Row) (narrow : (i : ℕ) → i < length ro
       root_is = ap (λ z. annotation_at z root) (annotations_kept A rows work work' n tags t.kept) ∙ annotation_at_lem A.tags work n root is_root
 
       passes : T (accepting_in A last work root)
-      passes = (T_true _).1 (first.found is_root)
+      passes = (T_true _).1 found
 
       root_row : (annotation_at (annotations_in A.tags work' n) root).row ≡ length rows - 1
       root_row = ap (λ (a : Annotation). a.row) root_is ∙ eqb→eq (cell_of work root 0) last (T_and (eqb (cell_of work root 0) last) (final? A (cell_of work root 1)) passes).0 ∙ el

@@ -107,7 +107,7 @@ row_is A rows known i =
     only_map true es = refl
     only_map false es = refl
 
-add_is : (es known : List Entry) → annotations_of (add_entries known es) ≡ add_new (annotations_of known) (annotations_of es)
+pub add_is : (es known : List Entry) → annotations_of (add_entries known es) ≡ add_new (annotations_of known) (annotations_of es)
 unfolding add_entries add_entry
 add_is [] known = refl
 add_is (e ∷ es) known =

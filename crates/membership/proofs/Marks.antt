@@ -11,6 +11,7 @@ use borrow.Author.Tests.{eq-eqb, ne_eqb, lt-ltb, le-ltb}
 use lib.Dec.{T, eqb}
 use lib.ListN.{length, get_or, set, length-set}
 use lib.Seq.{get_or-set_same, get_or-set_other}
+use Rattle.std.specs.Prelude.{Option, Some, None, MatchOption}
 use Rattle.model.specs.Limits.{max_children, unused}
 use Rattle.model.specs.Automaton.{Automaton, final?}
 use Rattle.model.proofs.Members.{T_true}
@@ -72,30 +73,10 @@ module _ (before : List ℕ) (n : ℕ) where
 
 pub ruleset unmarks = (unmark_none, unmark_more, unmark_all, rules)
 
--- the first number that passes
-pub record Seeking (f : ℕ → Bool) (n j : ℕ) : Type 0 where
-  pub inside : j ≤ n
-  pub none : (i : ℕ) → i < j → f i ≡ false
-
-module _ (f : ℕ → Bool) (n : ℕ) where
-  pub seek_start : Seeking f n 0
-  seek_start = record { inside = omega arith; none = λ i l. let z : ⊥ = omega arith in absurd z }
-
-  module _ (j : ℕ) (h : Seeking f n j) where
-    pub seek_more : (r : Bool) → j < n → r ≡ f j → r ≡ false → Seeking f n (j + 1)
-    seek_more r l e t = record { inside = omega arith; none = λ i m. go i (ℕ_discrete i j) m }
-      where
-        go : (i : ℕ) → Dec (i ≡ j) → i < j + 1 → f i ≡ false
-        go i (yes q) m = rw q (sym e ∙ t)
-        go i (no q) m = h.none i (omega (arith, q))
-
-    pub seek_found : (r : Bool) → j < n → r ≡ f j → r ≡ true → FirstOf f n j
-    seek_found r l e t = record { within = h.inside; found = λ _. sym e ∙ t; before = h.none }
-
-    pub seek_end : n ≤ j → FirstOf f n j
-    seek_end l = record { within = h.inside; found = λ m. let z : ⊥ = omega arith in absurd z; before = h.none }
-
-pub ruleset seeks = (seek_start, seek_more, seek_found, seek_end, rules)
+-- what `find` answers over the numbers below n
+pub first_of : (f : ℕ → Bool) (n : ℕ) (r : Option ℕ) → MatchOption r ((k : ℕ) → 0 ≤ k → k < n → f k ≡ false) (λ i. (0 ≤ i) × (i < n) × (f i ≡ true) × ((k : ℕ) → 0 ≤ k → k < i → f k ≡ false)) → FirstOf f n r
+first_of f n None h = λ k l. h k (omega arith) l
+first_of f n (Some i) (a, l, found, before) = (l, found, λ k m. before k (omega arith) m)
 
 -- a child annotation is read from cells that the marks leave alone
 child_kept : (before after : List ℕ) → KeptBut 26 before after → (j p : ℕ) → p < max_children → child_in after j p ≡ child_in before j p

@@ -1,5 +1,5 @@
 -- The judge's answers, each with its number, and what the decision means. Assumes nothing.
-use mathlib.Core.Path.{◌≡◌, refl, sym, ap, ◌∙◌, subst}
+use mathlib.Core.Path.{◌≡◌, refl, sym, ap, ◌∙◌}
 use mathlib.Core.Logic.{◌↔◌}
 use mathlib.Core.List.{List, Memᴰ as In}
 use mathlib.Core.Bool.{Bool, true, false, ◌||◌, cond}
@@ -10,6 +10,11 @@ use borrow.Author.Rules.{rules}
 use borrow.Author.Tests.{le-leb, lt-leb, leb-false, ne_eqb}
 use lib.Dec.{leb, lit<}
 use lib.ListN.{length, take, drop, replicate}
+use Rattle.std.specs.Prelude.{Option, Some, None, Result, Ok, Err, is_some}
+use Rattle.base.specs.Refusals.{number, refused_by}
+use Rattle.base.specs.declared.refusal.Refusal.{Refusal}
+use Rattle.base.specs.declared.refusal.Refusal.TheVariants.{NoRoom, RunSpace}
+use Rattle.base.proofs.Refusing.{some_number, answered}
 use lib.Seq.{take_at, drop_at}
 use Rattle.model.specs.Limits.{max_steps}
 use Rattle.model.specs.Refusal.{demand, and_after, Answer, gives, unless}
@@ -31,9 +36,8 @@ use Rattle.model.proofs.Isolating.{isolating_document}
 use Rattle.automaton.specs.Stored.{decode}
 use Rattle.automaton.specs.Check.{check_of}
 use Rattle.automaton.specs.Answer.{check_answer}
-use Rattle.automaton.specs.declared.Checked.{Checked}
 use Rattle.automaton.proofs.Passes.{check_most}
-use Rattle.automaton.proofs.Verdict.{checked_of, answer_is, passed_zero}
+use Rattle.automaton.proofs.Verdict.{answer_is, passed_zero}
 use Rattle.document.specs.Rows.{decode_rows}
 use Rattle.document.specs.Check.{form_check_of, distinct_check_of, used_check_of, levels_check_of, table_check_of, document_check_of}
 use Rattle.document.proofs.Refusals.{both_passed}
@@ -42,13 +46,10 @@ use Rattle.runs.specs.Steps.{step_cells, step_in, decode_steps, encode_steps}
 use Rattle.runs.specs.Check.{run_check_of, check_run_of}
 use Rattle.runs.proofs.Encoding.{length_encode}
 use Rattle.runs.proofs.Meaning.{run_passes}
-use Rattle.membership.specs.Cells.{annotation_cells, room_of, annotations_in}
-use Rattle.membership.specs.Sources.{SourcedIn}
-use Rattle.membership.specs.Annotated.{Annotated}
+use Rattle.membership.specs.Cells.{annotation_cells, room_of}
+use Rattle.membership.specs.Annotated.{AllIn}
 use Rattle.membership.specs.Handed.{RunWritten}
 use Rattle.membership.specs.Judge.{judge_check_of, work_after, Judging}
-use Rattle.membership.specs.declared.Judged.{Judged}
-use Rattle.membership.specs.declared.Judged.TheVariants.{Yes, No, Refused}
 use Rattle.membership.proofs.Adding.{length_annotations}
 use Rattle.membership.proofs.Annotating.{room_fits}
 
@@ -60,16 +61,16 @@ demand_so : (b : Bool) (n rest : ℕ) → b ≡ true → demand b n rest ≡ res
 unfolding demand
 demand_so b n rest e = rw e refl
 
-refused_yes : (n s : ℕ) → ◌≡◌ {A = Judged} (Refused n) (Yes s) → ⊥
-refused_yes n s e = let z : ◌≡◌ {A = ℕ} 0 1 = cc in omega arith
+refused_yes : (w : Refusal) (s : ℕ) → ◌≡◌ {A = Result (Option ℕ) Refusal} (Err w) (Ok (Some s)) → ⊥
+refused_yes w s e = let z : ◌≡◌ {A = ℕ} 0 1 = cc in omega arith
 
-refused_no : (n : ℕ) → ◌≡◌ {A = Judged} (Refused n) No → ⊥
-refused_no n e = let z : ◌≡◌ {A = ℕ} 0 1 = cc in omega arith
+refused_no : (w : Refusal) → ◌≡◌ {A = Result (Option ℕ) Refusal} (Err w) (Ok None) → ⊥
+refused_no w e = let z : ◌≡◌ {A = ℕ} 0 1 = cc in omega arith
 
-no_yes : (s : ℕ) → ◌≡◌ {A = Judged} No (Yes s) → ⊥
+no_yes : (s : ℕ) → ◌≡◌ {A = Result (Option ℕ) Refusal} (Ok None) (Ok (Some s)) → ⊥
 no_yes s e = let z : ◌≡◌ {A = ℕ} 0 1 = cc in omega arith
 
-yes_no : (s : ℕ) → ◌≡◌ {A = Judged} (Yes s) No → ⊥
+yes_no : (s : ℕ) → ◌≡◌ {A = Result (Option ℕ) Refusal} (Ok (Some s)) (Ok None) → ⊥
 yes_no s e = let z : ◌≡◌ {A = ℕ} 0 1 = cc in omega arith
 
 gives_apart : ◌≡◌ {A = Answer Bool} (gives true) (gives false) → ⊥
@@ -83,19 +84,18 @@ unfolding and_after
 both_zero a b ea eb = ap (λ k. and_after k b) ea ∙ eb
 
 -- a refusal leaves the run space as it was
-refused : (set cells work run : List ℕ) (n : ℕ) → judge_check_of set cells (length work) (length run) ≡ suc n → (work' : List ℕ) → work' ≡ work_after (suc n) work → Judging set cells work run (Refused (suc n)) work' run
-unfolding unless
-refused set cells work run n e work' c =
+refused : (set cells work run : List ℕ) (w : Refusal) → judge_check_of set cells (length work) (length run) ≡ number w → (work' : List ℕ) → work' ≡ work_after (number w) work → Judging set cells work run (Err w) work' run
+refused set cells work run w e work' c =
     record {
-      answer = sym (ap (λ k. unless k (accepts? (decode set) (decode_rows cells))) e);
+      answer = answered (is_some {T = ℕ}) (accepts? (decode set) (decode_rows cells)) (Err w) (judge_check_of set cells (length work) (length run)) (λ a h. let z : ◌≡◌ {A = ℕ} 0 1 = cc in absurd (omega arith)) (sym e);
       cleared = c ∙ sym (ap (λ k. work_after k work) e);
       handed = refl;
-      accepted = λ s q. absurd (refused_yes (suc n) s q);
-      rejected = λ q. absurd (refused_no (suc n) q);
-      isolates = λ _ s q. absurd (refused_yes (suc n) s q);
-      isolates_not = λ _ q. absurd (refused_no (suc n) q);
-      recognized = λ _ _ s q. absurd (refused_yes (suc n) s q);
-      unrecognized = λ _ _ q. absurd (refused_no (suc n) q);
+      accepted = λ s q. absurd (refused_yes w s q);
+      rejected = λ q. absurd (refused_no w q);
+      isolates = λ _ s q. absurd (refused_yes w s q);
+      isolates_not = λ _ q. absurd (refused_no w q);
+      recognized = λ _ _ s q. absurd (refused_yes w s q);
+      unrecognized = λ _ _ q. absurd (refused_no w q);
     }
 
 -- a sound set and table
@@ -124,95 +124,88 @@ module _ (set cells : List ℕ) (passed : document_check_of set cells ≡ 0) whe
   recognizing p f = papers_document (decode set) sound.0.wellformed ((papers_exactly (decode set)).0 p) ((nothing_exactly (decode set)).0 f) (decode_rows cells) table_passed
 
 module _ (set cells work run : List ℕ) (passed : document_check_of set cells ≡ 0) where
-  number : judge_check_of set cells (length work) (length run) ≡ demand (leb (room_of (length work)) (length run / step_cells)) 32 (demand (leb (length (annotations (decode set) (decode_rows cells))) (room_of (length work))) 31 0)
+  judge_number : judge_check_of set cells (length work) (length run) ≡ demand (leb (room_of (length work)) (length run / step_cells)) 32 (demand (leb (length (annotations (decode set) (decode_rows cells))) (room_of (length work))) 31 0)
   unfolding judge_check_of and_after
-  number = ap (λ k. and_after k (demand (leb (room_of (length work)) (length run / step_cells)) 32 (demand (leb (length (annotations (decode set) (decode_rows cells))) (room_of (length work))) 31 0))) passed
+  judge_number = ap (λ k. and_after k (demand (leb (room_of (length work)) (length run / step_cells)) 32 (demand (leb (length (annotations (decode set) (decode_rows cells))) (room_of (length work))) 31 0))) passed
 
   module _ (room count : ℕ) (er : room ≡ room_of (length work)) (ec : count ≡ length (decode_steps run)) where
     count_is : count ≡ length run / step_cells
     count_is = ec ∙ length_tab (length run / step_cells) (step_in run)
 
     -- 32: the run space holds fewer steps than the room
-    pub too_short : count < room → Judging set cells work run (Refused 32) work run
-    too_short l = refused set cells work run 31 (number ∙ demand_not _ 32 _ (lt-leb (room_of (length work)) (length run / step_cells) (let e = count_is in omega arith))) work refl
+    pub too_short : count < room → Judging set cells work run (Err RunSpace) work run
+    too_short l = refused set cells work run RunSpace (judge_number ∙ demand_not _ 32 _ (lt-leb (room_of (length work)) (length run / step_cells) (let e = count_is in omega arith))) work refl
 
-    module _ (enough : room ≤ count) (work₁ : List ℕ) (long : length work₁ ≡ length work) (n : ℕ) (annotated : Annotated (decode set) (decode_rows cells) (room_of (length work)) work₁ n) where
+    module _ (enough : room ≤ count) (work₁ : List ℕ) (long : length work₁ ≡ length work) where
       long_enough : judge_check_of set cells (length work) (length run) ≡ demand (leb (length (annotations (decode set) (decode_rows cells))) (room_of (length work))) 31 0
-      long_enough = number ∙ demand_so _ 32 _ (le-leb (room_of (length work)) (length run / step_cells) (let e = count_is in omega arith))
-
-      -- annotations that fit the room fit the spaces
-      pub spaces : n ≤ room → (n ≤ max_steps) × (n * annotation_cells ≤ length work₁) × (n * step_cells ≤ length run)
-      spaces fits =
-          let (few, cells) = room_fits (length work) in
-          let e = count_is in
-          let whole = div-mul-le_self (length run) step_cells in
-          (omega arith, omega arith, omega arith)
-
-      pub held_in : n ≤ room → (annotations_in (decode set).tags work₁ n ≡ annotations (decode set) (decode_rows cells)) × SourcedIn (decode set) (decode_rows cells) (decode set).tags work₁ n
-      held_in fits = let l : n ≤ room_of (length work) = omega arith in (annotated.held l, annotated.sourced l)
+      long_enough = judge_number ∙ demand_so _ 32 _ (le-leb (room_of (length work)) (length run / step_cells) (let e = count_is in omega arith))
 
       -- 31: more distinct annotations than the room
-      pub too_many : (work' : List ℕ) → room < n → work' ≡ replicate (length work₁) 0 → Judging set cells work run (Refused 31) work' run
+      pub too_many : (work' : List ℕ) → room_of (length work) < length (annotations (decode set) (decode_rows cells)) → work' ≡ replicate (length work₁) 0 → Judging set cells work run (Err NoRoom) work' run
       too_many work' l c =
-          refused set cells work run 30 (long_enough ∙ demand_not _ 31 0 (lt-leb (length (annotations (decode set) (decode_rows cells))) (room_of (length work)) (annotated.full (omega arith)))) work'
+          refused set cells work run NoRoom (long_enough ∙ demand_not _ 31 0 (lt-leb (length (annotations (decode set) (decode_rows cells))) (room_of (length work)) l)) work'
           (c ∙ ap (λ k. replicate k 0) long)
 
-      module _ (fits : n ≤ room) (work₂ work' run' : List ℕ) (s : ℕ) (long₂ : length work₂ ≡ length work₁) (c : work' ≡ replicate (length work₂) 0) (w : RunWritten (decode set) (decode_rows cells) n run run' s) where
-        n_is : length (annotations (decode set) (decode_rows cells)) ≡ n
-        n_is = ap length (sym (annotated.held (omega arith))) ∙ length_annotations (decode set).tags work₁ n
+      module _ (n : ℕ) (annotated : AllIn (decode set) (decode_rows cells) (room_of (length work)) work₁ n) where
+        -- annotations that fit the room fit the spaces
+        pub spaces : (n ≤ max_steps) × (n * annotation_cells ≤ length work₁) × (n * step_cells ≤ length run)
+        spaces =
+            let fits = annotated.count in
+            let (few, cells) = room_fits (length work) in
+            let e = count_is in
+            let whole = div-mul-le_self (length run) step_cells in
+            (omega arith, omega arith, omega arith)
 
-        none : judge_check_of set cells (length work) (length run) ≡ 0
-        none = long_enough ∙ demand_so _ 31 0 (le-leb (length (annotations (decode set) (decode_rows cells))) (room_of (length work)) (let e = n_is in omega arith))
+        module _ (work₂ work' run' : List ℕ) (long₂ : length work₂ ≡ length work₁) (c : work' ≡ replicate (length work₂) 0) where
+          n_is : length (annotations (decode set) (decode_rows cells)) ≡ n
+          n_is = ap length (sym annotated.held) ∙ length_annotations (decode set).tags work₁ n
 
-        zeros : work' ≡ work_after (judge_check_of set cells (length work) (length run)) work
-        zeros = c ∙ ap (λ k. replicate k 0) (long₂ ∙ long) ∙ sym (ap (λ k. work_after k work) none)
+          none : judge_check_of set cells (length work) (length run) ≡ 0
+          none = long_enough ∙ demand_so _ 31 0 (le-leb (length (annotations (decode set) (decode_rows cells))) (room_of (length work)) (let e = n_is in let f = annotated.count in omega arith))
 
-        pub says_no : s ≡ 0 → Judging set cells work run No work' run'
-        unfolding unless
-        says_no e =
-            let (no_run, same) = w.rejected e in
-            record {
-              answer = sym (λ x. unless (none x) (no_run x));
-              cleared = zeros;
-              handed = same;
-              accepted = λ s q. absurd (no_yes s q);
-              rejected = λ _ a. true_false (sym ((decided set cells passed).1 a) ∙ no_run);
-              isolates = λ _ s q. absurd (no_yes s q);
-              isolates_not = λ p _ m. true_false (sym ((decided set cells passed).1 ((isolating set cells passed p).1 m)) ∙ no_run);
-              recognized = λ _ _ s q. absurd (no_yes s q);
-              unrecognized = λ p f _ m. true_false (sym ((decided set cells passed).1 ((recognizing set cells passed p f).1 m)) ∙ no_run);
-            }
+          zeros : work' ≡ work_after (judge_check_of set cells (length work) (length run)) work
+          zeros = c ∙ ap (λ k. replicate k 0) (long₂ ∙ long) ∙ sym (ap (λ k. work_after k work) none)
 
-        with_run : (s ≡ 0 → ⊥) → Judging set cells work run (Yes s) work' run'
-        unfolding unless
-        with_run some =
-            let (has_run, front) = w.accepted (omega (arith, some)) in
-            let few = w.few in
-            let length_front : length (encode_steps front.run) ≡ s * step_cells = let e = length_encode front.run in let q = front.count in omega arith in
-            let taken : take (s * step_cells) run' ≡ encode_steps front.run = ap (take (s * step_cells)) front.cells ∙ take_at (encode_steps front.run) (drop (s * step_cells) run) (s * step_cells) length_front in
-            record {
-              answer = sym (λ x. unless (none x) (has_run x));
-              cleared = zeros;
-              handed = record {
-                some = omega (arith, some);
-                few = let e = n_is in omega arith;
-                passes = ap (check_run_of set cells) taken ∙ both_zero (document_check_of set cells) (run_check_of (decode set) (decode_rows cells) (encode_steps front.run)) passed (run_passes (decode set) (decode_rows cells) (sound set cells passed).0 (sound set cells passed).1 front.run front.written (let q = front.count in let h = (room_fits (length work)).0 in omega arith));
-                rest = ap (drop (s * step_cells)) front.cells ∙ drop_at (encode_steps front.run) (drop (s * step_cells) run) (s * step_cells) length_front;
-              };
-              accepted = λ _ _. (decided set cells passed).0 has_run;
-              rejected = λ e. absurd (yes_no s e);
-              isolates = λ p _ _. (isolating set cells passed p).0 ((decided set cells passed).0 has_run);
-              isolates_not = λ _ e. absurd (yes_no s e);
-              recognized = λ p f _ _. (recognizing set cells passed p f).0 ((decided set cells passed).0 has_run);
-              unrecognized = λ _ _ e. absurd (yes_no s e);
-            }
+          pub says_no : RunWritten (decode set) (decode_rows cells) n run run' None → Judging set cells work run (Ok None) work' run'
+          unfolding unless
+          says_no (no_run, same) =
+              record {
+                answer = sym (λ x. unless (none x) (no_run x));
+                cleared = zeros;
+                handed = same;
+                accepted = λ s q. absurd (no_yes s q);
+                rejected = λ _ a. true_false (sym ((decided set cells passed).1 a) ∙ no_run);
+                isolates = λ _ s q. absurd (no_yes s q);
+                isolates_not = λ p _ m. true_false (sym ((decided set cells passed).1 ((isolating set cells passed p).1 m)) ∙ no_run);
+                recognized = λ _ _ s q. absurd (no_yes s q);
+                unrecognized = λ p f _ m. true_false (sym ((decided set cells passed).1 ((recognizing set cells passed p f).1 m)) ∙ no_run);
+              }
 
-        pub says_yes : (v : ℕ) → v ≡ s → (s ≡ 0 → ⊥) → Judging set cells work run (Yes v) work' run'
-        says_yes v ev some = subst (λ k. Judging set cells work run (Yes k) work' run') (sym ev) (with_run some)
+          pub says_yes : (s : ℕ) → RunWritten (decode set) (decode_rows cells) n run run' (Some s) → Judging set cells work run (Ok (Some s)) work' run'
+          unfolding unless
+          says_yes s (some, few, has_run, front) =
+              let length_front : length (encode_steps front.run) ≡ s * step_cells = let e = length_encode front.run in let q = front.count in omega arith in
+              let taken : take (s * step_cells) run' ≡ encode_steps front.run = ap (take (s * step_cells)) front.cells ∙ take_at (encode_steps front.run) (drop (s * step_cells) run) (s * step_cells) length_front in
+              record {
+                answer = sym (λ x. unless (none x) (has_run x));
+                cleared = zeros;
+                handed = record {
+                  some = some;
+                  few = let e = n_is in omega arith;
+                  passes = ap (check_run_of set cells) taken ∙ both_zero (document_check_of set cells) (run_check_of (decode set) (decode_rows cells) (encode_steps front.run)) passed (run_passes (decode set) (decode_rows cells) (sound set cells passed).0 (sound set cells passed).1 front.run front.written (let q = front.count in let h = (room_fits (length work)).0 in omega arith));
+                  rest = ap (drop (s * step_cells)) front.cells ∙ drop_at (encode_steps front.run) (drop (s * step_cells) run) (s * step_cells) length_front;
+                };
+                accepted = λ _ _. (decided set cells passed).0 has_run;
+                rejected = λ e. absurd (yes_no s e);
+                isolates = λ p _ _. (isolating set cells passed p).0 ((decided set cells passed).0 has_run);
+                isolates_not = λ _ e. absurd (yes_no s e);
+                recognized = λ p f _ _. (recognizing set cells passed p f).0 ((decided set cells passed).0 has_run);
+                unrecognized = λ _ _ e. absurd (yes_no s e);
+              }
 
-        -- the number of steps fits an answer
-        pub narrow_steps : s < 65536
-        narrow_steps = let (few, x, y) = spaces fits in let most = w.few in omega arith
+          pub says : (s : Option ℕ) → RunWritten (decode set) (decode_rows cells) n run run' s → Judging set cells work run (Ok s) work' run'
+          says None w = says_no w
+          says (Some s) w = says_yes s w
 
 small : (b : Bool) (n rest : ℕ) → n < 18 → rest < 18 → demand b n rest < 18
 unfolding demand
@@ -245,16 +238,12 @@ document_small set cells =
     (after (used_check_of (decode_rows cells)) _ (small _ 16 0 (lit< tt) (lit< tt)) (small _ 17 0 (lit< tt) (lit< tt)))))
 
 -- what refuses the set or the table refuses the judging
-pub refused_first : (set cells work run : List ℕ) (c : Checked) (n : ℕ) → check_answer c ≡ unless (document_check_of set cells) tt → c ≡ Checked.Refused n → Judging set cells work run (Refused n) work run
-refused_first set cells work run c n e q =
-    go (document_check_of set cells) refl (document_small set cells) (sym (answer_is c (document_check_of set cells) e) ∙ q)
-  where
-    go : (d : ℕ) → document_check_of set cells ≡ d → d < 18 → checked_of d ≡ Checked.Refused n → Judging set cells work run (Refused n) work run
-    go zero ed l f = let z : ◌≡◌ {A = ℕ} 0 1 = cc in let w : ⊥ = omega arith in absurd w
-    go (suc d) ed l f =
-        let same : suc d ≡ n = cc in
-        subst (λ k. Judging set cells work run (Refused k) work run) same
-        (refused set cells work run d (first_number set cells (length work) (length run) d ed) work (sym (untouched_work d work l)))
+pub refused_first : (set cells work run : List ℕ) (r : Result (Unit {0}) Refusal) (w : Refusal) → check_answer r ≡ unless (document_check_of set cells) tt → r ≡ Err w → Judging set cells work run (Err w) work run
+refused_first set cells work run r w e q =
+    let s = some_number w in
+    let d : document_check_of set cells ≡ number w = sym (answer_is r (document_check_of set cells) e) ∙ ap refused_by q in
+    let small = document_small set cells in
+    refused set cells work run w (first_number set cells (length work) (length run) s.0 (d ∙ s.1) ∙ sym s.1) work (sym (ap (λ k. work_after k work) s.1 ∙ untouched_work s.0 work (omega (arith, small, d, s.1))))
 
 pub ruleset judges = (refused_first, passed_zero, rules)
 

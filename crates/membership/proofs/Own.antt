@@ -1,16 +1,16 @@
 -- A memory from a mask, bit by bit; the counts before the rows of a row's children; the room. Assumes nothing.
-use mathlib.Core.Path.{◌≡◌, sym, ap, ◌∙◌}
+use mathlib.Core.Path.{◌≡◌, refl, sym, ap, ◌∙◌}
 use mathlib.Core.List.{List}
-use mathlib.Core.Bool.{Bool, cond}
-use Prim.Native.Nat.{ℕ, suc, ◌+◌, ◌/◌, ◌%◌, ◌^◌, ◌<◌, ◌≤◌}
+use mathlib.Core.Bool.{Bool, true, false, cond}
+use Prim.Native.Nat.{ℕ, suc, ◌+◌, ◌/◌, ◌%◌, ◌^◌, ◌<◌, ◌≤◌, min}
 use native.Mathlib.Omega.{arith}
 use native.Mathlib.Decide.{ℕ_discrete}
 use native.Mathlib.Nat.{div-div-eq-div-mul, div-one, zero-div, pow-suc}
 use native.Mathlib.Numerals.{add-one}
 use borrow.Author.Rules.{rules}
-use borrow.Author.Tests.{eq-eqb, ne_eqb, le-leb, lt-leb}
-use lib.Dec.{eqb}
-use lib.ListN.{length, get_or, set, length-set, get_or-eq_default}
+use borrow.Author.Tests.{eq-eqb, ne_eqb, leb-true, leb-false}
+use lib.Dec.{eqb, leb}
+use lib.ListN.{length, get_or, set, length-set}
 use lib.Seq.{get_or-set_same, get_or-set_other}
 use Rattle.model.specs.Limits.{max_steps}
 use Rattle.model.specs.Lists.{tab}
@@ -19,7 +19,6 @@ use Rattle.model.proofs.Tab.{tab_at}
 use Rattle.automaton.proofs.Parts.{tab_same}
 use Rattle.document.specs.Check.{place_in}
 use Rattle.membership.specs.Cells.{annotation_cells, room_of, memory_of, without}
-use Rattle.membership.specs.Plan.{Bounds}
 
 -- a list filled from the front, place by place: what each place holds is a function of its number
 pub record Filled (n : ℕ) (f : ℕ → ℕ) (width : ℕ) (out : List ℕ) (k : ℕ) : Type 0 where
@@ -98,28 +97,13 @@ pub ruleset masks = (masking_none, masking_more, masking_all, kept_all, bit_set,
 abbrev pub bound_of : List ℕ → List ℕ → ℕ → ℕ → ℕ → ℕ
 bound_of cells starts i shift p = get_or starts (place_in cells i p + shift) 0
 
-module _ (cells starts : List ℕ) (i n shift : ℕ) (out : List ℕ) where
-  pub bounds_more : (k v x y : ℕ) → Filled n (bound_of cells starts i shift) 4 out k → k < n → x ≡ place_in cells i k → y ≡ x → v ≡ get_or starts (y + shift) 0 → Filled n (bound_of cells starts i shift) 4 (set out k v) (k + 1)
-  bounds_more k v x y h l ex ey e = filled_more n (bound_of cells starts i shift) 4 out k v h l (e ∙ ap (λ z. get_or starts (z + shift) 0) (ey ∙ ex))
-
-  pub bounds_all : (k : ℕ) → Filled n (bound_of cells starts i shift) 4 out k → n ≤ k → Bounds cells starts i n shift out
-  bounds_all k h l = λ p m. h.done p (omega arith)
-
-pub ruleset bounding = (filled_none, bounds_more, bounds_all, rules)
-
 -- the room
-pub room_some : (cells n : ℕ) → n ≡ cells / annotation_cells → n ≤ max_steps → n ≡ room_of cells
+pub room_least : (cells n : ℕ) → n ≡ min (cells / annotation_cells) max_steps → n ≡ room_of cells
 unfolding room_of
-room_some cells n e l = e ∙ sym (ap (λ b. cond b (cells / annotation_cells) max_steps) (le-leb (cells / annotation_cells) max_steps (rw e at l)))
+room_least cells n e = e ∙ go (leb (cells / annotation_cells) max_steps) refl
+  where
+    go : (b : Bool) → leb (cells / annotation_cells) max_steps ≡ b → min (cells / annotation_cells) max_steps ≡ cond b (cells / annotation_cells) max_steps
+    go true e = let l = leb-true (cells / annotation_cells) max_steps e in omega arith
+    go false e = let l = leb-false (cells / annotation_cells) max_steps e in omega arith
 
-pub room_most : (cells n : ℕ) → n ≡ cells / annotation_cells → max_steps < n → max_steps ≡ room_of cells
-unfolding room_of
-room_most cells n e l = sym (ap (λ b. cond b (cells / annotation_cells) max_steps) (lt-leb (cells / annotation_cells) max_steps (rw e at l)))
-
-pub ruleset rooms = (room_some, room_most, rules)
-
--- past the end there is nothing
-pub past_end : (l : List ℕ) (i : ℕ) → length l ≤ i → 0 ≡ get_or l i 0
-past_end l i h = sym (get_or-eq_default l 0 h)
-
-pub ruleset starting = (past_end, rules)
+pub ruleset rooms = (room_least, rules)

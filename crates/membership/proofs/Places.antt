@@ -1,13 +1,14 @@
 -- Memories place by place: what two lists made of functions of the index have in common, as one test over the index. Assumes nothing.
 use mathlib.Core.Path.{◌≡◌, refl, sym, ap, ◌∙◌}
-use mathlib.Core.List.{List, ◌∷◌}
+use mathlib.Core.List.{List, [], ◌∷◌}
 use mathlib.Core.Bool.{Bool, true, false, ◌&&◌}
 use Prim.Native.Nat.{ℕ, zero, suc, ◌+◌, ◌<◌, ◌≤◌}
 use native.Mathlib.Omega.{arith}
 use native.Mathlib.Decide.{ℕ_discrete}
 use borrow.Author.Rules.{rules}
 use lib.Dec.{eqb, eqb-suc-suc}
-use lib.ListN.{length, get_or, set, length-set}
+use lib.ListN.{length, get_or, set, length-set, take}
+use lib.Pointwise.{pointwise}
 use lib.Seq.{get_or-set_same, get_or-set_other}
 use Rattle.model.specs.Lists.{eq_list, tab, all_below}
 use Rattle.model.specs.Annotation.{places_agree, joined_place, agree?, joined}
@@ -62,6 +63,22 @@ module _ (tags : ℕ) (a b : List ℕ) where
   pub join_places : (out : List ℕ) → ((k : ℕ) → k < tags → get_or out k 0 ≡ joined_place (get_or a k 0) (get_or b k 0)) → memory_of tags out ≡ joined (memory_of tags a) (memory_of tags b)
   unfolding memory_of
   join_places out h = tab_same tags (λ k. get_or out k 0) (λ k. joined_place (get_or a k 0) (get_or b k 0)) h ∙ sym (joined_tab tags (λ k. get_or a k 0) (λ k. get_or b k 0))
+
+-- the comparison of two fronts, as the code asks it
+compared : (xs ys : List ℕ) → pointwise eqb xs ys ≡ eq_list xs ys
+compared [] [] = refl
+compared [] (y ∷ ys) = refl
+compared (x ∷ xs) [] = refl
+compared (x ∷ xs) (y ∷ ys) = ap (λ b. eqb x y && b) (compared xs ys)
+
+front : (n : ℕ) (l : List ℕ) → n ≤ length l → take n l ≡ memory_of n l
+unfolding memory_of
+front zero l h = refl
+front (suc n) [] h = let z : ⊥ = omega arith in absurd z
+front (suc n) (x ∷ l) h = ap (λ (t : List ℕ). x ∷ t) (front n l (omega arith))
+
+pub same_fronts : (tags : ℕ) (a b : List ℕ) (r : Bool) → tags ≤ length a → tags ≤ length b → r ≡ pointwise eqb (take tags a) (take tags b) → r ≡ eq_list (memory_of tags a) (memory_of tags b)
+same_fronts tags a b r la lb e = e ∙ compared (take tags a) (take tags b) ∙ (λ x. eq_list (front tags a la x) (front tags b lb x))
 
 -- a loop that joins a and b, place by place: what it knows at its head
 pub record Joining (a b out : List ℕ) (k : ℕ) : Type 0 where

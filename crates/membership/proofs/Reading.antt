@@ -33,23 +33,21 @@ module _ (work : List ℕ) (tags j : ℕ) where
     unfolding cell_of
     choice_agrees q m r es e = e ∙ ap (agree? (memory_of tags m)) memory_part ∙ sym (ap (λ b. b && agree? (memory_of tags m) (memory_in tags work j)) (eq-eqb _ _ es))
 
-    pub same_memory : (i q : ℕ) (m : List ℕ) (r : Bool) → i ≡ get_or work (j * 32) 0 → q ≡ get_or work (j * 32 + 1) 0 → r ≡ eq_list (memory_of tags m) (memory_of tags part) → r ≡ eq_annotation (annotation i q (memory_of tags m)) (annotation_in tags work j)
+    pub same_memory : (i q : ℕ) (m : List ℕ) (r : Bool) → i ≡ get_or work (j * 32 + 0) 0 → q ≡ get_or work (j * 32 + 1) 0 → r ≡ eq_list (memory_of tags m) (memory_of tags part) → r ≡ eq_annotation (annotation i q (memory_of tags m)) (annotation_in tags work j)
     unfolding cell_of
     same_memory i q m r er es e =
-        let z : j * 32 + 0 ≡ j * 32 = omega arith in
         e ∙ ap (eq_list (memory_of tags m)) memory_part
         ∙ sym (ap (λ b. b && eq_list (memory_of tags m) (memory_in tags work j)) (eq-eqb q (get_or work (j * 32 + 1) 0) es))
-        ∙ sym (ap (λ b. b && (eqb q (get_or work (j * 32 + 1) 0) && eq_list (memory_of tags m) (memory_in tags work j))) (eq-eqb i (get_or work (j * 32 + 0) 0) (er ∙ sym (ap (λ k. get_or work k 0) z))))
+        ∙ sym (ap (λ b. b && (eqb q (get_or work (j * 32 + 1) 0) && eq_list (memory_of tags m) (memory_in tags work j))) (eq-eqb i (get_or work (j * 32 + 0) 0) er))
 
   pub choice_other : (q : ℕ) (m : Memory) → (get_or work (j * 32 + 1) 0 ≡ q → ⊥) → false ≡ choosable? q m (annotation_in tags work j)
   unfolding cell_of
   choice_other q m h = sym (ap (λ b. b && agree? m (memory_in tags work j)) (ne_eqb _ _ h))
 
-  pub other_row : (i q : ℕ) (m : Memory) → (i ≡ get_or work (j * 32) 0 → ⊥) → false ≡ eq_annotation (annotation i q m) (annotation_in tags work j)
+  pub other_row : (i q : ℕ) (m : Memory) → (i ≡ get_or work (j * 32 + 0) 0 → ⊥) → false ≡ eq_annotation (annotation i q m) (annotation_in tags work j)
   unfolding cell_of
   other_row i q m h =
-      let z : j * 32 + 0 ≡ j * 32 = omega arith in
-      sym (ap (λ b. b && (eqb q (get_or work (j * 32 + 1) 0) && eq_list m (memory_in tags work j))) (ne_eqb i (get_or work (j * 32 + 0) 0) (λ e. h (e ∙ ap (λ k. get_or work k 0) z))))
+      sym (ap (λ b. b && (eqb q (get_or work (j * 32 + 1) 0) && eq_list m (memory_in tags work j))) (ne_eqb i (get_or work (j * 32 + 0) 0) h))
 
   pub other_state : (i q : ℕ) (m : Memory) → (q ≡ get_or work (j * 32 + 1) 0 → ⊥) → false ≡ eq_annotation (annotation i q m) (annotation_in tags work j)
   unfolding cell_of

@@ -6,6 +6,7 @@ use Prim.Native.Nat.{ℕ, zero, suc, ◌+◌, ◌<◌, ◌≤◌}
 use native.Mathlib.Omega.{arith}
 use lib.Dec.{eqb}
 use lib.ListN.{length, get_or, replicate}
+use Rattle.std.specs.Prelude.{Option, Some, None}
 use Rattle.model.specs.Limits.{unused}
 use Rattle.model.specs.Lists.{tab}
 use Rattle.model.specs.Automaton.{Automaton, arity_of, state_at, bit?, carries?}
@@ -22,7 +23,7 @@ use Rattle.document.specs.Rows.{used, places_in, row_in, decode_rows}
 use Rattle.document.specs.Check.{place_in}
 use Rattle.document.proofs.Places.{row_at_lem, rows_length}
 use Rattle.membership.specs.Cells.{memory_of, annotations_in}
-use Rattle.membership.specs.Entries.{Entry, annotations_of, entries_in, add_entries, Grown}
+use Rattle.membership.specs.Entries.{Entry, annotations_of, entries_in, add_entries, Held, Grown}
 use Rattle.membership.specs.Search.{found, Ready}
 use Rattle.membership.specs.Listing.{no_children, by_rule, entries_below}
 use Rattle.membership.specs.Plan.{Bounds, WantFor, Starts, Before}
@@ -161,15 +162,14 @@ module _ (s cells starts work₀ : List ℕ) (i tags room n x width : ℕ) (lows
             ∙ ap (λ q. tab tags (λ k. cond (carries? (A s) q k) (suc i) 0)) wf.target
             ∙ ap (λ t. tab t (λ k. cond (carries? (A s) (rule_at (A s) r).target k) (suc i) 0)) h.before.tags_are
 
-        module _ (empty free work' : List ℕ) (m' : ℕ) (zeros : (k : ℕ) → get_or empty k 0 ≡ 0) (ef : free ≡ no_children)
-            (g : Grown m want.room want.tags (add_entries (entries_in want.tags work m) (found (annotations_in want.tags work want.base) want (memory_of want.tags own) width (memory_of want.tags empty) free)) work' m') where
-          grown : Grown m room tags (add_entries (entries_in tags work m) (made s cells i r)) work' m'
-          grown =
+        module _ (empty free : List ℕ) (zeros : (k : ℕ) → get_or empty k 0 ≡ 0) (ef : free ≡ no_children) where
+          grown : (work' : List ℕ) (m' : Option ℕ) → Grown m want.room want.tags (add_entries (entries_in want.tags work m) (found (annotations_in want.tags work want.base) want (memory_of want.tags own) width (memory_of want.tags empty) free)) work' m' → Grown m room tags (add_entries (entries_in tags work m) (made s cells i r)) work' m'
+          grown work' m' g =
               rule_grown (A s) (R cells) sound h.table i room tags work₀ n h.before starts h.started lows highs width width_here (bound_at 0 lows h.low_is) (bound_at 1 highs h.high_is) r known_rule same_symbol plan want wf er ea et elow ehigh (own_memory (A s) (rule_at (A s) r).target i) refl end work m h.turning eb eroom
               own empty free work' m' own_is (zeros_memory tags (A s) empty h.before.tags_are zeros) ef g
 
-          pub rowing_more : length work' ≡ length work → m' ≤ room → Rowing s cells starts work₀ i tags room n x width lows highs end r₀ work' m' (r + 1)
-          rowing_more e f =
+          pub rowing_more : (work' : List ℕ) (m' : ℕ) → Grown m want.room want.tags (add_entries (entries_in want.tags work m) (found (annotations_in want.tags work want.base) want (memory_of want.tags own) width (memory_of want.tags empty) free)) work' (Some m') → length work' ≡ length work → Rowing s cells starts work₀ i tags room n x width lows highs end r₀ work' m' (r + 1)
+          rowing_more work' m' g e =
               record {
                 ok = h.ok;
                 table = h.table;
@@ -182,11 +182,11 @@ module _ (s cells starts work₀ : List ℕ) (i tags room n x width : ℕ) (lows
                 first = h.first;
                 last = h.last;
                 above = let a = h.above in omega arith;
-                turning = turn_in (made s cells i) end n room tags (length work₀) (entries_below (A s) (R cells) (suc i)) work m r h.turning work' m' l grown e f;
+                turning = turn_in (made s cells i) end n room tags (length work₀) (entries_below (A s) (R cells) (suc i)) work m r h.turning l work' m' (grown work' (Some m') g) e;
               }
 
-          pub rowing_full : room < m' → Grown n room tags (entries_below (A s) (R cells) (suc i)) work' m'
-          rowing_full f = turn_full (made s cells i) end n room tags (length work₀) (entries_below (A s) (R cells) (suc i)) work m r h.turning work' m' l grown f
+          pub rowing_full : (work' : List ℕ) → Grown m want.room want.tags (add_entries (entries_in want.tags work m) (found (annotations_in want.tags work want.base) want (memory_of want.tags own) width (memory_of want.tags empty) free)) work' None → room < length (entries_below (A s) (R cells) (suc i))
+          rowing_full work' g = turn_full (made s cells i) end n room tags (length work₀) (entries_below (A s) (R cells) (suc i)) work m r h.turning l (grown work' None g)
 
-    pub rowing_all : end ≤ r → Grown n room tags (entries_below (A s) (R cells) (suc i)) work m
+    pub rowing_all : end ≤ r → Held n room tags (entries_below (A s) (R cells) (suc i)) work m
     rowing_all l = turn_end (made s cells i) end n room tags (length work₀) (entries_below (A s) (R cells) (suc i)) work m r h.turning l

@@ -9,7 +9,7 @@ use lib.ListN.{length, get_or, set}
 use Rattle.model.specs.Lists.{concat_map, only}
 use Rattle.model.specs.Annotation.{Memory, Annotation, joined}
 use Rattle.membership.specs.Cells.{memory_of, memory_in, annotation_in, annotations_in}
-use Rattle.membership.specs.Entries.{Entry, entries_in, add_entries, Grown}
+use Rattle.membership.specs.Entries.{Entry, entries_in, add_entries, Held}
 use Rattle.membership.specs.Search.{span, no_annotation, choosable?, asked_state, leaving, chosen, found, Ready}
 use Rattle.membership.specs.declared.search.Want.{Want}
 use Rattle.membership.proofs.Adding.{Ext, ext_entries, annotation_at_lem, same_entry, same_annotations}
@@ -112,31 +112,28 @@ module _ (work₀ own : List ℕ) (want : Want) (left n : ℕ) (memory children 
               turning = turn_skip step (get_or want.high place 0) n want.room want.tags (length work₀) list work m j s.turning l (step_is ok eo ∙ ap (λ b. only b (next (joined (memory_of want.tags memory) (memory_in want.tags work j)) (set children place j))) f);
             }
 
-        module _ (x c work' : List ℕ) (m' : ℕ) (t : ok ≡ true) (ex : memory_of want.tags x ≡ joined (memory_of want.tags memory) (memory_in want.tags work j)) (ec : c ≡ set children place j)
-            (g : Grown m want.room want.tags (add_entries (entries_in want.tags work m) (found (annotations_in want.tags work want.base) want (memory_of want.tags own) (left - 1) (memory_of want.tags x) c)) work' m') where
-          grown : Grown m want.room want.tags (add_entries (entries_in want.tags work m) (step j)) work' m'
-          grown =
+        module _ (x c : List ℕ) (t : ok ≡ true) (ex : memory_of want.tags x ≡ joined (memory_of want.tags memory) (memory_in want.tags work j)) (ec : c ≡ set children place j) where
+          step_found : found (annotations_in want.tags work want.base) want (memory_of want.tags own) (left - 1) (memory_of want.tags x) c ≡ step j
+          step_found =
               let h = s.ready.known in
               let h' = s.turning.more in
               let same = same_annotations want.tags work₀ work n m list list_front work_front want.base (omega arith) (omega arith) in
-              let e : found (annotations_in want.tags work want.base) want (memory_of want.tags own) (left - 1) (memory_of want.tags x) c ≡ step j =
               ap (λ k. found k want (memory_of want.tags own) (left - 1) (memory_of want.tags x) c) same
               ∙ ap (λ z. next z c) ex
               ∙ ap (next (joined (memory_of want.tags memory) (memory_in want.tags work j))) ec
-              ∙ sym (step_is ok eo ∙ ap (λ b. only b (next (joined (memory_of want.tags memory) (memory_in want.tags work j)) (set children place j))) t) in
-              subst (λ z. Grown m want.room want.tags (add_entries (entries_in want.tags work m) z) work' m') e g
+              ∙ sym (step_is ok eo ∙ ap (λ b. only b (next (joined (memory_of want.tags memory) (memory_in want.tags work j)) (set children place j))) t)
 
-          pub again : length work' ≡ length work → m' ≤ want.room → Searching work' m' (j + 1)
-          again e h =
+          pub again : (work' : List ℕ) (m' : ℕ) → Held m want.room want.tags (add_entries (entries_in want.tags work m) (found (annotations_in want.tags work want.base) want (memory_of want.tags own) (left - 1) (memory_of want.tags x) c)) work' m' → length work' ≡ length work → Searching work' m' (j + 1)
+          again work' m' g e =
               record {
                 ready = s.ready;
                 within = s.within;
                 some = s.some;
-                turning = turn_in step (get_or want.high place 0) n want.room want.tags (length work₀) list work m j s.turning work' m' l grown e h;
+                turning = turn_in step (get_or want.high place 0) n want.room want.tags (length work₀) list work m j s.turning l work' m' (subst (λ z. Held m want.room want.tags (add_entries (entries_in want.tags work m) z) work' m') step_found g) e;
               }
 
-          pub full : want.room < m' → Grown n want.room want.tags list work' m'
-          full h = turn_full step (get_or want.high place 0) n want.room want.tags (length work₀) list work m j s.turning work' m' l grown h
+          pub full : want.room < length (add_entries (entries_in want.tags work m) (found (annotations_in want.tags work want.base) want (memory_of want.tags own) (left - 1) (memory_of want.tags x) c)) → want.room < length list
+          full h = turn_full step (get_or want.high place 0) n want.room want.tags (length work₀) list work m j s.turning l (subst (λ z. want.room < length (add_entries (entries_in want.tags work m) z)) step_found h)
 
-    pub all : get_or want.high place 0 ≤ j → Grown n want.room want.tags list work m
+    pub all : get_or want.high place 0 ≤ j → Held n want.room want.tags list work m
     all l = turn_end step (get_or want.high place 0) n want.room want.tags (length work₀) list work m j s.turning l

@@ -11,6 +11,7 @@ use native.Mathlib.Numerals.{add-one}
 use borrow.Author.Rules.{rules}
 use lib.ListN.{length, get_or, set, length-set, length-append}
 use lib.Seq.{get_or-set_same, get_or-set_other}
+use Rattle.std.specs.Prelude.{Option, Some, None}
 use Rattle.model.specs.Limits.{max_children}
 use Rattle.model.specs.Lists.{any, only, tab}
 use Rattle.model.specs.Space.{put_at}
@@ -31,7 +32,7 @@ use Rattle.membership.proofs.Chain.{link_is, chain_bound}
 abbrev pub entry : ℕ → ℕ → List ℕ → ℕ → List ℕ → Entry
 entry i q m r c = record { annotation = annotation i q m; rule = r; children = c }
 
-entry_same : (i i' q q' : ℕ) (m m' : List ℕ) (r r' : ℕ) (c c' : List ℕ) → i ≡ i' → q ≡ q' → m ≡ m' → r ≡ r' → c ≡ c' → entry i q m r c ≡ entry i' q' m' r' c'
+pub entry_same : (i i' q q' : ℕ) (m m' : List ℕ) (r r' : ℕ) (c c' : List ℕ) → i ≡ i' → q ≡ q' → m ≡ m' → r ≡ r' → c ≡ c' → entry i q m r c ≡ entry i' q' m' r' c'
 entry_same i i' q q' m m' r r' c c' ei eq em er ec =
     λ x. record { annotation = record { row = ei x; state = eq x; memory = em x }; rule = er x; children = ec x }
 
@@ -184,36 +185,31 @@ module _ (tags room : ℕ) (work : List ℕ) (n : ℕ) (e : Entry) (k : Bool) (e
   unfolding add_entry
   add_is = ap (λ b. cond b (entries_in tags work n) (entries_in tags work n ++ e ∷ [])) (ap (any (eq_annotation e.annotation)) (entries_annotations tags work n) ∙ sym ek)
 
-  pub add_known : n ≤ room → Indexed tags room work n → k ≡ true → Grown n room tags (add_entry (entries_in tags work n) e) work n
+  pub add_known : n ≤ room → Indexed tags room work n → k ≡ true → Grown n room tags (add_entry (entries_in tags work n) e) work (Some n)
   add_known l index y =
-      rw (add_is, y) (record { more = omega arith; held = λ h. refl; full = λ h. let z : ⊥ = omega arith in absurd z; indexed = λ h. index })
+      rw (add_is, y) (record { more = omega arith; count = l; held = refl; indexed = index })
 
-  pub add_new_lem : (mid after : List ℕ) (s : ℕ) → n < room → tags ≤ 16 → Indexed tags room work n → k ≡ false → s ≡ slot_of room e.annotation → Stored tags work n e mid → Linked mid s n after → Grown n room tags (add_entry (entries_in tags work n) e) after (n + 1)
+  pub add_new_lem : (mid after : List ℕ) (s : ℕ) → n < room → tags ≤ 16 → Indexed tags room work n → k ≡ false → s ≡ slot_of room e.annotation → Stored tags work n e mid → Linked mid s n after → Grown n room tags (add_entry (entries_in tags work n) e) after (Some (n + 1))
   add_new_lem mid after s l few index y es st li =
       rw (add_is, y)
       (record {
         more = omega arith;
-        held = λ h. entries_more tags room work mid after n s e few st li;
-        full = λ h. let z : ⊥ = omega arith in absurd z;
-        indexed = λ h. index_more tags room work mid after n s e few st li es index;
+        count = omega arith;
+        held = entries_more tags room work mid after n s e few st li;
+        indexed = index_more tags room work mid after n s e few st li es index;
       })
 
-  pub add_full : (after : List ℕ) → room ≤ n → k ≡ false → Grown n room tags (add_entry (entries_in tags work n) e) after (n + 1)
+  pub add_full : (after : List ℕ) → room ≤ n → k ≡ false → Grown n room tags (add_entry (entries_in tags work n) e) after None
   add_full after l y =
       rw (add_is, y)
-      (record {
-        more = omega arith;
-        held = λ h. let z : ⊥ = omega arith in absurd z;
-        full = λ h. let a = length-append (entries_in tags work n) (e ∷ []) in let b = length_entries tags work n in omega arith;
-        indexed = λ h. let z : ⊥ = omega arith in absurd z;
-      })
+      (let a = length-append (entries_in tags work n) (e ∷ []) in let b = length_entries tags work n in omega arith)
 
 -- a work space with no room has no annotation
-none_known : (tags : ℕ) (work : List ℕ) (f : Annotation → Bool) (n : ℕ) → n ≡ 0 → false ≡ any f (annotations_in tags work n)
+pub none_known : (tags : ℕ) (work : List ℕ) (f : Annotation → Bool) (n : ℕ) → n ≡ 0 → false ≡ any f (annotations_in tags work n)
 unfolding annotations_in
 none_known tags work f n q = rw q refl
 
-pub add_nowhere : (tags room : ℕ) (work after : List ℕ) (n : ℕ) (e : Entry) → room ≡ 0 → n ≤ room → Grown n room tags (add_entry (entries_in tags work n) e) after (n + 1)
+pub add_nowhere : (tags room : ℕ) (work after : List ℕ) (n : ℕ) (e : Entry) → room ≡ 0 → n ≤ room → Grown n room tags (add_entry (entries_in tags work n) e) after None
 add_nowhere tags room work after n e z l = add_full tags room work n e false (none_known tags work (eq_annotation e.annotation) n (omega arith)) after (omega arith) refl
 
 pub ruleset adding = (add_known, add_new_lem, add_full, add_nowhere, rules)
@@ -226,18 +222,18 @@ module _ (want : Want) (work : List ℕ) (n tags : ℕ) (own memory children : L
   finished_is : finished want (memory_of tags own) (memory_of tags memory) children ≡ only r (last (joined (memory_of tags memory) (memory_of tags own)) ∷ [])
   finished_is = ap (λ b. only b (last (joined (memory_of tags memory) (memory_of tags own)) ∷ [])) (sym er)
 
-  pub finish_joined : (room k : ℕ) (x after : List ℕ) → r ≡ true → tags ≤ 16 → JoinedIn memory own x → Grown n room tags (add_entry (entries_in tags work n) (entry want.row.0 want.target.0 (memory_of tags x) want.rule children)) after k → Grown n room tags (add_entries (entries_in tags work n) (finished want (memory_of tags own) (memory_of tags memory) children)) after k
+  pub finish_joined : (room : ℕ) (k : Option ℕ) (x after : List ℕ) → r ≡ true → tags ≤ 16 → JoinedIn memory own x → Grown n room tags (add_entry (entries_in tags work n) (entry want.row.0 want.target.0 (memory_of tags x) want.rule children)) after k → Grown n room tags (add_entries (entries_in tags work n) (finished want (memory_of tags own) (memory_of tags memory) children)) after k
   finish_joined room k x after y few e g =
       rw (finished_is, y, add_single) (subst (λ z. Grown n room tags (add_entry (entries_in tags work n) (last z)) after k) (e tags few) g)
 
-  pub finish_clash : (room : ℕ) → n ≤ room → Indexed tags room work n → r ≡ false → Grown n room tags (add_entries (entries_in tags work n) (finished want (memory_of tags own) (memory_of tags memory) children)) work n
+  pub finish_clash : (room : ℕ) → n ≤ room → Indexed tags room work n → r ≡ false → Grown n room tags (add_entries (entries_in tags work n) (finished want (memory_of tags own) (memory_of tags memory) children)) work (Some n)
   finish_clash room l index y =
-      rw (finished_is, y, add_nothing) (record { more = omega arith; held = λ h. refl; full = λ h. let z : ⊥ = omega arith in absurd z; indexed = λ h. index })
+      rw (finished_is, y, add_nothing) (record { more = omega arith; count = l; held = refl; indexed = index })
 
 pub ruleset finishing = (finish_joined, finish_clash, rules)
 
 -- the last step on what is left of a memory is what the rule leaves
-pub left_grown : (want : Want) (list : List Entry) (n room tags k : ℕ) (own m x children after : List ℕ) → x ≡ without want.tags want.forget m → Grown n room tags (add_entries list (finished want own x children)) after k → Grown n room tags (add_entries list (leaving want own m children)) after k
+pub left_grown : (want : Want) (list : List Entry) (n room tags : ℕ) (k : Option ℕ) (own m x children after : List ℕ) → x ≡ without want.tags want.forget m → Grown n room tags (add_entries list (finished want own x children)) after k → Grown n room tags (add_entries list (leaving want own m children)) after k
 left_grown want list n room tags k own m x children after e g = subst (λ z. Grown n room tags (add_entries list (finished want own z children)) after k) e g
 
 pub ruleset leaves = (left_grown, nothing_dropped, rules)

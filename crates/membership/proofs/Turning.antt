@@ -7,7 +7,7 @@ use native.Mathlib.Nat.{le_trans, le_refl}
 use lib.ListN.{length}
 use Rattle.model.specs.Lists.{concat_map}
 use Rattle.membership.specs.Index.{Indexed}
-use Rattle.membership.specs.Entries.{Entry, entries_in, add_entries, Grown}
+use Rattle.membership.specs.Entries.{Entry, entries_in, add_entries, Held}
 use Rattle.membership.specs.Search.{span}
 use Rattle.membership.proofs.Spans.{span_more, span_end}
 use Rattle.membership.proofs.Adding.{add_append, add_nothing, Ext, ext_length, ext_entries}
@@ -42,28 +42,27 @@ module _ (f : ℕ → List Entry) (high n room tags long : ℕ) (list : List Ent
           indexed = t.indexed;
         }
 
-    module _ (work' : List ℕ) (m' : ℕ) (l : j < high) (g : Grown m room tags (add_entries (entries_in tags work m) (f j)) work' m') where
-      pub turn_in : length work' ≡ length work → m' ≤ room → Turning f high n room tags long list work' m' (j + 1)
-      turn_in e h =
+    module _ (l : j < high) where
+      pub turn_in : (work' : List ℕ) (m' : ℕ) → Held m room tags (add_entries (entries_in tags work m) (f j)) work' m' → length work' ≡ length work → Turning f high n room tags long list work' m' (j + 1)
+      turn_in work' m' g e =
           record {
             more = le_trans t.more g.more;
-            count = h;
+            count = g.count;
             space = e ∙ t.space;
-            rest = ap (λ x. add_entries x (concat_map f (span (j + 1) (high - (j + 1))))) (g.held h) ∙ turned l;
-            indexed = g.indexed h;
+            rest = ap (λ x. add_entries x (concat_map f (span (j + 1) (high - (j + 1))))) g.held ∙ turned l;
+            indexed = g.indexed;
           }
 
-      pub turn_full : room < m' → Grown n room tags list work' m'
+      pub turn_full : room < length (add_entries (entries_in tags work m) (f j)) → room < length list
       turn_full h =
           let x = ext_length (add_entries (entries_in tags work m) (f j)) list (subst (Ext (add_entries (entries_in tags work m) (f j))) (turned l) (ext_entries (concat_map f (span (j + 1) (high - (j + 1)))) (add_entries (entries_in tags work m) (f j)))) in
-          let y = g.full h in
-          record { more = le_trans t.more g.more; held = λ l. let z : ⊥ = omega arith in absurd z; full = λ _. omega arith; indexed = λ l. let z : ⊥ = omega arith in absurd z }
+          omega arith
 
-    pub turn_end : high ≤ j → Grown n room tags list work m
+    pub turn_end : high ≤ j → Held n room tags list work m
     turn_end l =
         record {
           more = t.more;
-          held = λ _. sym (add_nothing (entries_in tags work m)) ∙ ap (add_entries (entries_in tags work m)) (sym (span_end f j high l)) ∙ t.rest;
-          full = λ h. let c = t.count in let z : ⊥ = omega arith in absurd z;
-          indexed = λ _. t.indexed;
+          count = t.count;
+          held = sym (add_nothing (entries_in tags work m)) ∙ ap (add_entries (entries_in tags work m)) (sym (span_end f j high l)) ∙ t.rest;
+          indexed = t.indexed;
         }

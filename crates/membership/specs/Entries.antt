@@ -1,5 +1,5 @@
 -- Annotations with the source of each: the rule and the child annotations by which it was found first. Assumes nothing.
-use Rattle.std.specs.Prelude.{◌≡◌, List, [], ◌∷◌, ◌++◌, map, cond, ℕ, ◌<◌, ◌≤◌, length}
+use Rattle.std.specs.Prelude.{◌≡◌, Option, MatchOption, List, [], ◌∷◌, ◌++◌, map, cond, ℕ, ◌<◌, ◌≤◌, length}
 use Rattle.model.specs.Limits.{max_children}
 use Rattle.model.specs.Lists.{any, tab}
 use Rattle.model.specs.Annotation.{Annotation, eq_annotation}
@@ -30,12 +30,16 @@ unfoldable pub add_entries : List Entry → List Entry → List Entry
 add_entries known [] = known
 add_entries known (e ∷ more) = add_entries (add_entry known e) more
 
--- What is known of the count r that comes back where n went in: within the room the work space holds the list, and past it the list does not fit.
-pub record Grown (n room tags : ℕ) (list : List Entry) (work : List ℕ) (r : ℕ) : Type 0 where
-  pub more : n ≤ r
-  pub held : r ≤ room → entries_in tags work r ≡ list
-  pub full : room < r → room < length list
-  pub indexed : r ≤ room → Indexed tags room work r
+-- the work space holds the list, of m entries, where it held n
+pub record Held (n room tags : ℕ) (list : List Entry) (work : List ℕ) (m : ℕ) : Type 0 where
+  pub more : n ≤ m
+  pub count : m ≤ room
+  pub held : entries_in tags work m ≡ list
+  pub indexed : Indexed tags room work m
+
+-- What comes back where n went in: how many entries the work space holds, which are the list, or none where the list does not fit the room.
+abbrev pub Grown : ℕ → ℕ → ℕ → List Entry → List ℕ → Option ℕ → Type 0
+Grown n room tags list work r = MatchOption r (room < length list) (Held n room tags list work)
 
 -- entry n is written, and every other cell is as it was
 pub record Stored (tags : ℕ) (before : List ℕ) (n : ℕ) (e : Entry) (after : List ℕ) : Type 0 where

@@ -1,5 +1,5 @@
 -- The run handed back: which one is free, and this is what holds of it. Assumes nothing.
-use Rattle.std.specs.Prelude.{◌≡◌, List, ◌++◌, true, false, ℕ, suc, ◌*◌, ◌<◌, ◌≤◌, length, drop}
+use Rattle.std.specs.Prelude.{◌≡◌, Option, MatchOption, List, ◌++◌, true, false, ℕ, suc, ◌*◌, ◌<◌, ◌≤◌, length, drop}
 use Rattle.model.specs.Automaton.{Automaton}
 use Rattle.model.specs.Table.{Row}
 use Rattle.model.specs.Annotation.{accepts?}
@@ -19,8 +19,6 @@ pub record RunFront (A : Automaton) (rows : List Row) (before after : List ℕ) 
   pub count : length run ≡ r
   pub cells : after ≡ encode_steps run ++ drop (r * step_cells) before
 
--- Which run is handed back is free. Of n annotations, none accepting: no step and the space as it was. Else a run with at most n steps.
-pub record RunWritten (A : Automaton) (rows : List Row) (n : ℕ) (before after : List ℕ) (r : ℕ) : Type 0 where
-  pub few : r ≤ n
-  pub rejected : r ≡ 0 → (accepts? A rows ≡ false) × (after ≡ before)
-  pub accepted : 0 < r → (accepts? A rows ≡ true) × RunFront A rows before after r
+-- Which run is handed back is free. Of n annotations, none accepting: no run and the space as it was. Else a run with at most n steps, and one at least.
+abbrev pub RunWritten : Automaton → List Row → ℕ → List ℕ → List ℕ → Option ℕ → Type 0
+RunWritten A rows n before after r = MatchOption r ((accepts? A rows ≡ false) × (after ≡ before)) (λ s. (0 < s) × (s ≤ n) × (accepts? A rows ≡ true) × RunFront A rows before after s)

@@ -1,5 +1,5 @@
 -- The run that is read off the annotations reached from an accepting one: cell 26 is 1 where an annotation is reached, cell 27 holds its step's number. Assumes nothing.
-use Rattle.std.specs.Prelude.{◌≡◌, ◌⊎◌, List, [], ◌∷◌, ◌++◌, Bool, true, false, ◌&&◌, cond, ℕ, zero, suc, ◌+◌, ◌*◌, ◌<◌, ◌≤◌, T, eqb, ltb, set}
+use Rattle.std.specs.Prelude.{◌≡◌, ◌⊎◌, Option, MatchOption, List, [], ◌∷◌, ◌++◌, Bool, true, false, ◌&&◌, cond, ℕ, zero, suc, ◌+◌, ◌*◌, ◌<◌, ◌≤◌, T, eqb, ltb, set}
 use Rattle.model.specs.Limits.{max_children, unused}
 use Rattle.model.specs.Lists.{only, tab}
 use Rattle.model.specs.Automaton.{Automaton, final?}
@@ -80,8 +80,6 @@ with_number work j s = set work (j * annotation_cells + 27) s
 abbrev pub accepting_in : Automaton → ℕ → List ℕ → ℕ → Bool
 accepting_in A last work j = eqb (cell_of work j 0) last && final? A (cell_of work j 1)
 
--- r is the first number below n that passes a test, or n
-pub record FirstOf (f : ℕ → Bool) (n r : ℕ) : Type 0 where
-  pub within : r ≤ n
-  pub found : r < n → f r ≡ true
-  pub before : (j : ℕ) → j < r → f j ≡ false
+-- r is the first number below n that passes a test, or none where none does
+abbrev pub FirstOf : (ℕ → Bool) → ℕ → Option ℕ → Type 0
+FirstOf f n r = MatchOption r ((j : ℕ) → j < n → f j ≡ false) (λ k. (k < n) × (f k ≡ true) × ((j : ℕ) → j < k → f j ≡ false))

@@ -5,40 +5,14 @@ ghost use Rattle.membership.specs.Cells.{memory_of, annotation_in};
 ghost use Rattle.membership.specs.Entries.{Stored};
 ghost use Rattle.membership.specs.Search.{choosable?, JoinedWith};
 
+use crate::cells::{ANNOTATION_CELLS, CHILD, MARK, MEMORY, MEMORY_END, ROW, RULE, STATE};
 use crate::memory::{agree, join, same};
 use automaton::State;
 use base::limits::PLACES;
-use base::space::put_cells;
 use document::rows::Row;
 
-pub const ANNOTATION_CELLS: usize = 32;
-
-// The cells of an annotation.
-pub(crate) const ROW: usize = 0;
-
-pub(crate) const STATE: usize = 1;
-
-const MEMORY: usize = 2;
-
-const MEMORY_END: usize = 18;
-
-const MARK: usize = 18;
-
-pub(crate) const RULE: usize = 19;
-
-pub(crate) const CHILD: usize = 20;
-
-// Those of the index: the newest annotation of a slot, and the one after an annotation.
-pub(crate) const FIRST: usize = 24;
-
-pub(crate) const NEXT: usize = 25;
-
-// Those of the run: 1 where the annotation is reached, and its step's number.
-pub(crate) const REACHED: usize = 26;
-
-pub(crate) const NUMBER: usize = 27;
-
-pub(crate) fn narrow(x: usize) -> u16
+// A number that fits a cell.
+pub fn narrow(x: usize) -> u16
     requires { x < 65536 }
     ensures { result ≡ x }
 {
@@ -70,7 +44,7 @@ pub(crate) fn joined_with(work: &[u16], j: usize, memory: &[u16]) -> [u16; 16]
     join(memory, &work[start..end])
 }
 
-// Annotation j is the one with this row, state and memory.
+// Annotation j is the one with this row, state and memory. Here and in the index these stay three parameters: the memory is lent, and a struct of them would be made for one call and taken apart in it.
 pub(crate) fn is_same(
     work: &[u16],
     j: usize,
@@ -83,7 +57,7 @@ pub(crate) fn is_same(
     ensures { result ≡ eq_annotation (annotation row.0 state.0 (memory_of tags memory.now)) (annotation_in tags work.now j) }
 {
     let at = j * ANNOTATION_CELLS;
-    if row.0 != work[at] {
+    if row.0 != work[at + ROW] {
         return false;
     }
     if state.0 != work[at + STATE] {
@@ -111,8 +85,8 @@ pub(crate) fn put(
     let at = n * ANNOTATION_CELLS;
     work[at] = row.0;
     work[at + STATE] = state.0;
-    put_cells(work, at + MEMORY, memory);
+    base::space::put(work, at + MEMORY, memory);
     work[at + MARK] = 0;
     work[at + RULE] = rule;
-    put_cells(work, at + CHILD, &children);
+    base::space::put(work, at + CHILD, &children);
 }

@@ -5,9 +5,9 @@ ghost use Rattle.model.specs.Annotation.{annotation, eq_annotation};
 ghost use Rattle.membership.specs.Cells.{memory_of, annotations_in};
 ghost use Rattle.membership.specs.Index.{mixed, slot_of, link_of, Indexed, Linked};
 
-use crate::entries::{ANNOTATION_CELLS, FIRST, NEXT, is_same};
+use crate::cells::{ANNOTATION_CELLS, FIRST, NEXT};
+use crate::entries::is_same;
 use automaton::State;
-use base::numbers::size;
 use document::rows::Row;
 
 // A number more goes into a hash.
@@ -15,29 +15,27 @@ fn mix(h: usize, x: u16) -> usize
     requires { h < 65536 }
     ensures { (result ≡ mixed h x) × (result < 65536) }
 {
-    (h * 40503 + size(x)) % 65536
+    (h * 40503 + usize::from(x)) % 65536
 }
 
 // An annotation's slot.
-pub(crate) fn slot_of(row: Row, state: State, memory: &[u16], tags: usize, room: usize) -> usize
+pub fn slot_of(row: Row, state: State, memory: &[u16], tags: usize, room: usize) -> usize
     requires { (tags ≤ 16) × (length memory.now ≡ 16) × (0 < room) }
     ensures { (result ≡ slot_of room (annotation row.0 state.0 (memory_of tags memory.now))) × (result < room) }
 {
-    let mut h = mix(size(row.0), state.0);
-    let mut k = 0;
-    while k < tags {
+    let mut h = mix(usize::from(row.0), state.0);
+    for k in 0..tags {
         h = mix(h, memory[k]);
-        k += 1;
     }
     h % room
 }
 
-// The link in a cell: a number and 1, at most `most`, or 0.
-fn link_at(work: &[u16], at: usize, most: usize) -> usize
-    requires { at < length work.now }
-    ensures { (result ≡ link_of most (get_or work.now at 0)) × (result ≤ most) }
+// The link in a cell: a number and 1, at most `most`, or 0. It stays one number, as in the cell, since `link_of` says what a chain is by it.
+pub fn link_at(cells: &[u16], at: usize, most: usize) -> usize
+    requires { at < length cells.now }
+    ensures { (result ≡ link_of most (get_or cells.now at 0)) × (result ≤ most) }
 {
-    let x = size(work[at]);
+    let x = usize::from(cells[at]);
     if x <= most { x } else { 0 }
 }
 

@@ -1,6 +1,7 @@
 // The judge: annotations in a lent work space, a run of those reached from an accepting one, and the decision.
 #![tactic(auto)]
 
+pub mod cells; // cells.rt: which cells of the work space an annotation has
 mod memory; // memory.rt: memories, place by place
 mod entries; // entries.rt: annotations with their sources in the work space
 mod index; // index.rt: finding an equal annotation
@@ -13,59 +14,54 @@ ghost use Rattle.std.specs.Prelude.{◌≡◌, length, replicate};
 ghost use Rattle.document.specs.Check.{document_check_of};
 ghost use Rattle.membership.specs.Judge.{Judging};
 
-pub use crate::entries::ANNOTATION_CELLS;
-use crate::entries::narrow;
-use crate::table::{annotate, room_of};
-use crate::write::write_run;
-use automaton::Checked;
-
-// The judge's answer: yes with the number of steps of the run handed back, no, or refused with a number of document 01.
-#[derive(Clone, Copy)]
-pub enum Judged {
-    Yes(u16),
-    No,
-    Refused(u16),
-}
+pub use crate::cells::ANNOTATION_CELLS;
+pub use crate::entries::narrow;
+pub use crate::index::{link_at, slot_of};
+pub use crate::memory::{join, kept_place};
+use crate::table::annotate;
+pub use crate::table::{Plan, bounds, cell_at, first_rules, own_place, room_of, start_at};
+pub use crate::write::write_run;
+use base::refusal::Refusal;
 
 // The whole space becomes zeros.
 pub fn clear(work: &mut [u16])
     ensures { work.new ≡ replicate (length work.old) 0 }
 {
-    let mut i = 0;
-    while i < work.len() {
-        work[i] = 0;
-        i += 1;
-    }
+    work.fill(0);
 }
 
 // The judging of a sound set and table.
-fn decide(set: &[u8], rows: &[u16], work: &mut [u16], run: &mut [u16]) -> Judged
+fn decide(
+    set: &[u8],
+    rows: &[u16],
+    work: &mut [u16],
+    run: &mut [u16],
+) -> Result<Option<u16>, Refusal>
     requires { document_check_of set.now rows.now ≡ 0 }
     ensures { Judging set.now rows.now work.old run.old result work.new run.new }
 {
     let room = room_of(work.len());
     if runs::steps::count(run) < room {
-        return Judged::Refused(32);
+        return Err(Refusal::RunSpace);
     }
-    let n = annotate(set, rows, work);
-    if n > room {
+    let Some(n) = annotate(set, rows, work) else {
         clear(work);
-        return Judged::Refused(31);
-    }
-    let s = write_run(set, rows, work, n, run);
+        return Err(Refusal::NoRoom);
+    };
+    let steps = write_run(set, rows, work, n, run);
     clear(work);
-    if s == 0 {
-        return Judged::No;
-    }
-    Judged::Yes(narrow(s))
+    Ok(steps)
 }
 
-// Whether the set lets the document in. A yes hands back a run that the run check passes. Once 32 is passed the work space is zeros afterwards, else it is untouched.
-pub fn judge(set: &[u8], rows: &[u16], work: &mut [u16], run: &mut [u16]) -> Judged
+// Whether the set lets the document in: yes with the number of steps of the run handed back, which the run check passes, or no. Once 32 is passed the work space is zeros afterwards, else it is untouched.
+pub fn judge(
+    set: &[u8],
+    rows: &[u16],
+    work: &mut [u16],
+    run: &mut [u16],
+) -> Result<Option<u16>, Refusal>
     ensures { Judging set.now rows.now work.old run.old result work.new run.new }
 {
-    match document::check(set, rows) {
-        Checked::Passed => decide(set, rows, work, run),
-        Checked::Refused(n) => Judged::Refused(n),
-    }
+    document::check(set, rows)?;
+    decide(set, rows, work, run)
 }

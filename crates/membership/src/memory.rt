@@ -10,13 +10,7 @@ const MEMORY_PLACES: usize = 16;
 fn places_agree(x: u16, y: u16) -> bool
     ensures { result ≡ places_agree x y }
 {
-    if x == 0 {
-        return true;
-    }
-    if y == 0 {
-        return true;
-    }
-    x == y
+    x == 0 || y == 0 || x == y
 }
 
 fn joined_place(x: u16, y: u16) -> u16
@@ -30,22 +24,7 @@ pub(crate) fn agree(a: &[u16], b: &[u16], tags: usize) -> bool
     requires { (tags ≤ length a.now) × (tags ≤ length b.now) }
     ensures { result ≡ agree? (memory_of tags a.now) (memory_of tags b.now) }
 {
-    let n = tags;
-    let mut k = 0;
-    while k < n {
-        if places_agree(a[k], b[k]) {
-            k += 1;
-        } else {
-            return false;
-        }
-    }
-    true
-}
-
-fn places_same(x: u16, y: u16) -> bool
-    ensures { result ≡ eqb x y }
-{
-    x == y
+    (0..tags).all(|k| places_agree(a[k], b[k]))
 }
 
 // The same memory.
@@ -53,34 +32,23 @@ pub(crate) fn same(a: &[u16], b: &[u16], tags: usize) -> bool
     requires { (tags ≤ length a.now) × (tags ≤ length b.now) }
     ensures { result ≡ eq_list (memory_of tags a.now) (memory_of tags b.now) }
 {
-    let n = tags;
-    let mut k = 0;
-    while k < n {
-        if places_same(a[k], b[k]) {
-            k += 1;
-        } else {
-            return false;
-        }
-    }
-    true
+    a[..tags] == b[..tags]
 }
 
 // What two memories that agree say together. All places are joined, those past the tags too, so that the loop has a fixed length.
-pub(crate) fn join(a: &[u16], b: &[u16]) -> [u16; 16]
+pub fn join(a: &[u16], b: &[u16]) -> [u16; 16]
     requires { (length a.now ≡ 16) × (length b.now ≡ 16) }
     ensures { JoinedIn a.now b.now result }
 {
     let mut out = [0u16; MEMORY_PLACES];
-    let mut k = 0;
-    while k < MEMORY_PLACES {
+    for k in 0..MEMORY_PLACES {
         out[k] = joined_place(a[k], b[k]);
-        k += 1;
     }
     out
 }
 
 // A place, nothing where the lowest bit of a mask is set.
-fn kept_place(mask: u16, x: u16) -> u16
+pub fn kept_place(mask: u16, x: u16) -> u16
     ensures { result ≡ cond (eqb (mask % 2) 1) 0 x }
 {
     if mask % 2 == 1 { 0 } else { x }
@@ -93,11 +61,9 @@ pub(crate) fn kept(memory: &[u16], mask: u16, tags: usize) -> [u16; 16]
 {
     let mut out = [0u16; MEMORY_PLACES];
     let mut rest = mask;
-    let mut k = 0;
-    while k < tags {
+    for k in 0..tags {
         out[k] = kept_place(rest, memory[k]);
         rest = rest / 2;
-        k += 1;
     }
     out
 }

@@ -28,13 +28,19 @@ pub struct Want {
     pub states: [State; PLACES],
 }
 
-// The annotation is appended, if it is new and there is room.
-fn add(work: &mut [u16], want: Want, n: usize, memory: &[u16], children: [u16; PLACES]) -> usize
-    requires { Ready want work.old n × (length memory.now ≡ 16) }
-    ensures { Grown n want.room want.tags (add_entry (entries_in want.tags work.old n) (record { annotation = annotation want.row.0 want.target.0 (memory_of want.tags memory.now); rule = want.rule; children = children })) work.new result }
+// The annotation is appended, if it is new: how many there are, or none where there is no room for it.
+fn add(
+    work: &mut [u16],
+    want: &Want,
+    n: usize,
+    memory: &[u16],
+    children: [u16; PLACES],
+) -> Option<usize>
+    requires { Ready want.now work.old n × (length memory.now ≡ 16) }
+    ensures { Grown n want.now.room want.now.tags (add_entry (entries_in want.now.tags work.old n) (record { annotation = annotation want.now.row.0 want.now.target.0 (memory_of want.now.tags memory.now); rule = want.now.rule; children = children })) work.new result }
 {
     if want.room == 0 {
-        return n + 1;
+        return None;
     }
     let slot = slot_of(want.row, want.target, memory, want.tags, want.room);
     if is_known(
@@ -47,7 +53,7 @@ fn add(work: &mut [u16], want: Want, n: usize, memory: &[u16], children: [u16; P
         want.tags,
         want.room,
     ) {
-        return n;
+        return Some(n);
     }
     if n < want.room {
         put(
@@ -61,41 +67,41 @@ fn add(work: &mut [u16], want: Want, n: usize, memory: &[u16], children: [u16; P
             want.tags,
         );
         link(work, slot, n);
-        return n + 1;
+        return Some(n + 1);
     }
-    n + 1
+    None
 }
 
 // The last step: the target's tags are added to what is left of the joined memory, provided no tag gets two rows.
 fn finish(
     work: &mut [u16],
     own: &[u16],
-    want: Want,
+    want: &Want,
     n: usize,
     memory: &[u16],
     children: [u16; PLACES],
-) -> usize
-    requires { Ready want work.old n × (length own.now ≡ 16) × (length memory.now ≡ 16) }
-    ensures { Grown n want.room want.tags (add_entries (entries_in want.tags work.old n) (finished want (memory_of want.tags own.now) (memory_of want.tags memory.now) children)) work.new result }
+) -> Option<usize>
+    requires { Ready want.now work.old n × (length own.now ≡ 16) × (length memory.now ≡ 16) }
+    ensures { Grown n want.now.room want.now.tags (add_entries (entries_in want.now.tags work.old n) (finished want.now (memory_of want.now.tags own.now) (memory_of want.now.tags memory.now) children)) work.new result }
 {
     if agree(memory, own, want.tags) {
         let all = join(memory, own);
         return add(work, want, n, &all, children);
     }
-    n
+    Some(n)
 }
 
 // What the rule leaves: its tags are dropped from the joined memory, then the last step. A rule that forgets nothing copies no memory.
 fn leave(
     work: &mut [u16],
     own: &[u16],
-    want: Want,
+    want: &Want,
     n: usize,
     memory: &[u16],
     children: [u16; PLACES],
-) -> usize
-    requires { Ready want work.old n × (length own.now ≡ 16) × (length memory.now ≡ 16) }
-    ensures { Grown n want.room want.tags (add_entries (entries_in want.tags work.old n) (leaving want (memory_of want.tags own.now) (memory_of want.tags memory.now) children)) work.new result }
+) -> Option<usize>
+    requires { Ready want.now work.old n × (length own.now ≡ 16) × (length memory.now ≡ 16) }
+    ensures { Grown n want.now.room want.now.tags (add_entries (entries_in want.now.tags work.old n) (leaving want.now (memory_of want.now.tags own.now) (memory_of want.now.tags memory.now) children)) work.new result }
 {
     if want.forget == 0 {
         return finish(work, own, want, n, memory, children);
@@ -118,37 +124,27 @@ fn with_child(children: [u16; PLACES], p: usize, j: usize) -> [u16; PLACES]
 pub(crate) fn search(
     work: &mut [u16],
     own: &[u16],
-    want: Want,
+    want: &Want,
     left: usize,
     n: usize,
     memory: &[u16],
     children: [u16; PLACES],
-) -> usize
-    requires { Ready want work.old n × (length own.now ≡ 16) × (length memory.now ≡ 16) × (left ≤ want.arity) }
-    ensures { Grown n want.room want.tags (add_entries (entries_in want.tags work.old n) (found (annotations_in want.tags work.old want.base) want (memory_of want.tags own.now) left (memory_of want.tags memory.now) children)) work.new result }
+) -> Option<usize>
+    requires { Ready want.now work.old n × (length own.now ≡ 16) × (length memory.now ≡ 16) × (left ≤ want.now.arity) }
+    ensures { Grown n want.now.room want.now.tags (add_entries (entries_in want.now.tags work.old n) (found (annotations_in want.now.tags work.old want.now.base) want.now (memory_of want.now.tags own.now) left (memory_of want.now.tags memory.now) children)) work.new result }
 {
     if left == 0 {
         return leave(work, own, want, n, memory, children);
     }
     let p = want.arity - left;
-    let lows = want.low;
-    let highs = want.high;
-    let states = want.states;
-    let end = highs[p];
-    let state = states[p];
+    let state = want.states[p];
     let mut m = n;
-    let mut j = lows[p];
-    while j < end {
-        let x = j;
-        j += 1;
-        if choosable(work, x, state, memory, want.tags) {
-            let joined = joined_with(work, x, memory);
-            let with = with_child(children, p, x);
-            m = search(work, own, want, left - 1, m, &joined, with);
-            if m > want.room {
-                return m;
-            }
+    for j in want.low[p]..want.high[p] {
+        if choosable(work, j, state, memory, want.tags) {
+            let joined = joined_with(work, j, memory);
+            let with = with_child(children, p, j);
+            m = search(work, own, want, left - 1, m, &joined, with)?;
         }
     }
-    m
+    Some(m)
 }

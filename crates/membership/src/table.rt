@@ -12,11 +12,11 @@ ghost use Rattle.membership.specs.Listing.{entries_below};
 ghost use Rattle.membership.specs.Plan.{Bounds, WantFor, Starts, FirstRules, Before};
 ghost use Rattle.membership.specs.Annotated.{Annotated};
 
-use crate::entries::{ANNOTATION_CELLS, narrow};
+use crate::cells::ANNOTATION_CELLS;
+use crate::entries::narrow;
 use crate::search::{Want, search};
 use automaton::{arity, header, rule, rules_from, tags_of};
 use base::limits::{MAX_ROWS, MAX_STEPS, MAX_SYMBOLS, PLACES, UNUSED};
-use base::numbers::size;
 use document::rows::{Row, count, place, symbol};
 
 // The room is at most as many annotations as a run has steps.
@@ -39,62 +39,55 @@ pub struct Plan {
     pub high: [usize; PLACES],
 }
 
-fn cell_at(cells: &[u16], k: usize) -> u16
+pub fn cell_at(cells: &[u16], k: usize) -> u16
     ensures { result ≡ get_or cells.now k 0 }
 {
-    if k < cells.len() {
-        return cells[k];
-    }
-    0
+    cells.get(k).copied().unwrap_or(0)
 }
 
-fn start_at(starts: &[u16], c: usize) -> usize
+pub fn start_at(starts: &[u16], c: usize) -> usize
     ensures { result ≡ get_or starts.now c 0 }
 {
-    size(cell_at(starts, c))
+    usize::from(cell_at(starts, c))
 }
 
 // The number of annotations before each child's row, or before the row after it.
-fn bounds(rows: &[u16], starts: &[u16], i: Row, arity: usize, shift: usize) -> [usize; PLACES]
+pub fn bounds(rows: &[u16], starts: &[u16], i: Row, arity: usize, shift: usize) -> [usize; PLACES]
     requires { (arity ≤ 4) × (shift ≤ 1) }
     ensures { Bounds rows.now starts.now i.0 arity shift result }
 {
     let mut out = [0usize; PLACES];
-    let mut p = 0;
-    while p < arity {
+    for p in 0..arity {
         let c = place(rows, i, p as u16);
-        out[p] = start_at(starts, size(c.0) + shift);
-        p += 1;
+        out[p] = start_at(starts, usize::from(c.0) + shift);
     }
     out
 }
 
-fn want_for(set: &[u8], plan: Plan, r: u16) -> Want
-    ensures { WantFor (decode set.now) plan r result }
+fn want_for(set: &[u8], plan: &Plan, r: u16) -> Want
+    ensures { WantFor (decode set.now) plan.now r result }
 {
     let asked = rule(set, r);
-    let row = plan.row;
-    let target = asked.target;
     let low = plan.low;
     let high = plan.high;
     let states = asked.places;
     Want {
-        row: row,
-        target: target,
+        row: plan.row,
+        target: asked.target,
         rule: r,
         forget: asked.forget,
         tags: plan.tags,
         arity: plan.arity,
         base: plan.base,
         room: plan.room,
-        low: low,
-        high: high,
-        states: states,
+        low,
+        high,
+        states,
     }
 }
 
 // The row and 1 where the lowest bit of a mask is set.
-fn own_place(mask: u16, row: Row) -> u16
+pub fn own_place(mask: u16, row: Row) -> u16
     requires { row.0 < 65535 }
     ensures { result ≡ cond (eqb (mask % 2) 1) (suc row.0) 0 }
 {
@@ -108,25 +101,21 @@ fn own_memory(mask: u16, row: Row, tags: usize) -> [u16; 16]
 {
     let mut out = [0u16; 16];
     let mut rest = mask;
-    let mut k = 0;
-    while k < tags {
+    for k in 0..tags {
         out[k] = own_place(rest, row);
         rest = rest / 2;
-        k += 1;
     }
     out
 }
 
 // The first rule of each symbol and of the one past the last, found once for all rows.
-fn first_rules(set: &[u8]) -> [u16; FIRSTS]
+pub fn first_rules(set: &[u8]) -> [u16; FIRSTS]
     requires { check_of set.now ≡ 0 }
     ensures { FirstRules (decode set.now) result }
 {
     let mut out = [0u16; FIRSTS];
-    let mut f = 0;
-    while f < FIRSTS {
+    for f in 0..FIRSTS {
         out[f] = rules_from(set, narrow(f));
-        f += 1;
     }
     out
 }
@@ -142,65 +131,59 @@ fn by_row(
     tags: usize,
     room: usize,
     n: usize,
-) -> usize
+) -> Option<usize>
     requires sound { (check_of set.now ≡ 0) × SoundTable (decode set.now) (decode_rows rows.now) }
     requires before { Before (decode set.now) (decode_rows rows.now) i.0 room tags work.old n }
     requires starts { Starts (decode set.now) (decode_rows rows.now) starts.now i.0 × FirstRules (decode set.now) firsts.now }
     ensures { Grown n room tags (entries_below (decode set.now) (decode_rows rows.now) (suc i.0)) work.new result }
 {
     let f = symbol(rows, i);
-    let width = size(arity(set, f));
+    let width = usize::from(arity(set, f));
     let low = bounds(rows, starts, i, width, 0);
     let high = bounds(rows, starts, i, width, 1);
     let plan = Plan {
         row: i,
-        tags: tags,
+        tags,
         arity: width,
         base: n,
-        room: room,
-        low: low,
-        high: high,
+        room,
+        low,
+        high,
     };
     let empty = [0u16; 16];
     let free = [UNUSED; PLACES];
-    let at = size(f);
+    let at = usize::from(f);
+    let first = cell_at(firsts, at);
     let end = cell_at(firsts, at + 1);
     let mut m = n;
-    let mut r = cell_at(firsts, at);
-    while r < end {
-        let want = want_for(set, plan, r);
+    for r in first..end {
+        let want = want_for(set, &plan, r);
         let own = own_memory(tags_of(set, want.target), i, tags);
-        m = search(work, &own, want, width, m, &empty, free);
-        r += 1;
-        if m > room {
-            return m;
-        }
+        m = search(work, &own, &want, width, m, &empty, free)?;
     }
-    m
+    Some(m)
 }
 
 // The room of a work space of so many cells.
-pub(crate) fn room_of(cells: usize) -> usize
+pub fn room_of(cells: usize) -> usize
     ensures { result ≡ room_of cells }
 {
-    let n = cells / ANNOTATION_CELLS;
-    if n <= MAX_ROOM { n } else { MAX_ROOM }
+    (cells / ANNOTATION_CELLS).min(MAX_ROOM)
 }
 
-// The number of annotations of all rows, left in the work space; more than the room where they do not fit.
-pub(crate) fn annotate(set: &[u8], rows: &[u16], work: &mut [u16]) -> usize
+// The number of annotations of all rows, left in the work space, or none where they do not fit.
+pub(crate) fn annotate(set: &[u8], rows: &[u16], work: &mut [u16]) -> Option<usize>
     requires { (check_of set.now ≡ 0) × SoundTable (decode set.now) (decode_rows rows.now) }
     ensures { Annotated (decode set.now) (decode_rows rows.now) (room_of (length work.old)) work.new result }
 {
     let room = room_of(work.len());
     let head = header(set);
-    let tags = size(head.tags);
+    let tags = usize::from(head.tags);
     let end = count(rows);
     let firsts = first_rules(set);
     let mut starts = [0u16; ROWS];
     let mut n = 0;
-    let mut i = 0;
-    while i < end {
+    for i in 0..end {
         starts[i] = narrow(n);
         n = by_row(
             set,
@@ -212,11 +195,7 @@ pub(crate) fn annotate(set: &[u8], rows: &[u16], work: &mut [u16]) -> usize
             tags,
             room,
             n,
-        );
-        i += 1;
-        if n > room {
-            return n;
-        }
+        )?;
     }
-    n
+    Some(n)
 }

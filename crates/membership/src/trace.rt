@@ -8,10 +8,10 @@ ghost use Rattle.runs.specs.Fields.{step_numbers};
 ghost use Rattle.membership.specs.Cells.{cell_of, child_in};
 ghost use Rattle.membership.specs.Trace.{reached?, number_at, accepting_in, ReachedMore, Unmarked, ChildrenReached, Traced, FirstOf};
 
-use crate::entries::{ANNOTATION_CELLS, CHILD, NUMBER, REACHED, ROW, STATE, narrow};
+use crate::cells::{ANNOTATION_CELLS, CHILD, NUMBER, REACHED, ROW, STATE};
+use crate::entries::narrow;
 use automaton::{State, is_final};
 use base::limits::{PLACES, UNUSED};
-use base::numbers::size;
 use document::rows::{Row, Step, count};
 
 // Cell k of annotation j.
@@ -34,7 +34,7 @@ fn child(work: &[u16], j: usize, p: usize) -> usize
     requires { (p < 4) × (j * 32 + 32 ≤ length work.now) }
     ensures { (result ≡ child_in work.now j p) × (result < 65536) }
 {
-    size(cell(work, source(j), CHILD + p))
+    usize::from(cell(work, source(j), CHILD + p))
 }
 
 pub(crate) fn is_reached(work: &[u16], j: usize) -> bool
@@ -49,10 +49,7 @@ fn is_accepting(set: &[u8], work: &[u16], j: usize, last: Row) -> bool
     requires { j * 32 + 32 ≤ length work.now }
     ensures { result ≡ accepting_in (decode set.now) last.0 work.now j }
 {
-    if cell(work, j, ROW) == last.0 {
-        return is_final(set, State(cell(work, j, STATE)));
-    }
-    false
+    cell(work, j, ROW) == last.0 && is_final(set, State(cell(work, j, STATE)))
 }
 
 // The last row.
@@ -63,19 +60,12 @@ pub(crate) fn last_row(rows: &[u16]) -> Row
     Row(narrow(count(rows) - 1))
 }
 
-// The first of n annotations that is accepting, or n.
-pub(crate) fn first_accepting(set: &[u8], work: &[u16], n: usize, last: Row) -> usize
+// The first of n annotations that is accepting.
+pub(crate) fn first_accepting(set: &[u8], work: &[u16], n: usize, last: Row) -> Option<usize>
     requires { n * 32 ≤ length work.now }
     ensures { FirstOf (accepting_in (decode set.now) last.0 work.now) n result }
 {
-    let mut j = 0;
-    while j < n {
-        if is_accepting(set, work, j, last) {
-            return j;
-        }
-        j += 1;
-    }
-    j
+    (0..n).find(|j| is_accepting(set, work, *j, last))
 }
 
 // None of the first n annotations is reached.
@@ -83,10 +73,8 @@ fn unmark(work: &mut [u16], n: usize)
     requires { n * 32 ≤ length work.old }
     ensures { Unmarked work.old n work.new }
 {
-    let mut j = 0;
-    while j < n {
+    for j in 0..n {
         work[j * ANNOTATION_CELLS + REACHED] = 0;
-        j += 1;
     }
 }
 
@@ -103,10 +91,8 @@ fn reach_children(work: &mut [u16], j: usize)
     requires { j * 32 + 32 ≤ length work.old }
     ensures { ChildrenReached work.old j work.new }
 {
-    let mut p = 0;
-    while p < PLACES {
+    for p in 0..PLACES {
         let x = child(work, j, p);
-        p += 1;
         if x < j {
             reach(work, x);
         }
@@ -120,9 +106,7 @@ pub(crate) fn trace(work: &mut [u16], root: usize)
 {
     unmark(work, root);
     reach(work, root);
-    let mut i = root + 1;
-    while 0 < i {
-        i -= 1;
+    for i in (0..root + 1).rev() {
         if is_reached(work, i) {
             reach_children(work, i);
         }
@@ -147,10 +131,8 @@ pub(crate) fn places_of(work: &[u16], j: usize) -> [Step; PLACES]
     ensures { step_numbers result ≡ tab max_children (number_at work.now j) }
 {
     let mut out = [Step(UNUSED); PLACES];
-    let mut p = 0;
-    while p < PLACES {
+    for p in 0..PLACES {
         out[p] = number_at(work, j, p);
-        p += 1;
     }
     out
 }

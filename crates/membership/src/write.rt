@@ -13,9 +13,8 @@ ghost use Rattle.membership.specs.Sources.{SourcedIn};
 ghost use Rattle.membership.specs.Trace.{Reached, with_number, step_of};
 ghost use Rattle.membership.specs.Handed.{StepsWritten, RunWritten};
 
-use crate::entries::{ANNOTATION_CELLS, NUMBER, ROW, RULE};
+use crate::cells::{ANNOTATION_CELLS, NUMBER, ROW, RULE};
 use crate::trace::{cell, first_accepting, is_reached, last_row, places_of, source, trace};
-use base::numbers::size;
 use document::rows::{Row, Step};
 use runs::steps::{StepFields, put_step};
 
@@ -40,42 +39,36 @@ fn write_step(work: &mut [u16], run: &mut [u16], j: usize, s: Step)
 }
 
 // The annotations that are reached become steps, in ascending order.
-fn write_steps(work: &mut [u16], run: &mut [u16], root: usize) -> usize
+fn write_steps(work: &mut [u16], run: &mut [u16], root: usize) -> u16
     requires bounds { (root < max_steps) × (root * 32 + 32 ≤ length work.old) × (root * 6 + 6 ≤ length run.old) }
     requires reached { Reached work.old root }
     ensures { StepsWritten work.old root run.old run.new result }
 {
-    let mut s: u16 = 0;
-    let mut j = 0;
-    while j <= root {
-        let x = j;
-        j += 1;
-        if is_reached(work, x) {
-            write_step(work, run, x, Step(s));
+    let mut s = 0;
+    for j in 0..root + 1 {
+        if is_reached(work, j) {
+            write_step(work, run, j, Step(s));
             s += 1;
         }
     }
-    size(s)
+    s
 }
 
-// The run of the first accepting annotation of n, or nothing where there is none: the number of its steps, or 0.
-pub(crate) fn write_run(
+// The run of the first accepting annotation of n, where there is one: the number of its steps.
+pub fn write_run(
     set: &[u8],
     rows: &[u16],
     work: &mut [u16],
     n: usize,
     run: &mut [u16],
-) -> usize
+) -> Option<u16>
     requires sound { (check_of set.now ≡ 0) × SoundTable (decode set.now) (decode_rows rows.now) }
     requires few { (n ≤ max_steps) × (n * 32 ≤ length work.old) × (n * 6 ≤ length run.old) }
     requires known { (annotations_in (decode set.now).tags work.old n ≡ annotations (decode set.now) (decode_rows rows.now)) × SourcedIn (decode set.now) (decode_rows rows.now) (decode set.now).tags work.old n }
     ensures { RunWritten (decode set.now) (decode_rows rows.now) n run.old run.new result }
 {
     let last = last_row(rows);
-    let root = first_accepting(set, work, n, last);
-    if root == n {
-        return 0;
-    }
+    let root = first_accepting(set, work, n, last)?;
     trace(work, root);
-    write_steps(work, run, root)
+    Some(write_steps(work, run, root))
 }

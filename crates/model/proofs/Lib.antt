@@ -3,6 +3,7 @@ pub mod Memory
 pub mod Tab
 pub mod Space
 pub mod Below
+pub mod Ranges
 pub mod Levels
 pub mod WrittenTest
 pub mod ByTag

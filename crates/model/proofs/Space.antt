@@ -1,4 +1,4 @@
--- Bytes or cells put into a lent space: what it holds afterwards. Assumes nothing.
+-- Items put into a lent space: what it holds afterwards. Assumes nothing.
 use mathlib.Core.Path.{◌≡◌, ap, ◌∙◌}
 use mathlib.Core.List.{List, [], ◌++◌, append_assoc, append-nil}
 use Prim.Native.Nat.{ℕ, ◌+◌, ◌≤◌, ◌<◌}
@@ -8,7 +8,7 @@ use lib.ListN.{length, take, drop, length-append, length-drop, take-append-drop}
 use lib.Seq.{take_at, drop_at, length-take-le}
 use Rattle.model.specs.Space.{put_at}
 
-module _ (out : List ℕ) (at : ℕ) (bytes : List ℕ) where
+module _ {A : Type 0} (out : List A) (at : ℕ) (bytes : List A) where
   -- where they do not fit whole
   pub put_not : length out < at + length bytes → put_at out at bytes ≡ out
   unfolding put_at
@@ -37,11 +37,11 @@ module _ (out : List ℕ) (at : ℕ) (bytes : List ℕ) where
     put_behind = rw put_fits (drop_at (take at out ++ bytes) (drop (at + length bytes) out) (at + length bytes) front_length)
 
 -- put at the front
-pub put_front : (out bytes : List ℕ) → length bytes ≤ length out → put_at out 0 bytes ≡ bytes ++ drop (length bytes) out
+pub put_front : {A : Type 0} (out bytes : List A) → length bytes ≤ length out → put_at out 0 bytes ≡ bytes ++ drop (length bytes) out
 put_front out bytes l = let z : 0 + length bytes ≡ length bytes = omega arith in put_fits out 0 bytes (omega arith) ∙ ap (λ k. bytes ++ drop k out) z
 
 -- nothing put
-pub put_none : (out : List ℕ) (at : ℕ) → at ≤ length out → put_at out at [] ≡ out
+pub put_none : {A : Type 0} (out : List A) (at : ℕ) → at ≤ length out → put_at out at [] ≡ out
 put_none out at l =
     let z : at + 0 ≡ at = omega arith in
     put_fits out at [] (omega arith) ∙ ap (λ k. take at out ++ [] ++ drop k out) z ∙ ap (λ l. l ++ drop at out) (append-nil (take at out)) ∙ take-append-drop at out

@@ -1,8 +1,8 @@
 -- The check of two lists: one law for each answer, and what a caller learns of it. Assumes nothing.
-use mathlib.Core.Path.{◌≡◌, refl, ap, ◌∙◌}
+use mathlib.Core.Path.{◌≡◌, refl, sym, ap, ◌∙◌}
 use mathlib.Core.Bool.{Bool, true, false}
 use mathlib.Core.List.{List}
-use Prim.Native.Nat.{ℕ, zero, suc, ◌*◌, ◌≤◌, ◌<◌, min}
+use Prim.Native.Nat.{ℕ, ◌*◌, ◌≤◌, ◌<◌, min}
 use native.Mathlib.Omega.{arith}
 use borrow.Author.Rules.{rules}
 use lib.ListN.{length}
@@ -11,8 +11,11 @@ use Rattle.model.specs.Refusal.{demand, unless}
 use Rattle.names.specs.Names.{shown_name}
 use Rattle.names.specs.Table.{name_in, cell_bytes, table_of}
 use Rattle.names.specs.Check.{list_fits?, distinct?, shown_apart?, names_check_of, names_answer}
-use Rattle.names.specs.declared.NamesChecked.{NamesChecked}
-use Rattle.names.specs.declared.NamesChecked.TheVariants.{Distinct, Refused}
+use Rattle.std.specs.Prelude.{Result, Ok, Err}
+use Rattle.base.specs.Refusals.{number, refused_by}
+use Rattle.base.proofs.Refusing as refusing
+use Rattle.base.proofs.Refusing.{some_number, refused_is}
+use Rattle.base.specs.declared.refusal.Refusal.{Refusal}
 use Rattle.names.proofs.Tests.{and_false}
 use Rattle.names.proofs.Shown.{held, distinct_same}
 
@@ -44,39 +47,17 @@ module _ (symbols : ℕ) (site built_in : List ℕ) where
 
 pub ruleset answers = (table_distinct, first_bad, second_bad, all_well, alike, rules)
 
--- the one answer with that number, and the law both ways
-abbrev pub names_of : ℕ → NamesChecked
-names_of zero = Distinct
-names_of (suc n) = Refused (suc n)
-
-pub of_answer : (n : ℕ) → names_answer (names_of n) ≡ unless n tt
-unfolding unless
-of_answer zero = refl
-of_answer (suc n) = refl
-
-pub answer_is : (r : NamesChecked) (n : ℕ) → names_answer r ≡ unless n tt → r ≡ names_of n
-unfolding unless
-answer_is Distinct zero e = refl
-answer_is Distinct (suc n) e = cc
-answer_is (Refused m) zero e = cc
-answer_is (Refused m) (suc n) e = cc
-
--- the answer with the number n, where the definition gives m
-pub answered : (n m : ℕ) → n ≡ m → names_answer (names_of n) ≡ unless m tt
-answered n m e = of_answer n ∙ ap (λ k. unless k tt) e
+-- the answer with the number that the definition gives
+pub answered : (r : Result (Unit {0}) Refusal) (m : ℕ) → refused_by r ≡ m → names_answer r ≡ unless m tt
+answered r m e = refusing.answered (λ u. u) tt r m (λ a h. refl) e
 
 -- what a caller learns of an answer: lists that pass have the number 0, and a refusal has its own, which is not 0
-module _ (r : NamesChecked) (n : ℕ) (e : names_answer r ≡ unless n tt) where
-  pub distinct_zero : r ≡ Distinct → n ≡ 0
-  distinct_zero = go n (answer_is r n e)
-    where
-      go : (m : ℕ) → r ≡ names_of m → r ≡ Distinct → m ≡ 0
-      go zero f h = refl
-      go (suc m) f h = cc
+module _ (r : Result (Unit {0}) Refusal) (n : ℕ) (e : names_answer r ≡ unless n tt) where
+  number_is : refused_by r ≡ n
+  number_is = refused_is (λ u. u) tt r n e
 
-  pub refused_number : (m : ℕ) → r ≡ Refused m → (n ≡ m) × (0 < m)
-  refused_number m = go n (answer_is r n e)
-    where
-      go : (k : ℕ) → r ≡ names_of k → r ≡ Refused m → (k ≡ m) × (0 < m)
-      go zero f h = let z : ◌≡◌ {A = ℕ} 0 1 = cc in absurd (omega arith)
-      go (suc k) f h = let z : suc k ≡ m = cc in (z, omega arith)
+  pub distinct_zero : r ≡ Ok tt → n ≡ 0
+  distinct_zero h = sym number_is ∙ ap refused_by h
+
+  pub refused_number : (why : Refusal) → r ≡ Err why → (n ≡ number why) × (0 < number why)
+  refused_number why h = let s = some_number why in (sym number_is ∙ ap refused_by h, omega (arith, s.1))

@@ -3,18 +3,14 @@ use mathlib.Core.Path.{◌≡◌, refl, sym, ap, subst, ◌∙◌}
 use mathlib.Core.Logic.{◌⊎◌, inl, inr}
 use mathlib.Core.Bool.{Bool, true, false, ◌&&◌, not, cond, true≢false}
 use mathlib.Core.Option.{Option, none, some}
-use Prim.Native.Nat.{ℕ, zero, suc, ◌+◌, ◌<◌, ◌≤◌}
-use native.Mathlib.Nat.{eq-or-lt_of_le, le_of_suc-le-suc, not-suc-le-zero, le_antisymm}
-use native.Mathlib.Numerals.{add-one}
+use Prim.Native.Nat.{ℕ, zero, suc, ◌<◌, ◌≤◌}
+use native.Mathlib.Nat.{eq-or-lt_of_le, le_of_suc-le-suc, not-suc-le-zero}
 use native.Mathlib.Omega.{arith}
-use borrow.Author.Rules.{rules}
+use Rattle.std.specs.Prelude.{Some, None, Option as Maybe}
+use Rattle.std.specs.Option.{MatchOption, is_some}
 use Rattle.model.specs.Lists.{all_below, or_else}
 use Rattle.names.specs.Names.{first_below}
-
--- at the loop's head: none below i passes
-pub record Unfound (p : ℕ → Bool) (n i : ℕ) : Type 0 where
-  pub inside : i ≤ n
-  pub so_far : first_below i p ≡ none
+use Rattle.names.specs.Check.{found_of}
 
 module _ (p : ℕ → Bool) where
   first_at : (n i : ℕ) → first_below i p ≡ none → p i ≡ true → (i < n → first_below n p ≡ some i) → (i ≡ n) ⊎ (i < n)
@@ -27,20 +23,17 @@ module _ (p : ℕ → Bool) where
   first_is zero i l z t = absurd (not-suc-le-zero l)
   first_is (suc n) i l z t = first_at n i z t (λ k. first_is n i k z t) (eq-or-lt_of_le (le_of_suc-le-suc l))
 
-  module _ (n : ℕ) where
-    pub unfound_none : Unfound p n 0
-    unfolding first_below
-    unfound_none = record { inside = omega arith; so_far = refl }
+  none_below : (n : ℕ) → ((k : ℕ) → k < n → p k ≡ false) → first_below n p ≡ none
+  unfolding first_below
+  none_below zero h = refl
+  none_below (suc n) h = rw (none_below n (λ k l. h k (omega arith)), h n (omega arith))
 
-    pub unfound_more : (i : ℕ) → Unfound p n i → i < n → p i ≡ false → Unfound p n (i + 1)
-    unfolding first_below
-    unfound_more i v l f = record { inside = omega arith; so_far = rw (add-one, first_below, v.so_far, f) }
-
-    pub found_at : (i : ℕ) → Unfound p n i → i < n → p i ≡ true → some i ≡ first_below n p
-    found_at i v l t = sym (first_is n i l v.so_far t)
-
-    pub found_none : (i : ℕ) → Unfound p n i → n ≤ i → none ≡ first_below n p
-    found_none i v l = sym v.so_far ∙ ap (λ k. first_below k p) (le_antisymm v.inside l)
+  -- what `find` answers over the numbers below n
+  pub first_found : (n : ℕ) (r : Maybe ℕ)
+      → MatchOption r ((k : ℕ) → 0 ≤ k → k < n → p k ≡ false) (λ i. (0 ≤ i) × (i < n) × (p i ≡ true) × ((k : ℕ) → 0 ≤ k → k < i → p k ≡ false))
+      → found_of r ≡ first_below n p
+  first_found n None h = sym (none_below n (λ k l. h k (omega arith) l))
+  first_found n (Some i) h = sym (first_is n i h.1 (none_below i (λ k l. h.3 k (omega arith) l)) h.2)
 
 -- nothing is found where every index fails
 abbrev none? : Option ℕ → Bool
@@ -72,6 +65,15 @@ module _ (p : ℕ → Bool) (n : ℕ) where
       go none e = refl
       go (some k) e = let z : ◌≡◌ {A = Bool} false true = e in absurd (true≢false (sym z))
 
+turned : (b t : Bool) → t ≡ not b → b ≡ not t
+turned true t e = sym (ap not e)
+turned false t e = sym (ap not e)
+
+-- none is found where `is_none` says so
+pub none_new : (p : ℕ → Bool) (n : ℕ) (r : Maybe ℕ) (b : Bool) → found_of r ≡ first_below n p → is_some r ≡ not b → b ≡ all_below n (λ j. not (p j))
+none_new p n None b e is = turned b false is ∙ all_unfound p n e
+none_new p n (Some i) b e is = turned b true is ∙ one_found p n i e
+
 -- what is found is below n and passes
 pub found_passes : (p : ℕ → Bool) (n i : ℕ) → first_below n p ≡ some i → (i < n) × (p i ≡ true)
 unfolding first_below
@@ -91,5 +93,3 @@ first_same p q zero h = refl
 first_same p q (suc n) h =
     ap (λ o. or_else o (cond (p n) (some n) none)) (first_same p q n (λ i l. h i (omega arith)))
     ∙ ap (λ t. or_else (first_below n q) (cond t (some n) none)) (h n (omega arith))
-
-pub ruleset finding = (unfound_none, unfound_more, found_at, found_none, rules)

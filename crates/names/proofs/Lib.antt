@@ -1,5 +1,5 @@
 pub mod Tests
-pub mod Strings
+pub mod Ranges
 pub mod Trim
 pub mod Scan
 pub mod Naming

@@ -4,16 +4,19 @@ use mathlib.Core.Bool.{Bool, true, false}
 use mathlib.Core.List.{List, [], ◌∷◌, ◌++◌, append-nil}
 use Prim.Native.Nat.{ℕ, zero, suc, ◌+◌, ◌-◌, ◌<◌, ◌≤◌, min}
 use native.Mathlib.Nat.{add-zero}
+use native.Mathlib.Numerals.{add-one}
 use native.Mathlib.Omega.{arith}
 use borrow.Author.Rules.{rules}
 use borrow.Author.Tests.{eq-eqb, ne_eqb}
 use lib.Dec.{eqb}
 use lib.ListN.{length, get_or, take, drop, length-drop, drop_of_length-le, get_or-eq_default}
-use lib.Seq.{take-suc, get_or-drop, append_snoc, drop-drop, drop-nil, take_all}
+use lib.Seq.{drop-cons, take-suc, get_or-drop, append_snoc, drop-drop, drop-nil, take_all}
 use Rattle.names.specs.Lines.{lines, lengthen, trimmed, line_at, line_count, newline}
 use Rattle.names.specs.Places.{Ended, Starts}
 use Rattle.names.specs.Names.{unless_empty, name_of}
-use Rattle.names.proofs.Strings.{cut}
+
+pub cut : (s : List ℕ) (i : ℕ) → i < length s → drop i s ≡ get_or s i 0 ∷ drop (i + 1) s
+cut s i h = rw (add-one, drop-cons s i 0)
 
 first_longer : (x : ℕ) (ls : List (List ℕ)) → get_or (lengthen x ls) 0 [] ≡ x ∷ get_or ls 0 []
 first_longer x [] = refl

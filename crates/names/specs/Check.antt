@@ -1,15 +1,13 @@
 -- What is asked of two name lists, by number (document 01, section "Turned away, by place", names). Assumes nothing.
-use Rattle.std.specs.Prelude.{List, Bool, ◌&&◌, ◌||◌, not, ℕ, min, eqb, leb, length}
+use Rattle.std.specs.Prelude.{List, Bool, ◌&&◌, ◌||◌, not, ℕ, min, eqb, leb, length, Result, Some, None, Option as Maybe}
 use Rattle.std.proofs.Math.Option.{Option, none, some}
+use Rattle.base.specs.Refusals.{answer}
+use Rattle.base.specs.declared.refusal.Refusal.{Refusal}
 use Rattle.model.specs.Limits.{max_symbols}
 use Rattle.model.specs.Lists.{all_below, eq_list}
-use Rattle.model.specs.Refusal.{demand, Answer, gives, refuses}
+use Rattle.model.specs.Refusal.{demand, Answer}
 use Rattle.names.specs.Lines.{line_at, line_count}
 use Rattle.names.specs.Names.{name?, shown_name}
-use Rattle.names.specs.declared.NamesChecked.{NamesChecked}
-use Rattle.names.specs.declared.NamesChecked.TheVariants.{Distinct, Refused}
-use Rattle.names.specs.declared.table.Found.{Found}
-use Rattle.names.specs.declared.table.Found.TheVariants.{Symbol, Unknown}
 
 -- a line is empty or a name
 unfoldable pub line_fits? : List ℕ → Bool
@@ -37,11 +35,10 @@ names_check_of symbols site built_in =
     demand (list_fits? site && list_fits? built_in) 61 (demand (shown_apart? symbols site built_in) 62 0)
 
 -- the check's answer: nothing is refused, or a refusal by its number
-abbrev pub names_answer : NamesChecked → Answer (Unit {0})
-names_answer Distinct = gives tt
-names_answer (Refused n) = refuses n
+abbrev pub names_answer : Result (Unit {0}) Refusal → Answer (Unit {0})
+names_answer = answer (λ u. u)
 
 -- the symbol that was found, if one was
-abbrev pub found_of : Found → Option ℕ
-found_of (Symbol i) = some i
-found_of Unknown = none
+abbrev pub found_of : Maybe ℕ → Option ℕ
+found_of (Some i) = some i
+found_of None = none

@@ -17,14 +17,12 @@ pub const MAX_NAME: usize = 16;
 pub fn line_end(s: &[u8], a: usize) -> usize
     ensures { a ≤ length s.now → Ended s.now a result }
 {
-    let mut i = a;
-    while i < s.len() {
+    for i in a..s.len() {
         if s[i] == 10 {
             return i;
         }
-        i += 1;
     }
-    i
+    s.len()
 }
 
 // Behind a line's end; the list's end where no line follows.
@@ -48,13 +46,11 @@ fn line_start(s: &[u8], i: usize) -> usize
     ensures { Starts s.now i result }
 {
     let mut a = 0;
-    let mut k = 0;
-    while k < i {
+    for _ in 0..i {
         if a >= s.len() {
             return a;
         }
         a = next_line(s, a);
-        k += 1;
     }
     a
 }
@@ -103,16 +99,7 @@ fn all_in_name(s: &[u8], classes: &[u8; 256]) -> bool
     requires lent { classes.now ≡ class_table }
     ensures { result ≡ all_below (length s.now) (λ k. name_byte? (get_or s.now k 0)) }
 {
-    let n = s.len();
-    let mut i = 0;
-    while i < n {
-        if in_name(classes, s[i]) {
-            i += 1;
-        } else {
-            return false;
-        }
-    }
-    true
+    s.iter().all(|b| in_name(classes, *b))
 }
 
 // Whether some bytes are a name.
@@ -149,19 +136,16 @@ pub(crate) fn list_fits(s: &[u8], classes: &[u8; 256]) -> bool
     ensures { result ≡ list_fits? s.now }
 {
     let mut a = 0;
-    let mut k = 0;
-    while a < s.len() {
-        if k == MAX_SYMBOLS {
+    for _ in 0..MAX_SYMBOLS {
+        if a >= s.len() {
+            return true;
+        }
+        if !line_fits(line(&s[a..], 0), classes) {
             return false;
         }
-        if line_fits(line(&s[a..], 0), classes) {
-            a = next_line(s, a);
-            k += 1;
-        } else {
-            return false;
-        }
+        a = next_line(s, a);
     }
-    true
+    a >= s.len()
 }
 
 // The name that the lists have for symbol `i`: the part of the site's list, else of the built-in list; empty where neither has one.

@@ -1,14 +1,13 @@
 -- Steps read from lent cells, by index. Assumes nothing.
 use mathlib.Core.Path.{◌≡◌, sym, ap, ◌∙◌}
 use mathlib.Core.List.{List, []}
-use Prim.Native.Nat.{ℕ, ◌+◌, ◌*◌, ◌/◌, ◌<◌, ◌≤◌}
+use Prim.Native.Nat.{ℕ, ◌+◌, ◌/◌, ◌<◌, ◌≤◌}
 use native.Mathlib.Omega.{arith}
 use borrow.Author.Rules.{rules}
 use lib.ListN.{length}
 use Rattle.model.specs.Limits.{max_children, unused}
 use Rattle.model.specs.Written.{Step, step_at}
 use Rattle.model.proofs.Tab.{tab_at, tab_past, length_tab}
-use Rattle.document.proofs.Places.{past}
 use Rattle.runs.specs.Steps.{step_cells, cell_in, place_in, step_in, decode_steps}
 
 -- what stands past the last step
@@ -28,10 +27,6 @@ module _ (cells : List ℕ) where
 
     pub step_past : length (decode_steps cells) ≤ i → step_at (decode_steps cells) i ≡ no_step
     step_past l = tab_past no_step (length cells / step_cells) (step_in cells) i (rw steps_length at l)
-
-    pub cell_past : (k a b : ℕ) → a ≡ i → b ≡ k → length cells ≤ a * step_cells + b → 0 ≡ cell_in cells i k
-    unfolding cell_in
-    cell_past k a b e f h = past cells 0 (a * step_cells + b) (i * step_cells + k) (cc) h
 
     pub place_cell : (k x : ℕ) → k < max_children → x ≡ cell_in cells i (2 + k) → x ≡ place_in cells i k
     unfolding place_in

@@ -27,9 +27,9 @@ use Rattle.runs.proofs.Sound.{sound_set, sound_rows}
 use Rattle.runs.proofs.Tested.{few_steps, fitted}
 
 -- a run that passed 21 has few steps
-module _ (run : List ℕ) (f : Bool) (n : ℕ) (e : f ≡ counted? run) (y : f ≡ true) (m : n ≡ length (decode_steps run)) where
+module _ (run : List ℕ) (n : ℕ) (y : counted? run ≡ true) (m : n ≡ length (decode_steps run)) where
   pub counted : Counted (decode_steps run) n
-  counted = let (some, few) = few_steps run ((T_true (counted? run)).1 (sym e ∙ y)) in record { steps = m; some = rw m some; few = rw m few }
+  counted = let (some, few) = few_steps run ((T_true (counted? run)).1 y) in record { steps = m; some = rw m some; few = rw m few }
 
   pub count_fits : Fits w16 n
   count_fits = let c = counted.few in record { fits = omega arith }
@@ -53,15 +53,16 @@ module _ (set doc run : List ℕ) (n : ℕ) (h : Ready set doc run n) where
       λ j. eqb (es' j) (em' j) && eb' j
 
 -- and one that passed 22 has known rules and rows
-module _ (set doc run : List ℕ) (f g : Bool) (n : ℕ) (s : document_check_of set doc ≡ 0) (e : f ≡ counted? run) (y : f ≡ true) (m : n ≡ length (decode_steps run)) (k : g ≡ all_below (length (decode_steps run)) (known? (decode set) (decode_rows doc) (decode_steps run))) (z : g ≡ true) where
-  pub ready : Ready set doc run n
-  ready = record { sound = s; counted = counted run f n e y m; known = ap (λ (j : ℕ). all_below j (known? (decode set) (decode_rows doc) (decode_steps run))) m ∙ sym k ∙ z }
+module _ (set doc run : List ℕ) (n : ℕ) (s : document_check_of set doc ≡ 0) (y : counted? run ≡ true) (m : n ≡ length (decode_steps run)) where
+  pub ready : all_below n (known? (decode set) (decode_rows doc) (decode_steps run)) ≡ true → Ready set doc run n
+  ready k = record { sound = s; counted = counted run n y m; known = k }
 
   -- and one that passed 23 has steps that fit
-  pub fitting : (b : Bool) → b ≡ all_below (length (decode_steps run)) (step_fits? (decode set) (decode_rows doc) (decode_steps run) (place_in run)) → b ≡ true → Fitted (decode set) (decode_steps run) n
-  fitting b x t =
-      fitted (decode set) (decode_rows doc) run (sound_set set doc s) (sound_rows set doc s) (omega (arith, ready.counted.steps, ready.counted.few))
-      ((T_true (all_below (length (decode_steps run)) (known? (decode set) (decode_rows doc) (decode_steps run)))).1 (sym k ∙ z))
-      ((T_true (all_below (length (decode_steps run)) (step_fits? (decode set) (decode_rows doc) (decode_steps run) (place_in run)))).1 (sym x ∙ t)) n m
+  pub fitting : all_below (length (decode_steps run)) (known? (decode set) (decode_rows doc) (decode_steps run)) ≡ true → all_below (length (decode_steps run)) (step_fits? (decode set) (decode_rows doc) (decode_steps run) (place_in run)) ≡ true → Fitted (decode set) (decode_steps run) n
+  fitting k t =
+      let few = (counted run n y m).few in
+      fitted (decode set) (decode_rows doc) run (sound_set set doc s) (sound_rows set doc s) (omega arith)
+      ((T_true (all_below (length (decode_steps run)) (known? (decode set) (decode_rows doc) (decode_steps run)))).1 k)
+      ((T_true (all_below (length (decode_steps run)) (step_fits? (decode set) (decode_rows doc) (decode_steps run) (place_in run)))).1 t) n m
 
 pub ruleset readies = (ready_known, some_rows, ends_are, rules)

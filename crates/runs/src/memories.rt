@@ -3,167 +3,139 @@ ghost use Rattle.std.specs.Prelude.{◌≡◌, map, cond, suc, ◌<◌, ◌≤�
 ghost use Rattle.model.specs.Limits.{max_tags, unused};
 ghost use Rattle.model.specs.Lists.{all_below};
 ghost use Rattle.model.specs.Automaton.{Automaton, bit?};
-ghost use Rattle.model.specs.Annotation.{places_agree, joined_place};
 ghost use Rattle.model.specs.WrittenTest.{one_row?};
 ghost use Rattle.model.specs.ByTag.{tag_clear?, one_row_by_tag?};
 ghost use Rattle.automaton.specs.Stored.{decode};
 ghost use Rattle.document.specs.Rows.{used};
 ghost use Rattle.runs.specs.Steps.{places_in, decode_steps};
-ghost use Rattle.runs.specs.Memories.{Placed, Fitted, Noted, With, AllJoined, Left};
+ghost use Rattle.runs.specs.Memories.{Placed, Fitted, Noted, both, AllJoined, Left};
 
 use crate::steps;
 use crate::steps::{row, rule, target};
 use automaton::{header, rule_forget, tags_of};
 use base::limits::{MAX_CHILDREN, MAX_STEPS, UNUSED};
-use base::numbers::size;
 use document::rows::{Row, Step};
 
 // A cell for each step.
 const STEPS: usize = MAX_STEPS as usize;
 
-// A tag's place in a memory: 0 where the tag has no row, else the row's number and 1.
+// A tag's place in a memory: 0 where the tag has no row, else the row's number and 1. It stays a number, since a cell for each step holds it in 16 bits.
 #[derive(Clone, Copy)]
 struct Place(u16);
 
-// Places joined, and whether no two of them name two rows.
+// The tags that the state of a step carries, and those that its rule forgets: bit k for tag k.
 #[derive(Clone, Copy)]
-struct Joined {
-    clear: bool,
-    place: Place,
+struct Tags {
+    carried: u16,
+    forgotten: u16,
 }
 
-fn has_tag(mask: u16, k: u16) -> bool
-    requires { k < max_tags }
-    ensures { result ≡ bit? mask k }
-{
-    (mask >> k) % 2 == 1
+const NO_TAGS: Tags = Tags {
+    carried: 0,
+    forgotten: 0,
+};
+
+// One of the tags, by its number.
+#[derive(Clone, Copy)]
+struct Tag {
+    k: u16,
+    ghost few: { k < max_tags },
 }
 
-fn agree(x: Place, y: Place) -> bool
-    ensures { result ≡ places_agree x.0 y.0 }
+fn has_tag(mask: u16, tag: Tag) -> bool
+    ensures { result ≡ bit? mask tag.k }
 {
-    (x.0 == 0) | ((y.0 == 0) | (x.0 == y.0))
+    (mask >> tag.k) % 2 == 1
 }
 
-fn join(x: Place, y: Place) -> Place
-    ensures { result.0 ≡ joined_place x.0 y.0 }
+// Two places joined; none where they name two rows.
+fn join(x: Place, y: Place) -> Option<Place>
+    ensures { result ≡ both x.0 y.0 }
 {
-    if x.0 == 0 { y } else { x }
-}
-
-// One place more.
-fn with(j: Joined, y: Place) -> Joined
-    ensures { With j y.0 result }
-{
-    let x = j.place;
-    Joined {
-        clear: j.clear & agree(x, y),
-        place: join(x, y),
+    if x.0 == 0 {
+        return Some(y);
     }
+    if y.0 == 0 || x.0 == y.0 {
+        return Some(x);
+    }
+    None
 }
 
 // What the cell of a step holds; 0 past the last cell.
 fn place_of(cells: &[u16], c: Step) -> Place
     ensures { result.0 ≡ get_or cells.now c.0 0 }
 {
-    let at = size(c.0);
-    if at < cells.len() {
-        return Place(cells[at]);
-    }
-    Place(0)
+    Place(cells.get(usize::from(c.0)).copied().unwrap_or(0))
 }
 
-// The places of the child steps of step i, joined.
-fn from_children(run: &[u16], cells: &[u16], i: Step) -> Joined
+// The places of the child steps of step i, joined; none where two of them name two rows.
+fn from_children(run: &[u16], cells: &[u16], i: Step) -> Option<Place>
     ensures { AllJoined (map (λ c. get_or cells.now c 0) (used (places_in run.now i.0))) result }
 {
-    let n = MAX_CHILDREN;
-    let mut k = 0;
-    let mut j = Joined {
-        clear: true,
-        place: Place(0),
-    };
-    while k < n {
+    let mut j = Place(0);
+    for k in 0..MAX_CHILDREN {
         let c = steps::place(run, i, k);
-        k += 1;
         if c.0 == UNUSED {
-            return j;
+            return Some(j);
         }
-        j = with(j, place_of(cells, c));
+        j = join(j, place_of(cells, c))?;
     }
-    j
+    Some(j)
 }
 
-// Tag k after the tags of the mask are dropped.
-fn kept(x: Place, forget: u16, k: u16) -> Place
-    requires { k < max_tags }
-    ensures { result.0 ≡ cond (bit? forget k) 0 x.0 }
+// The tag's place after the tags of the mask are dropped.
+fn kept(x: Place, forget: u16, tag: Tag) -> Place
+    ensures { result.0 ≡ cond (bit? forget tag.k) 0 x.0 }
 {
-    if has_tag(forget, k) { Place(0) } else { x }
+    if has_tag(forget, tag) { Place(0) } else { x }
 }
 
-// Tag k of a state with the mask, on the row.
-fn own(mask: u16, on: Row, k: u16) -> Place
-    requires { (k < max_tags) × (on.0 < unused) }
-    ensures { result.0 ≡ cond (bit? mask k) (suc on.0) 0 }
+// The tag's place in a state with the mask, on the row.
+fn own(mask: u16, on: Row, tag: Tag) -> Place
+    requires { on.0 < unused }
+    ensures { result.0 ≡ cond (bit? mask tag.k) (suc on.0) 0 }
 {
-    if has_tag(mask, k) {
+    if has_tag(mask, tag) {
         Place(on.0 + 1)
     } else {
         Place(0)
     }
 }
 
-// Tag k in the memory that a step on the row leaves: the children's places joined, the rule's tags dropped, then the state's added.
-fn left(j: Joined, forget: u16, mask: u16, on: Row, k: u16) -> Joined
-    requires { (k < max_tags) × (on.0 < unused) }
-    ensures { Left j forget mask on.0 k result }
+// The tag's place in the memory that a step on the row leaves: the children's places joined, the rule's tags dropped, then the state's added.
+fn left(j: Option<Place>, tags: Tags, on: Row, tag: Tag) -> Option<Place>
+    requires { on.0 < unused }
+    ensures { Left j tags.forgotten tags.carried on.0 tag.k result }
 {
-    let x = j.place;
-    let dropped = Joined {
-        clear: j.clear,
-        place: kept(x, forget, k),
-    };
-    with(dropped, own(mask, on, k))
+    let x = j?;
+    join(kept(x, tags.forgotten, tag), own(tags.carried, on, tag))
 }
 
 // Notes the tags that the state of each step carries, and those that its rule forgets.
-fn note(set: &[u8], run: &[u16], n: u16, masks: &mut [u16], forgets: &mut [u16])
-    requires { (n ≤ length masks.old) × (n ≤ length forgets.old) }
-    ensures { Noted (decode set.now) (decode_steps run.now) n masks.new forgets.new }
+fn note(set: &[u8], run: &[u16], n: u16, notes: &mut [Tags])
+    requires { n ≤ length notes.old }
+    ensures { Noted (decode set.now) (decode_steps run.now) n notes.new }
 {
-    let mut i = 0;
-    while i < n {
-        let at = size(i);
-        masks[at] = tags_of(set, target(set, run, Step(i)));
-        forgets[at] = rule_forget(set, rule(run, Step(i)));
-        i += 1;
+    for i in 0..n {
+        notes[usize::from(i)] = Tags {
+            carried: tags_of(set, target(set, run, Step(i))),
+            forgotten: rule_forget(set, rule(run, Step(i))),
+        };
     }
 }
 
-// 24 for tag k: cell i gets the tag's place in the memory of step i, from those of its child steps, which are lower.
-fn tag_clear(
-    run: &[u16],
-    masks: &[u16; STEPS],
-    forgets: &[u16; STEPS],
-    cells: &mut [u16],
-    n: u16,
-    k: u16,
-) -> bool
-    requires { Placed (decode_steps run.now) n × (k < max_tags) × (n ≤ length cells.old) }
-    ensures { (A : Automaton) → Noted A (decode_steps run.now) n masks.now forgets.now → result ≡ all_below (length (decode_steps run.now)) (tag_clear? A (decode_steps run.now) k) }
+// 24 for the tag: cell i gets the tag's place in the memory of step i, from those of its child steps, which are lower.
+fn tag_clear(run: &[u16], notes: &[Tags; STEPS], cells: &mut [u16], n: u16, tag: Tag) -> bool
+    requires { Placed (decode_steps run.now) n × (n ≤ length cells.old) }
+    ensures { (A : Automaton) → Noted A (decode_steps run.now) n notes.now → result ≡ all_below (length (decode_steps run.now)) (tag_clear? A (decode_steps run.now) tag.k) }
 {
-    let mut i = 0;
-    while i < n {
-        let at = size(i);
+    for i in 0..n {
+        let at = usize::from(i);
         let j = from_children(run, cells, Step(i));
-        let after = left(j, forgets[at], masks[at], row(run, Step(i)), k);
-        i += 1;
-        if !after.clear {
+        let Some(place) = left(j, notes[at], row(run, Step(i)), tag) else {
             return false;
-        }
-        let p = after.place;
-        cells[at] = p.0;
+        };
+        cells[at] = place.0;
     }
     true
 }
@@ -173,15 +145,11 @@ fn tags_clear(set: &[u8], run: &[u16], n: u16, tags: u16) -> bool
     requires { Placed (decode_steps run.now) n × (tags ≡ (decode set.now).tags) × (tags ≤ max_tags) }
     ensures { result ≡ one_row_by_tag? (decode set.now) (decode_steps run.now) }
 {
-    let mut masks = [0u16; STEPS];
-    let mut forgets = [0u16; STEPS];
+    let mut notes = [NO_TAGS; STEPS];
     let mut cells = [0u16; STEPS];
-    note(set, run, n, &mut masks, &mut forgets);
-    let mut k = 0;
-    while k < tags {
-        if tag_clear(run, &masks, &forgets, &mut cells, n, k) {
-            k += 1;
-        } else {
+    note(set, run, n, &mut notes);
+    for k in 0..tags {
+        if !tag_clear(run, &notes, &mut cells, n, Tag { k }) {
             return false;
         }
     }

@@ -8,8 +8,7 @@ ghost use Rattle.runs.specs.Fields.{step_numbers, field_cells};
 
 use automaton::{State, rule_target};
 use base::limits::{MAX_CHILDREN, PLACES, UNUSED};
-use base::numbers::size;
-use base::space::put_cells;
+use base::space::put;
 use document::rows::{Row, Step};
 
 // A step by value; an unused place holds UNUSED.
@@ -33,17 +32,14 @@ pub fn count(run: &[u16]) -> usize
 fn cell(run: &[u16], i: Step, k: u16) -> u16
     ensures { result ≡ cell_in run.now i.0 k }
 {
-    let at = size(i.0) * STEP_CELLS + size(k);
-    if at < run.len() {
-        return run[at];
-    }
-    0
+    let at = usize::from(i.0) * STEP_CELLS + usize::from(k);
+    run.get(at).copied().unwrap_or(0)
 }
 
 pub fn rule(run: &[u16], i: Step) -> u16
     ensures { result ≡ (step_at (decode_steps run.now) i.0).rule }
 {
-    if size(i.0) < count(run) {
+    if usize::from(i.0) < count(run) {
         return cell(run, i, 0);
     }
     0
@@ -52,13 +48,13 @@ pub fn rule(run: &[u16], i: Step) -> u16
 pub fn row(run: &[u16], i: Step) -> Row
     ensures { result.0 ≡ (step_at (decode_steps run.now) i.0).row }
 {
-    if size(i.0) < count(run) {
+    if usize::from(i.0) < count(run) {
         return Row(cell(run, i, 1));
     }
     Row(0)
 }
 
-// Place k of step i: a child step's number, or UNUSED.
+// Place k of step i: a child step's number, or UNUSED. It is no Option, since the clause says the number that the cell holds.
 pub fn place(run: &[u16], i: Step, k: u16) -> Step
     ensures { result.0 ≡ place_in run.now i.0 k }
 {
@@ -101,5 +97,5 @@ pub fn put_step(out: &mut [u16], i: Step, f: StepFields)
         places[2].0,
         places[3].0,
     ];
-    put_cells(out, size(i.0) * STEP_CELLS, &cells);
+    put(out, usize::from(i.0) * STEP_CELLS, &cells);
 }

@@ -1,30 +1,42 @@
-// The run check's tests 21 to 23, 25 and 26, each over the whole run.
-ghost use Rattle.std.specs.Prelude.{◌≡◌, ◌-◌, length};
+// The run check's tests 21 to 26, each over the whole run.
+ghost use Rattle.std.specs.Prelude.{◌≡◌, true, ◌-◌, length, is_some, IfSome};
 ghost use Rattle.model.specs.Limits.{max_children};
 ghost use Rattle.model.specs.Lists.{all_below};
 ghost use Rattle.model.specs.WrittenTest.{known?, place_fits?, step_fits?, ends?, used?};
+ghost use Rattle.base.specs.Refusals.{refused_by};
 ghost use Rattle.automaton.specs.Stored.{decode};
-ghost use Rattle.document.specs.Rows.{used, decode_rows};
-ghost use Rattle.document.specs.Marks.{Marked};
+ghost use Rattle.document.specs.Rows.{decode_rows};
+ghost use Rattle.document.specs.Check.{document_check_of};
 ghost use Rattle.runs.specs.Steps.{place_in, decode_steps};
-ghost use Rattle.runs.specs.Fields.{step_numbers};
-ghost use Rattle.runs.specs.Check.{counted?};
-ghost use Rattle.runs.specs.Passes.{Counted, Known, Ready};
+ghost use Rattle.runs.specs.Check.{counted?, run_check_of};
 
+use crate::memories::one_row;
 use crate::steps::{STEP_CELLS, count, place, places, row, rule, target};
 use automaton::{header, is_final, rule_child, rule_symbol};
-use base::limits::{MAX_CHILDREN, MAX_STEPS, PLACES, UNUSED};
-use base::numbers::size;
-use document::marks::{all_marked, set_mark};
+use base::limits::{MAX_CHILDREN, MAX_STEPS, UNUSED};
+use base::refusal::Refusal;
+use document::marks::{all_marked, mark};
 use document::rows;
 use document::rows::Step;
 
-// 21: 1 to 4,096 steps, none cut short.
-pub(crate) fn counted(run: &[u16]) -> bool
-    ensures { result ≡ counted? run.now }
-{
-    let n = count(run);
-    (1 <= n) & ((n <= MAX_STEPS as usize) & (run.len() % STEP_CELLS == 0))
+// A sound set and a sound table, and a run that passed 21, with its number of steps.
+#[derive(Clone, Copy)]
+pub(crate) struct CountedRun<'a> {
+    set: &'a [u8],
+    rows: &'a [u16],
+    run: &'a [u16],
+    n: u16,
+    ghost sound: { document_check_of set.now rows.now ≡ 0 },
+    ghost counted: { counted? run.now ≡ true },
+    ghost steps: { n ≡ length (decode_steps run.now) },
+}
+
+// One of its steps, whose rule and row are known.
+#[derive(Clone, Copy)]
+struct KnownStep<'a> {
+    of: CountedRun<'a>,
+    i: Step,
+    ghost known: { known? (decode of.set.now) (decode_rows of.rows.now) (decode_steps of.run.now) i.0 ≡ true },
 }
 
 // 22 at step i.
@@ -33,122 +45,130 @@ fn step_known(set: &[u8], rows: &[u16], run: &[u16], i: Step) -> bool
 {
     let h = header(set);
     let on = row(run, i);
-    (rule(run, i) < h.rules) & (size(on.0) < rows::count(rows))
+    (rule(run, i) < h.rules) & (usize::from(on.0) < rows::count(rows))
 }
 
-pub(crate) fn all_known(set: &[u8], rows: &[u16], run: &[u16], n: u16) -> bool
-    requires { n ≡ length (decode_steps run.now) }
-    ensures { result ≡ all_below (length (decode_steps run.now)) (known? (decode set.now) (decode_rows rows.now) (decode_steps run.now)) }
-{
-    let mut i = 0;
-    while i < n {
-        if step_known(set, rows, run, Step(i)) {
-            i += 1;
-        } else {
+impl<'a> KnownStep<'a> {
+    // 23 at place k: a lower step for the child that the row has there, in the state that the rule asks.
+    fn place_fits(&self, k: u16) -> bool
+        ensures { result ≡ place_fits? (decode self.now.of.set.now) (decode_rows self.now.of.rows.now) (decode_steps self.now.of.run.now) self.now.i.0 k (place_in self.now.of.run.now self.now.i.0 k) }
+    {
+        let run = self.of.run;
+        let i = self.i;
+        let x = place(run, i, k);
+        let child = rows::place(self.of.rows, row(run, i), k);
+        if child.0 == UNUSED {
+            return x.0 == UNUSED;
+        }
+        if i.0 <= x.0 {
             return false;
         }
+        let on = row(run, x);
+        let q = target(self.of.set, run, x);
+        let asked = rule_child(self.of.set, rule(run, i), k);
+        (on.0 == child.0) & (q.0 == asked.0)
     }
-    true
-}
 
-// 23 at place k of step i: a lower step for the child that the row has there, in the state that the rule asks.
-fn place_fits(set: &[u8], rows: &[u16], run: &[u16], i: Step, k: u16) -> bool
-    requires { Known set.now rows.now run.now i.0 }
-    ensures { result ≡ place_fits? (decode set.now) (decode_rows rows.now) (decode_steps run.now) i.0 k (place_in run.now i.0 k) }
-{
-    let x = place(run, i, k);
-    let child = rows::place(rows, row(run, i), k);
-    if child.0 == UNUSED {
-        return x.0 == UNUSED;
+    fn places_fit(&self) -> bool
+        ensures { result ≡ all_below max_children (λ k. place_fits? (decode self.now.of.set.now) (decode_rows self.now.of.rows.now) (decode_steps self.now.of.run.now) self.now.i.0 k (place_in self.now.of.run.now self.now.i.0 k)) }
+    {
+        (0..MAX_CHILDREN).all(|k| self.place_fits(k))
     }
-    if i.0 <= x.0 {
-        return false;
-    }
-    let on = row(run, x);
-    let q = target(set, run, x);
-    let asked = rule_child(set, rule(run, i), k);
-    (on.0 == child.0) & (q.0 == asked.0)
-}
 
-fn places_fit(set: &[u8], rows: &[u16], run: &[u16], i: Step) -> bool
-    requires { Known set.now rows.now run.now i.0 }
-    ensures { result ≡ all_below max_children (λ k. place_fits? (decode set.now) (decode_rows rows.now) (decode_steps run.now) i.0 k (place_in run.now i.0 k)) }
-{
-    let n = MAX_CHILDREN;
-    let mut k = 0;
-    while k < n {
-        if place_fits(set, rows, run, i, k) {
-            k += 1;
-        } else {
-            return false;
+    // 23 at the step.
+    fn fits(&self) -> bool
+        ensures { result ≡ step_fits? (decode self.now.of.set.now) (decode_rows self.now.of.rows.now) (decode_steps self.now.of.run.now) (place_in self.now.of.run.now) self.now.i.0 }
+    {
+        let on = row(self.of.run, self.i);
+        if rule_symbol(self.of.set, rule(self.of.run, self.i)) == rows::symbol(self.of.rows, on) {
+            return self.places_fit();
         }
+        false
     }
-    true
 }
 
-// 23 at step i.
-fn step_fits(set: &[u8], rows: &[u16], run: &[u16], i: Step) -> bool
-    requires { Known set.now rows.now run.now i.0 }
-    ensures { result ≡ step_fits? (decode set.now) (decode_rows rows.now) (decode_steps run.now) (place_in run.now) i.0 }
-{
-    if rule_symbol(set, rule(run, i)) == rows::symbol(rows, row(run, i)) {
-        return places_fit(set, rows, run, i);
-    }
-    false
-}
-
-pub(crate) fn all_fit(set: &[u8], rows: &[u16], run: &[u16], n: u16) -> bool
-    requires { Ready set.now rows.now run.now n }
-    ensures { result ≡ all_below (length (decode_steps run.now)) (step_fits? (decode set.now) (decode_rows rows.now) (decode_steps run.now) (place_in run.now)) }
-{
-    let mut i = 0;
-    while i < n {
-        if step_fits(set, rows, run, Step(i)) {
-            i += 1;
-        } else {
-            return false;
+impl<'a> CountedRun<'a> {
+    // 21: 1 to 4,096 steps, none cut short.
+    pub(crate) fn counted(set: &'a [u8], rows: &'a [u16], run: &'a [u16]) -> Option<CountedRun<'a>>
+        requires { document_check_of set.now rows.now ≡ 0 }
+        ensures told { is_some result ≡ counted? run.now }
+        ensures same { IfSome result (λ c. (c.set.now ≡ set.now) × (c.rows.now ≡ rows.now) × (c.run.now ≡ run.now)) }
+    {
+        let n = count(run);
+        if (1 <= n) & ((n <= usize::from(MAX_STEPS)) & (run.len() % STEP_CELLS == 0)) {
+            return Some(CountedRun {
+                set,
+                rows,
+                run,
+                n: n as u16,
+            });
         }
+        None
     }
-    true
-}
 
-// 25: the last step is on the last row, in a final state.
-pub(crate) fn ends(set: &[u8], rows: &[u16], run: &[u16], n: u16) -> bool
-    requires { Ready set.now rows.now run.now n }
-    ensures { result ≡ ends? (decode set.now) (decode_rows rows.now) (decode_steps run.now) }
-{
-    let last = Step(n - 1);
-    let on = row(run, last);
-    (size(on.0) == rows::count(rows) - 1) & is_final(set, target(set, run, last))
-}
+    fn all_known(&self) -> bool
+        ensures { result ≡ all_below (length (decode_steps self.now.run.now)) (known? (decode self.now.set.now) (decode_rows self.now.rows.now) (decode_steps self.now.run.now)) }
+    {
+        (0..self.n).all(|i| step_known(self.set, self.rows, self.run, Step(i)))
+    }
 
-// Marks each of the places of step j, up to the first unused one, that is lower than j.
-fn mark(marks: &mut [bool], j: Step, places: [Step; PLACES])
-    ensures { Marked j.0 (used (step_numbers places)) marks.old marks.new }
-{
-    let mut k = 0;
-    while k < PLACES {
-        let x = places[k];
-        k += 1;
-        if x.0 == UNUSED {
-            return;
+    fn all_fit(&self) -> bool
+        requires { all_below self.now.n (known? (decode self.now.set.now) (decode_rows self.now.rows.now) (decode_steps self.now.run.now)) ≡ true }
+        ensures { result ≡ all_below (length (decode_steps self.now.run.now)) (step_fits? (decode self.now.set.now) (decode_rows self.now.rows.now) (decode_steps self.now.run.now) (place_in self.now.run.now)) }
+    {
+        for i in 0..self.n {
+            let step = KnownStep {
+                of: *self,
+                i: Step(i),
+            };
+            if !step.fits() {
+                return false;
+            }
         }
-        if x.0 < j.0 {
-            set_mark(marks, size(x.0));
-        }
+        true
     }
-}
 
-// 26: one pass marks what every step uses, then every step but the last must be marked.
-pub(crate) fn all_used(run: &[u16], n: u16) -> bool
-    requires { Counted (decode_steps run.now) n }
-    ensures { result ≡ all_below (length (decode_steps run.now) - 1) (used? (decode_steps run.now)) }
-{
-    let mut marks = [false; MAX_STEPS as usize];
-    let mut j = 0;
-    while j < n {
-        mark(&mut marks, Step(j), places(run, Step(j)));
-        j += 1;
+    // 25: the last step is on the last row, in a final state.
+    fn ends(&self) -> bool
+        requires { all_below self.now.n (known? (decode self.now.set.now) (decode_rows self.now.rows.now) (decode_steps self.now.run.now)) ≡ true }
+        ensures { result ≡ ends? (decode self.now.set.now) (decode_rows self.now.rows.now) (decode_steps self.now.run.now) }
+    {
+        let last = Step(self.n - 1);
+        let on = row(self.run, last);
+        (usize::from(on.0) == rows::count(self.rows) - 1)
+            & is_final(self.set, target(self.set, self.run, last))
     }
-    all_marked(&marks, n - 1)
+
+    // 26: one pass marks what every step uses, then every step but the last must be marked.
+    fn all_used(&self) -> bool
+        ensures { result ≡ all_below (length (decode_steps self.now.run.now) - 1) (used? (decode_steps self.now.run.now)) }
+    {
+        let mut marks = [false; MAX_STEPS as usize];
+        for j in 0..self.n {
+            mark(&mut marks, Step(j), &places(self.run, Step(j)));
+        }
+        all_marked(&marks, self.n - 1)
+    }
+
+    // 22 to 26, each over the whole run before the next.
+    pub(crate) fn tried(&self) -> Result<(), Refusal>
+        ensures { refused_by result ≡ run_check_of (decode self.now.set.now) (decode_rows self.now.rows.now) self.now.run.now }
+    {
+        if !self.all_known() {
+            return Err(Refusal::StepUnknown);
+        }
+        if !self.all_fit() {
+            return Err(Refusal::StepMisfit);
+        }
+        if !one_row(self.set, self.run, self.n) {
+            return Err(Refusal::RunTag);
+        }
+        if !self.ends() {
+            return Err(Refusal::RunEnd);
+        }
+        if !self.all_used() {
+            return Err(Refusal::StepUnused);
+        }
+        Ok(())
+    }
 }

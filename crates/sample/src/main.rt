@@ -2,12 +2,11 @@
 #![tactic(auto)]
 
 use console::{INPUT, OUTPUT};
-use stream::Received;
 
 fn main(rt: HostRuntime) {
     let mut input = [0u8; INPUT];
     let mut output = [0u8; OUTPUT];
-    let Received::Whole(n) = stream::receive(&mut rt.stdin(), &mut input) else {
+    let Ok(n) = stream::receive(&mut rt.stdin(), &mut input) else {
         let _ = rt.eprintln("sample: the input could not be read to its end");
         return;
     };

@@ -161,5 +161,3 @@ pub hex_start : (n : ℕ) (p : Piece) → Holds p (hex_digits 16 n) → (0 < p.s
 hex_start n p h = let a = hex_length 16 n in let s = h.size in (omega arith, omega arith)
 
 pub ruleset digits = (digits_none, digits_room, digits_more, digits_all, rules)
-
-pub ruleset hexes = (hex_none, hex_room, hex_more, hex_all, rules)

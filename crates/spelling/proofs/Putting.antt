@@ -20,7 +20,7 @@ use Rattle.spelling.specs.Rows.{SoundCells, row_text, list_text}
 use Rattle.spelling.specs.Parts.{text_of, Holds, Wrote}
 use Rattle.spelling.proofs.Pieces.{text_put}
 use Rattle.spelling.proofs.Texts.{no_children_lem, some_children, below, behind, row_text_lem, leaf_text, list_text_lem}
-use Rattle.spelling.proofs.Summing.{place_in_use, rest_none}
+use Rattle.spelling.proofs.Summing.{place_in_use}
 
 -- b behind a is a ++ b
 put_more : (d : List ℕ) (at : ℕ) (a b : List ℕ) → at + length a + length b ≤ length d → put_at (put_at d at a) (at + length a) b ≡ put_at d at (a ++ b)
@@ -151,18 +151,18 @@ module _ (text : ℕ → List ℕ) (cells : List ℕ) (i : ℕ) (d : List ℕ) (
   pub list_none : SoundCells cells → i < row_count cells → at + length (list_text text 40 (row_in cells i).children) ≤ length d → Listing text cells i d at 40 0 at d
   list_none s l fits = let e = rest_first cells i in record { written = subst (λ cs. Written d at whole (list_text text 40 cs) at d) e (written_none d at whole fits); lower = subst (λ cs. (j : ℕ) → In j cs → j < i) e (below cells s i l) }
 
+  module _ (lead k p : ℕ) (now : List ℕ) (h : Listing text cells i d at lead k p now) (none : rest_in cells i k ≡ []) where
+    ending : Written d at whole ((41 ∷ []) ++ []) p now
+    unfolding list_text
+    ending = subst (λ cs. Written d at whole (list_text text lead cs) p now) none h.written
+
+    pub list_end_room : p < length now
+    list_end_room = let r = written_room d at whole (41 ∷ []) [] p now ending in omega arith
+
+    pub list_end : (r : ℕ) (new : List ℕ) → Wrote now p (41 ∷ []) new r → Wrote d at (list_text text 40 (row_in cells i).children) new r
+    list_end r new w = written_all d at whole r new (written_more d at whole (41 ∷ []) [] p now ending r new w)
+
   module _ (lead k p : ℕ) (now : List ℕ) (h : Listing text cells i d at lead k p now) (x : ℕ) (e : x ≡ place_in cells i k) where
-    module _ (u : x ≡ unused) where
-      ending : Written d at whole ((41 ∷ []) ++ []) p now
-      unfolding list_text
-      ending = subst (λ cs. Written d at whole (list_text text lead cs) p now) (rest_none cells i k x e u) h.written
-
-      pub list_end_room : p < length now
-      list_end_room = let r = written_room d at whole (41 ∷ []) [] p now ending in omega arith
-
-      pub list_end : (r : ℕ) (new : List ℕ) → Wrote now p (41 ∷ []) new r → Wrote d at (list_text text 40 (row_in cells i).children) new r
-      list_end r new w = written_all d at whole r new (written_more d at whole (41 ∷ []) [] p now ending r new w)
-
     module _ (u : x ≡ unused → ⊥) where
       abbrev left : List ℕ
       left = list_text text 44 (rest_in cells i (k + 1))

@@ -14,8 +14,7 @@ use Rattle.model.specs.Limits.{max_children, max_rows, unused}
 use Rattle.document.specs.Rows.{row_in}
 use Rattle.document.specs.Check.{row_count, place_in}
 use Rattle.document.proofs.Places.{place_past, rest_in, rest_first, rest_last, rest_stop, rest_more}
-use Rattle.spelling.specs.declared.lengths.Length.{Length}
-use Rattle.spelling.specs.declared.lengths.Length.TheVariants.{Fits, Over}
+use Rattle.std.specs.Prelude.{Option, Some, None}
 use Rattle.spelling.specs.declared.piece.Piece.{Piece}
 use Rattle.spelling.specs.Text.{scalar_text}
 use Rattle.spelling.specs.Rows.{SoundCells, row_text, list_length, behind_length, row_length, within}
@@ -24,30 +23,30 @@ use Rattle.spelling.proofs.Texts.{no_children_lem, some_children, some_rows, few
 
 -- a length and the space
 module _ (space n : ℕ) where
-  pub fits : n ≤ space → Fits n ≡ within space n
+  pub fits : n ≤ space → Some n ≡ within space n
   unfolding within
   fits l = rw (le-leb _ _ l)
 
-  pub over : space < n → Over ≡ within space n
+  pub over : space < n → None ≡ within space n
   unfolding within
   over l = rw (lt-leb _ _ l)
 
-  pub is_over : (r : Length) → r ≡ within space n → r ≡ Over → space < n
+  pub is_over : (r : Option ℕ) → r ≡ within space n → r ≡ None → space < n
   unfolding within
   is_over r e f = go (leb n space) refl (sym e ∙ f)
     where
-      use_false : Fits n ≡ Over → ⊥
+      use_false : Some n ≡ None → ⊥
       use_false g = let z : ◌≡◌ {A = ℕ} 0 1 = cc in omega arith
 
-      go : (b : Bool) → leb n space ≡ b → cond b (Fits n) Over ≡ Over → space < n
+      go : (b : Bool) → leb n space ≡ b → cond b (Some n) None ≡ None → space < n
       go true q g = absurd (use_false g)
       go false q g = leb-false n space q
 
-  pub is_fits : (r : Length) (m : ℕ) → r ≡ within space n → r ≡ Fits m → (m ≡ n) × (n ≤ space)
+  pub is_fits : (r : Option ℕ) (m : ℕ) → r ≡ within space n → r ≡ Some m → (m ≡ n) × (n ≤ space)
   unfolding within
   is_fits r m e f = go (leb n space) refl (sym e ∙ f)
     where
-      go : (b : Bool) → leb n space ≡ b → cond b (Fits n) Over ≡ Fits m → (m ≡ n) × (n ≤ space)
+      go : (b : Bool) → leb n space ≡ b → cond b (Some n) None ≡ Some m → (m ≡ n) × (n ≤ space)
       go true q g = (cc, leb-true n space q)
       go false q g = let z : ◌≡◌ {A = ℕ} 0 1 = cc in absurd (omega arith)
 
@@ -74,15 +73,15 @@ module _ (cells lengths : List ℕ) (i first : ℕ) where
   pub summed_none : Summed cells lengths i first first 0
   summed_none = record { so_far = ap (λ cs. first + list_length lengths cs) (sym (rest_first cells i)) }
 
-  module _ (n k x : ℕ) (h : Summed cells lengths i first n k) (e : x ≡ place_in cells i k) where
-    pub summed_end : (space : ℕ) (r : Length) → x ≡ unused → r ≡ within space (n + 1 + 0) → r ≡ within space (first + list_length lengths (row_in cells i).children)
-    unfolding list_length
-    summed_end space r u f = f ∙ ap (within space) (whole ∙ h.so_far)
-      where
-        whole : n + 1 + 0 ≡ n + list_length lengths (rest_in cells i k)
-        whole = rw (rest_none cells i k x e u) (omega arith)
+  pub summed_end : (n k : ℕ) → Summed cells lengths i first n k → rest_in cells i k ≡ [] → (space : ℕ) (r : Option ℕ) → r ≡ within space (n + 1 + 0) → r ≡ within space (first + list_length lengths (row_in cells i).children)
+  unfolding list_length
+  summed_end n k h none space r f = f ∙ ap (within space) (whole ∙ h.so_far)
+    where
+      whole : n + 1 + 0 ≡ n + list_length lengths (rest_in cells i k)
+      whole = rw none (omega arith)
 
-    module _ (u : x ≡ unused → ⊥) (y space : ℕ) (r : Length) (d : y ≡ get_or lengths x 0) (f : r ≡ within space (n + 1 + y)) where
+  module _ (n k x : ℕ) (h : Summed cells lengths i first n k) (e : x ≡ place_in cells i k) where
+    module _ (u : x ≡ unused → ⊥) (y space : ℕ) (r : Option ℕ) (d : y ≡ get_or lengths x 0) (f : r ≡ within space (n + 1 + y)) where
       step : n + 1 + y + list_length lengths (rest_in cells i (k + 1)) ≡ first + list_length lengths (row_in cells i).children
       unfolding list_length
       step =
@@ -90,14 +89,14 @@ module _ (cells lengths : List ℕ) (i first : ℕ) where
           let b = h.so_far in
           omega arith
 
-      pub summed_over : r ≡ Over → Over ≡ within space (first + list_length lengths (row_in cells i).children)
+      pub summed_over : r ≡ None → None ≡ within space (first + list_length lengths (row_in cells i).children)
       summed_over o = let a = is_over space (n + 1 + y) r f o in let b = step in over space (first + list_length lengths (row_in cells i).children) (omega arith)
 
-      pub summed_more : (m : ℕ) → r ≡ Fits m → Summed cells lengths i first m (k + 1)
+      pub summed_more : (m : ℕ) → r ≡ Some m → Summed cells lengths i first m (k + 1)
       summed_more m o = let a = is_fits space (n + 1 + y) r m f o in record { so_far = rw a.0 step }
 
 -- a row: its name, then its scalar or its children
-module _ (name : ℕ → List ℕ) (cells lengths : List ℕ) (i n c space : ℕ) (r : Length) (a : n ≡ length (name (row_in cells i).symbol)) (e : c ≡ place_in cells i 0) where
+module _ (name : ℕ → List ℕ) (cells lengths : List ℕ) (i n c space : ℕ) (r : Option ℕ) (a : n ≡ length (name (row_in cells i).symbol)) (e : c ≡ place_in cells i 0) where
   pub leaf_length : (p : Piece) (m : ℕ) → c ≡ unused → Holds p (scalar_text (row_in cells i).kind (row_in cells i).payload) → m ≡ piece_bytes - p.start → r ≡ within space (n + m + 0)
       → r ≡ within space (row_length name lengths cells i)
   unfolding row_length
@@ -128,15 +127,15 @@ module _ (name : ℕ → List ℕ) (cells : List ℕ) (space : ℕ) (s : SoundCe
   pub lengths_none : Lengths name cells space (replicate max_rows 0) 0
   lengths_none = record { long = length-replicate {A = ℕ} max_rows 0; so_far = λ j l. let z : ⊥ = omega arith in absurd z; fit = λ j l. let z : ⊥ = omega arith in absurd z }
 
-  module _ (lengths : List ℕ) (i : ℕ) (h : Lengths name cells space lengths i) (l : i < row_count cells) (r : Length) (f : r ≡ within space (row_length name lengths cells i)) where
-    pub lengths_over : r ≡ Over → Over ≡ within space (length (row_text name cells (row_count cells - 1)))
+  module _ (lengths : List ℕ) (i : ℕ) (h : Lengths name cells space lengths i) (l : i < row_count cells) (r : Option ℕ) (f : r ≡ within space (row_length name lengths cells i)) where
+    pub lengths_over : r ≡ None → None ≡ within space (length (row_text name cells (row_count cells - 1)))
     lengths_over o =
         let a = is_over space (row_length name lengths cells i) r f o in
         let b = row_long cells s name lengths i l h.so_far in
         let c = no_longer cells s name i l in
         over space (length (row_text name cells (row_count cells - 1))) (omega arith)
 
-    pub lengths_more : (m : ℕ) → r ≡ Fits m → Lengths name cells space (set lengths i m) (i + 1)
+    pub lengths_more : (m : ℕ) → r ≡ Some m → Lengths name cells space (set lengths i m) (i + 1)
     lengths_more m o =
         let a = is_fits space (row_length name lengths cells i) r m f o in
         let b = row_long cells s name lengths i l h.so_far in
@@ -149,10 +148,10 @@ module _ (name : ℕ → List ℕ) (cells : List ℕ) (space : ℕ) (s : SoundCe
           fit = below_more (λ j. length (row_text name cells j) ≤ space) i h.fit (omega (arith, a.1));
         }
 
-  pub lengths_all : (lengths : List ℕ) (i n x : ℕ) → Lengths name cells space lengths i → n ≡ row_count cells → n ≤ i → x ≡ n - 1 → Fits (get_or lengths x 0) ≡ within space (length (row_text name cells (row_count cells - 1)))
+  pub lengths_all : (lengths : List ℕ) (i n x : ℕ) → Lengths name cells space lengths i → n ≡ row_count cells → n ≤ i → x ≡ n - 1 → Some (get_or lengths x 0) ≡ within space (length (row_text name cells (row_count cells - 1)))
   lengths_all lengths i n x h e l q =
       let z : x ≡ row_count cells - 1 = omega arith in
       let a : row_count cells - 1 < i = omega (arith, some_rows cells s) in
-      ap Fits (ap (λ k. get_or lengths k 0) z ∙ h.so_far (row_count cells - 1) a) ∙ fits space (length (row_text name cells (row_count cells - 1))) (h.fit (row_count cells - 1) a)
+      ap Some (ap (λ k. get_or lengths k 0) z ∙ h.so_far (row_count cells - 1) a) ∙ fits space (length (row_text name cells (row_count cells - 1))) (h.fit (row_count cells - 1) a)
 
-pub ruleset summing = (summed_none, summed_end, summed_over, summed_more, rules)
+pub ruleset summing = (summed_none, rules)

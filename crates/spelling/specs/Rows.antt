@@ -1,11 +1,9 @@
 -- The text of a table's rows, and its length row by row. Assumes nothing.
-use Rattle.std.specs.Prelude.{List, [], ◌∷◌, ◌++◌, cond, ℕ, ◌+◌, leb, length, get_or}
+use Rattle.std.specs.Prelude.{List, [], ◌∷◌, ◌++◌, cond, ℕ, ◌+◌, leb, length, get_or, Option, Some, None}
 use Rattle.model.specs.Automaton.{Automaton}
 use Rattle.model.specs.Table.{Row, tree_at, SoundTable}
 use Rattle.document.specs.Rows.{row_in, decode_rows}
 use Rattle.spelling.specs.Text.{scalar_text, term_text}
-use Rattle.spelling.specs.declared.lengths.Length.{Length}
-use Rattle.spelling.specs.declared.lengths.Length.TheVariants.{Fits, Over}
 
 -- the cells are a sound table of some set
 pub record SoundCells (cells : List ℕ) : Type 0 where
@@ -36,5 +34,5 @@ unfoldable pub row_length : (ℕ → List ℕ) → List ℕ → List ℕ → ℕ
 row_length name lengths cells i = length (name (row_in cells i).symbol) + behind_length lengths (row_in cells i) (row_in cells i).children
 
 -- a length that is at most that of the space
-unfoldable pub within : ℕ → ℕ → Length
-within space n = cond (leb n space) (Fits n) Over
+unfoldable pub within : ℕ → ℕ → Option ℕ
+within space n = cond (leb n space) (Some n) None

@@ -1,5 +1,5 @@
 -- Writing a table as text against a stored set and two name lists. Assumes nothing.
-use Rattle.std.specs.Prelude.{◌≡◌, List, ◌++◌, cond, ℕ, zero, suc, leb, length, drop}
+use Rattle.std.specs.Prelude.{◌≡◌, List, ◌++◌, cond, ℕ, zero, suc, leb, length, drop, Result}
 use Rattle.model.specs.Refusal.{Answer, gives, refuses, answer_map}
 use Rattle.model.specs.Table.{tree_of}
 use Rattle.automaton.specs.Stored.{decode}
@@ -9,8 +9,8 @@ use Rattle.names.specs.Check.{names_check_of}
 use Rattle.document.specs.Rows.{decode_rows}
 use Rattle.document.specs.Check.{table_check_of}
 use Rattle.spelling.specs.Text.{term_text}
-use Rattle.spelling.specs.declared.TermWritten.{TermWritten}
-use Rattle.spelling.specs.declared.TermWritten.TheVariants.{Bytes, Refused}
+use Rattle.base.specs.Refusals as refusals
+use Rattle.base.specs.declared.refusal.Refusal.{Refusal}
 
 -- 68: the text is at most as long as the space
 unfoldable pub fitted : ℕ → List ℕ → Answer (List ℕ)
@@ -33,9 +33,8 @@ write_of set site built_in cells space =
     (unless_refused (table_check_of (decode set) cells) (fitted space (table_text site built_in cells))))
 
 -- what writing answers: a number of bytes, or a refusal by its number
-abbrev pub write_answer : TermWritten → Answer ℕ
-write_answer (Bytes n) = gives n
-write_answer (Refused n) = refuses n
+abbrev pub write_answer : Result ℕ Refusal → Answer ℕ
+write_answer = refusals.answer (λ n. n)
 
 -- what lies in the lent space afterwards: the text goes to its front, a refusal writes nothing
 abbrev pub space_after : Answer (List ℕ) → List ℕ → List ℕ
@@ -43,6 +42,6 @@ space_after (gives text) space = text ++ drop (length text) space
 space_after (refuses n) space = space
 
 -- an answer, and the space after it
-pub record Answers (w : Answer (List ℕ)) (r : TermWritten) (before after : List ℕ) : Type 0 where
+pub record Answers (w : Answer (List ℕ)) (r : Result ℕ Refusal) (before after : List ℕ) : Type 0 where
   pub answer : write_answer r ≡ answer_map length w
   pub space : after ≡ space_after w before

@@ -7,65 +7,45 @@ ghost use Rattle.document.specs.Check.{row_count};
 ghost use Rattle.spelling.specs.Rows.{SoundCells, row_text, list_length, row_length, within};
 
 use crate::piece::{PIECE, scalar_at};
-use base::limits::{MAX_ROWS, UNUSED};
+use base::limits::{MAX_CHILDREN, MAX_ROWS, UNUSED};
 use document::rows::{Row, count, place, symbol};
 use names::table::shown_length;
 
 const ROWS: usize = MAX_ROWS as usize;
 
-// A length, where it is at most that of the space.
-#[derive(Clone, Copy)]
-pub(crate) enum Length {
-    Fits(usize),
-    Over,
-}
-
-fn sum(a: usize, b: usize, c: usize, space: usize) -> Length
+// The sum of three lengths, where it is at most that of the space.
+fn sum(a: usize, b: usize, c: usize, space: usize) -> Option<usize>
     ensures { result ≡ within space (a + b + c) }
 {
-    if a > space {
-        return Length::Over;
+    if a > space || b > space - a || c > space - a - b {
+        return None;
     }
-    if b > space - a {
-        return Length::Over;
-    }
-    if c > space - a - b {
-        return Length::Over;
-    }
-    Length::Fits(a + b + c)
+    Some(a + b + c)
 }
 
 fn length_at(lengths: &[usize], i: Row) -> usize
     ensures { result ≡ get_or lengths.now i.0 0 }
 {
-    let at = i.0 as usize;
-    if at < lengths.len() {
-        return lengths[at];
-    }
-    0
+    lengths.get(usize::from(i.0)).copied().unwrap_or(0)
 }
 
 // The children of row i in brackets, after so many bytes.
-fn list_length(rows: &[u16], lengths: &[usize], i: Row, first: usize, space: usize) -> Length
+fn list_length(rows: &[u16], lengths: &[usize], i: Row, first: usize, space: usize) -> Option<usize>
     ensures { result ≡ within space (first + list_length lengths.now (row_in rows.now i.0).children) }
 {
     let mut n = first;
-    let mut k = 0;
-    loop {
+    for k in 0..MAX_CHILDREN {
         let c = place(rows, i, k);
         if c.0 == UNUSED {
-            return sum(n, 1, 0, space);
+            break;
         }
-        let Length::Fits(m) = sum(n, 1, length_at(lengths, c), space) else {
-            return Length::Over;
-        };
-        n = m;
-        k += 1;
+        n = sum(n, 1, length_at(lengths, c), space)?;
     }
+    sum(n, 1, 0, space)
 }
 
 // Row i: its name, then its scalar or its children.
-fn row_length(rows: &[u16], names: &[u8], lengths: &[usize], i: Row, space: usize) -> Length
+fn row_length(rows: &[u16], names: &[u8], lengths: &[usize], i: Row, space: usize) -> Option<usize>
     requires { T (scalar? (row_in rows.now i.0).kind (row_in rows.now i.0).payload) }
     ensures { result ≡ within space (row_length (name_in names.now) lengths.now rows.now i.0) }
 {
@@ -79,19 +59,14 @@ fn row_length(rows: &[u16], names: &[u8], lengths: &[usize], i: Row, space: usiz
 }
 
 // The last row's text. A row that is longer than the space makes the last one so too, since each other row is part of it.
-pub(crate) fn text_length(rows: &[u16], names: &[u8], space: usize) -> Length
+pub(crate) fn text_length(rows: &[u16], names: &[u8], space: usize) -> Option<usize>
     requires { SoundCells rows.now }
     ensures { result ≡ within space (length (row_text (name_in names.now) rows.now (row_count rows.now - 1))) }
 {
     let mut lengths = [0usize; ROWS];
     let n = count(rows);
-    let mut i = 0;
-    while i < n {
-        let Length::Fits(m) = row_length(rows, names, &lengths, Row(i as u16), space) else {
-            return Length::Over;
-        };
-        lengths[i] = m;
-        i += 1;
+    for i in 0..n {
+        lengths[i] = row_length(rows, names, &lengths, Row(i as u16), space)?;
     }
-    Length::Fits(lengths[n - 1])
+    Some(lengths[n - 1])
 }

@@ -18,7 +18,7 @@ pub(crate) const PIECE: usize = 21;
 
 const HEX_DIGITS: usize = 16;
 
-// The text stands from `start` to the end of the bytes.
+// The text stands from `start` to the end of the bytes, in an array, since there is no heap.
 #[derive(Clone, Copy)]
 pub(crate) struct Piece {
     pub(crate) bytes: [u8; PIECE],
@@ -62,7 +62,7 @@ pub(crate) fn decimal_of(n: u64) -> Piece
     let mut p = nothing();
     while rest >= 10 {
         p = before(digit(rest), p);
-        rest = rest / 10;
+        rest /= 10;
     }
     before(digit(rest), p)
 }
@@ -72,12 +72,10 @@ fn hex_of(n: u64) -> Piece
     ensures { Holds result (hex_digits 16 n) }
 {
     let mut rest = n;
-    let mut left = HEX_DIGITS;
     let mut p = nothing();
-    while left > 0 {
+    for _ in 0..HEX_DIGITS {
         p = before(hex_digit(rest % 16), p);
-        rest = rest / 16;
-        left -= 1;
+        rest /= 16;
     }
     p
 }
@@ -97,7 +95,7 @@ fn flag_of(b: bool) -> Piece
     }
 }
 
-// The text of a scalar of a kind (0 bare, 1 flag, 2 count, 3 rate, 4 name) and a payload. A rate's bits become its digits without a choice on their values.
+// The text of a scalar of a kind (0 bare, 1 flag, 2 count, 3 rate, 4 name) and a payload. A rate's bits become its digits without a choice on their values, a rule of this project: so the kind stays a number, since a `Scalar` is asked of a rate whether it is a NaN.
 fn scalar_text(kind: u16, payload: u64) -> Piece
     ensures { Holds result (scalar_text kind payload) }
 {

@@ -1,4 +1,4 @@
-// Terms and argument lists: the two writers call each other, row numbers falling; siblings are a loop.
+// Terms and argument lists: the two writers call each other, row numbers falling; siblings are a loop. Space and place are no struct: it would hold them for one call, and each clause would still tell of both.
 ghost use Rattle.std.specs.Prelude.{[], ◌∷◌, ◌+◌, ◌<◌, ◌≤◌, T, length};
 ghost use Rattle.model.specs.Table.{scalar?};
 ghost use Rattle.names.specs.Table.{name_in};
@@ -9,7 +9,7 @@ ghost use Rattle.spelling.specs.Rows.{SoundCells, row_text, list_text};
 ghost use Rattle.spelling.specs.Parts.{Wrote};
 
 use crate::piece::{put_piece, scalar_at};
-use base::limits::UNUSED;
+use base::limits::{MAX_CHILDREN, UNUSED};
 use document::rows::{Row, place, symbol};
 use names::table::{put_name, shown_length};
 
@@ -65,15 +65,14 @@ fn arguments(rows: &[u16], names: &[u8], i: Row, out: &mut [u8], at: usize) -> u
 {
     let mut p = at;
     let mut lead = b'(';
-    let mut k = 0;
-    loop {
+    for k in 0..MAX_CHILDREN {
         let c = place(rows, i, k);
         if c.0 == UNUSED {
-            return byte(out, p, b')');
+            break;
         }
         p = byte(&mut *out, p, lead);
         p = term(rows, names, c, &mut *out, p);
         lead = b',';
-        k += 1;
     }
+    byte(out, p, b')')
 }

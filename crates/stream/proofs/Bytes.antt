@@ -4,7 +4,6 @@ use Rattle.std.specs.Io.{ReadsAtMost}
 use Rattle.std.specs.Io.KnownBytes.{Consumes, Keeps, ReadConsumes}
 use Rattle.std.proofs.KnownBytes.{Consumes-trans}
 use lib.Seq.{take-add, take-append-le}
-use Rattle.stream.specs.declared.Heard.{Heard}
 use Rattle.stream.specs.Reading.{after_read, HeardOf}
 
 -- no byte taken
@@ -14,9 +13,9 @@ kept (Some x) None p = absurd p
 kept (Some x) (Some y) p = sym p
 
 -- a read into the part behind `done` bytes, which is not empty
-pub heard : {E : Type 0} (old new : Option (List ℕ)) (done : ℕ) (r : Result ℕ E) (h : Heard) (front part rest : List ℕ) → length front ≡ done → 0 < length part
+pub heard : {E : Type 0} (old new : Option (List ℕ)) (done : ℕ) (r : Result ℕ E) (h : Result (Option ℕ) E) (front part rest : List ℕ) → length front ≡ done → 0 < length part
     → ReadsAtMost r part → ReadConsumes old new r part → h ≡ after_read done r → HeardOf old new done h (front ++ (part ++ rest))
-heard {E = E} old new done r h front part rest long room fits bytes e = subst (λ (x : Heard). HeardOf old new done x (front ++ (part ++ rest))) (sym e) (told r fits bytes)
+heard {E = E} old new done r h front part rest long room fits bytes e = subst (λ (x : Result (Option ℕ) E). HeardOf old new done x (front ++ (part ++ rest))) (sym e) (told r fits bytes)
   where
     told : (r : Result ℕ E) → ReadsAtMost r part → ReadConsumes old new r part → HeardOf old new done (after_read done r) (front ++ (part ++ rest))
     told (Ok zero) fits bytes = (kept old new bytes.0, bytes.1 refl room)

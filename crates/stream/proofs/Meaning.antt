@@ -1,41 +1,19 @@
 -- What was heard tells what `read` answered: the input counts as ended at `Ok(0)` alone, as failed at an `Err` alone, and else by as many bytes as came. Assumes nothing.
-use Rattle.std.proofs.Common.{◌≡◌, ℕ, zero, suc, ◌+◌, Result, Ok, Err, refl, sym, ap, subst}
-use Rattle.stream.specs.declared.Heard.{Heard}
-use Rattle.stream.specs.declared.Heard.TheVariants.{Now, Ended, Broken}
+use Rattle.std.proofs.Common.{◌≡◌, ℕ, zero, suc, ◌+◌, Result, Ok, Err, None, Some, refl}
 use Rattle.stream.specs.Reading.{after_read}
 
-abbrev IsNow : Heard → Type 0
-IsNow (Now n) = Unit
-IsNow Ended = ⊥
-IsNow Broken = ⊥
-
-abbrev IsEnded : Heard → Type 0
-IsEnded (Now n) = ⊥
-IsEnded Ended = Unit
-IsEnded Broken = ⊥
-
-abbrev IsBroken : Heard → Type 0
-IsBroken (Now n) = ⊥
-IsBroken Ended = ⊥
-IsBroken Broken = Unit
-
-abbrev bytes_of : Heard → ℕ
-bytes_of (Now n) = n
-bytes_of Ended = 0
-bytes_of Broken = 0
-
 -- a failed read is never the end
-pub ended_only : {E : Type 0} (done : ℕ) (r : Result ℕ E) → after_read done r ≡ Ended → r ≡ Ok 0
+pub ended_only : {E : Type 0} (done : ℕ) (r : Result ℕ E) → after_read done r ≡ Ok None → r ≡ Ok 0
 ended_only done (Ok zero) e = refl
-ended_only done (Ok (suc k)) e = absurd (subst IsEnded (sym e) tt)
-ended_only done (Err x) e = absurd (subst IsEnded (sym e) tt)
+ended_only done (Ok (suc k)) e = cc
+ended_only done (Err x) e = cc
 
-pub failed_only : {E : Type 0} (done : ℕ) (r : Result ℕ E) → after_read done r ≡ Broken → (x : E) × (r ≡ Err x)
-failed_only done (Ok zero) e = absurd (subst IsBroken (sym e) tt)
-failed_only done (Ok (suc k)) e = absurd (subst IsBroken (sym e) tt)
-failed_only done (Err x) e = (x, refl)
+pub failed_only : {E : Type 0} (done : ℕ) (r : Result ℕ E) (x : E) → after_read done r ≡ Err x → r ≡ Err x
+failed_only done (Ok zero) x e = cc
+failed_only done (Ok (suc k)) x e = cc
+failed_only done (Err y) x e = cc
 
-pub more_only : {E : Type 0} (done : ℕ) (r : Result ℕ E) (n : ℕ) → after_read done r ≡ Now n → (k : ℕ) × (r ≡ Ok (suc k)) × (n ≡ done + suc k)
-more_only done (Ok zero) n e = absurd (subst IsNow (sym e) tt)
-more_only done (Ok (suc k)) n e = (k, refl, sym (ap bytes_of e))
-more_only done (Err x) n e = absurd (subst IsNow (sym e) tt)
+pub more_only : {E : Type 0} (done : ℕ) (r : Result ℕ E) (n : ℕ) → after_read done r ≡ Ok (Some n) → (k : ℕ) × (r ≡ Ok (suc k)) × (n ≡ done + suc k)
+more_only done (Ok zero) n e = cc
+more_only done (Ok (suc k)) n e = (k, refl, cc)
+more_only done (Err x) n e = cc

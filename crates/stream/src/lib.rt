@@ -7,35 +7,19 @@ ghost use Rattle.stream.specs.Reading.{after_read, Ahead, Within, HeardOf, Recei
 use std::io;
 use std::io::Read;
 
-// What one answer of `read` means: so many bytes are there now, the input has ended, or the read failed.
-#[derive(Drop)]
-enum Heard {
-    Now(usize),
-    Ended,
-    Broken,
-}
-
-// What was read: all of the input, so many bytes (of a longer input, as many as fill the space), or a part of it, since a read failed.
-#[derive(Drop)]
-pub enum Received {
-    Whole(usize),
-    Failed,
-}
-
-// An answer of `read`, with so many bytes there before and space for no more than `most`.
-fn after(done: usize, most: usize, got: io::Result<usize>) -> Heard
+// What one answer of `read` means: so many bytes are there now, or the input has ended, or the read failed.
+fn after(done: usize, most: usize, got: io::Result<usize>) -> io::Result<Option<usize>>
     requires { (done ≤ most) × IfOk got (λ n. n ≤ most - done) }
     ensures { result ≡ after_read done got }
 {
-    match got {
-        Err(_) => Heard::Broken,
-        Ok(0) => Heard::Ended,
-        Ok(more) => Heard::Now(done + more),
+    match got? {
+        0 => Ok(None),
+        more => Ok(Some(done + more)),
     }
 }
 
 // One read, into the space behind what is there.
-fn hear<R: Read>(input: &mut R, space: &mut [u8], done: usize) -> Heard
+fn hear<R: Read>(input: &mut R, space: &mut [u8], done: usize) -> io::Result<Option<usize>>
     requires { done < length space.old }
     ensures ahead { Ahead done (length space.old) result }
     ensures before { take done space.new ≡ take done space.old }
@@ -46,20 +30,19 @@ fn hear<R: Read>(input: &mut R, space: &mut [u8], done: usize) -> Heard
     after(done, most, got)
 }
 
-// Reads until the input ends, the space is full or a read fails. Which bytes come is the reader's to say, and where it says so they stand at the front of the space; how many of the space are the input's is said here.
-pub fn receive<R: Read>(input: &mut R, space: &mut [u8]) -> Received
+// Reads until the input ends, the space is full or a read fails: how many bytes the whole input has (of a longer one, as many as fill the space), or why only a part of it was read. Which bytes come is the reader's to say, and where it says so they stand at the front of the space; how many of the space are the input's is said here.
+pub fn receive<R: Read>(input: &mut R, space: &mut [u8]) -> io::Result<usize>
     ensures within { Within result space.new }
     ensures bytes { ReceivedOf (R.remaining input.old) (R.remaining input.new) result space.new }
 {
     let mut done = 0;
     while done < space.len() {
-        match hear(input, space, done) {
-            Heard::Now(n) => done = n,
-            Heard::Ended => return Received::Whole(done),
-            Heard::Broken => return Received::Failed,
-        }
+        let Some(n) = hear(input, space, done)? else {
+            return Ok(done);
+        };
+        done = n;
     }
-    Received::Whole(done)
+    Ok(done)
 }
 
 #[cfg(test)]
@@ -90,7 +73,7 @@ mod tests {
     fn an_input_that_ends(rt: HostRuntime) {
         let mut space = [0u8; 4];
         let mut input: &[u8] = b"abc";
-        assert!(rt; matches!(receive(&mut input, &mut space), Received::Whole(3)));
+        assert!(rt; matches!(receive(&mut input, &mut space), Ok(3)));
         assert_eq!(rt; &space, b"abc\0");
     }
 
@@ -98,24 +81,14 @@ mod tests {
     fn an_input_longer_than_the_space(rt: HostRuntime) {
         let mut space = [0u8; 4];
         let mut input: &[u8] = b"abcdef";
-        assert!(rt; matches!(receive(&mut input, &mut space), Received::Whole(4)));
+        assert!(rt; matches!(receive(&mut input, &mut space), Ok(4)));
         assert_eq!(rt; &space, b"abcd");
     }
 
     #[test]
     fn a_read_that_fails(rt: HostRuntime) {
         let mut space = [0u8; 4];
-        assert!(rt;
-            matches!(
-                receive(&mut Failing { left: 3 }, &mut space),
-                Received::Failed
-            )
-        );
-        assert!(rt;
-            matches!(
-                receive(&mut Failing { left: 4 }, &mut space),
-                Received::Whole(4)
-            )
-        );
+        assert!(rt; receive(&mut Failing { left: 3 }, &mut space).is_err());
+        assert!(rt; matches!(receive(&mut Failing { left: 4 }, &mut space), Ok(4)));
     }
 }

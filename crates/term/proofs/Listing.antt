@@ -27,8 +27,10 @@ use Rattle.document.proofs.Numbers.{numbers_set}
 use Rattle.term.specs.Scan.{byte_at, scalar}
 use Rattle.term.specs.Grammar.{Outcome, good, refused, row_of, end_term, with_first, read_args}
 use Rattle.term.specs.State.{Ready, childless, with_child, Held, Says}
-use Rattle.term.specs.declared.reader.TermPart.{TermPart}
-use Rattle.term.specs.declared.reader.TermPart.TheVariants.{Read, Refused}
+use Rattle.std.specs.Prelude.{Result, Ok, Err}
+use Rattle.base.specs.Refusals as refusals
+use Rattle.base.specs.declared.refusal.TextRefusal.{TextRefusal}
+use Rattle.term.specs.declared.reader.TermEnd.{TermEnd}
 use Rattle.term.proofs.Ending.{row_with}
 
 -- one more child goes to the place of its number, among any number of places
@@ -56,13 +58,13 @@ held_more js count j f h l =
     }
 
 -- the end of a term without children
-pub says_childless : (cells slots : List ℕ) (limit : ℕ) (r : TermPart) (arity : ℕ → ℕ) (at next : ℕ) (rows : List Row) (s : ℕ) (v : Scalar) (f : RowFields) → f ≡ childless s v
+pub says_childless : (cells slots : List ℕ) (limit : ℕ) (r : Result TermEnd TextRefusal) (arity : ℕ → ℕ) (at next : ℕ) (rows : List Row) (s : ℕ) (v : Scalar) (f : RowFields) → f ≡ childless s v
     → ((js : List ℕ) → Held js 0 f.places → Says cells slots limit r (end_term arity limit at (row_with f js) next rows)) → Says cells slots limit r (end_term arity limit at (row_of s (scalar (kind_of v) (payload_of v)) []) next rows)
 says_childless cells slots limit r arity at next rows s v f e h =
     subst (λ g. (js : List ℕ) → Held js 0 g.places → Says cells slots limit r (end_term arity limit at (row_with g js) next rows)) e h [] held_none
 
 -- the row of fields whose symbol is s and whose scalar is bare
-pub says_bare : (cells slots : List ℕ) (limit : ℕ) (r : TermPart) (arity : ℕ → ℕ) (at next : ℕ) (rows : List Row) (js : List ℕ) (s : ℕ) (f : RowFields) → f.symbol ≡ s → f.scalar ≡ Bare
+pub says_bare : (cells slots : List ℕ) (limit : ℕ) (r : Result TermEnd TextRefusal) (arity : ℕ → ℕ) (at next : ℕ) (rows : List Row) (js : List ℕ) (s : ℕ) (f : RowFields) → f.symbol ≡ s → f.scalar ≡ Bare
     → Says cells slots limit r (end_term arity limit at (row_with f js) next rows) → Says cells slots limit r (end_term arity limit at (row_of s (scalar 0 0) js) next rows)
 says_bare cells slots limit r arity at next rows js s f a b h =
     subst (λ v. Says cells slots limit r (end_term arity limit at v next rows)) (λ i. row_of (a i) (scalar (kind_of (b i)) (payload_of (b i))) js) h
@@ -110,18 +112,17 @@ abbrev pub Ends : List ℕ → (ℕ → List Row → Outcome ℕ) → Type 0
 Ends t term = (at : ℕ) (rows : List Row) → length t ≤ at → term at rows ≡ refused 63 at
 
 -- an answer that says what was read
-pub said : (cells slots : List ℕ) (limit : ℕ) (r : TermPart) (o : Outcome ℕ) → Says cells slots limit r o → (j : number.Row) (next n : ℕ) → r ≡ Read j next n → (o ≡ good j.0 next (rows_below cells n)) × Ready cells slots n limit
-said cells slots limit r (good k p rows) h j next n q =
-    let e : Read j next n ≡ Read (as_row k) p (length rows) = sym q ∙ h.0 in
-    let a : j ≡ as_row k = cc in
-    let b : next ≡ p = cc in
-    let c : n ≡ length rows = cc in
-    (sym ((λ i. good (a i).0 (b i) (rows_below cells (c i))) ∙ ap (good k p) (sym h.1)), subst (λ m. Ready cells slots m limit) (sym c) h.2)
-said cells slots limit r (refused w p) h j next n q = let e : Read j next n ≡ Refused w p = sym q ∙ h in let z : ◌≡◌ {A = ℕ} 0 1 = cc in absurd (omega arith)
+pub said : (cells slots : List ℕ) (limit : ℕ) (r : Result TermEnd TextRefusal) (o : Outcome ℕ) → Says cells slots limit r o → (t : TermEnd) → r ≡ Ok t → (o ≡ good t.row.0 t.next (rows_below cells t.used)) × Ready cells slots t.used limit
+said cells slots limit r (good k p rows) h t q =
+    let e : t ≡ record { row = as_row k; next = p; used = length rows } = cc (h.0, q) in
+    (sym ((λ i. good (e i).row.0 (e i).next (rows_below cells (e i).used)) ∙ ap (good k p) (sym h.1)), subst (λ m. Ready cells slots m limit) (sym (ap (λ (u : TermEnd). u.used) e)) h.2)
+said cells slots limit r (refused w p) h t q = cc (h.1, q)
 
-pub said_no : (cells slots : List ℕ) (limit : ℕ) (r : TermPart) (o : Outcome ℕ) → Says cells slots limit r o → (w p : ℕ) → r ≡ Refused w p → o ≡ refused w p
-said_no cells slots limit r (good k next rows) h w p q = let e : Refused w p ≡ Read (as_row k) next (length rows) = sym q ∙ h.0 in let z : ◌≡◌ {A = ℕ} 0 1 = cc in absurd (omega arith)
-said_no cells slots limit r (refused x y) h w p q = let e : Refused w p ≡ Refused x y = sym q ∙ h in cc
+pub said_no : (cells slots : List ℕ) (limit : ℕ) (r : Result TermEnd TextRefusal) (o : Outcome ℕ) → Says cells slots limit r o → (e : TextRefusal) → r ≡ Err e → o ≡ refused (refusals.number e.refusal) e.place
+said_no cells slots limit r (good k next rows) h e q = cc (h.0, q)
+said_no cells slots limit r (refused x y) h e q =
+    let s : h.0 ≡ e = cc (h.1, q) in
+    cc (h.2, h.3)
 
 module _ (term : ℕ → List Row → Outcome ℕ) (t : List ℕ) (start : ℕ) (rows₀ : List Row) (limit : ℕ) where
   pub list_start : (cells slots : List ℕ) (known s : ℕ) (v : Scalar) (f : RowFields) → f ≡ childless s v → rows₀ ≡ rows_below cells known → Ready cells slots known limit → Listing term t start rows₀ limit cells slots start known 0 f.places
@@ -140,13 +141,19 @@ module _ (term : ℕ → List Row → Outcome ℕ) (t : List ℕ) (start : ℕ) 
       before_none (good ks next rows) = refl
       before_none (refused w p) = refl
 
-  module _ (ends : Ends t term) (ahead : Ahead t term) (cells slots : List ℕ) (at known count : ℕ) (f : RowFields) (v : Listing term t start rows₀ limit cells slots at known count f.places) (r : TermPart) (cs ss : List ℕ) (says : Says cs ss limit r (term at (rows_below cells known))) where
-    pub list_refused : (w p : ℕ) → r ≡ Refused w p → read_args term t (length t - start) start rows₀ ≡ refused w p
+  module _ (ends : Ends t term) (ahead : Ahead t term) (cells slots : List ℕ) (at known count : ℕ) (f : RowFields) (v : Listing term t start rows₀ limit cells slots at known count f.places) (r : Result TermEnd TextRefusal) (cs ss : List ℕ) (says : Says cs ss limit r (term at (rows_below cells known))) where
+    pub list_refused : (x : TextRefusal) → r ≡ Err x → read_args term t (length t - start) start rows₀ ≡ refused (refusals.number x.refusal) x.place
     unfolding read_args
-    list_refused w p q = go v.turns v.enough v.same
+    list_refused x q = go v.turns v.enough v.same
       where
+        w : ℕ
+        w = refusals.number x.refusal
+
+        p : ℕ
+        p = x.place
+
         e : term at (rows_below cells known) ≡ refused w p
-        e = said_no cs ss limit r (term at (rows_below cells known)) says w p q
+        e = said_no cs ss limit r (term at (rows_below cells known)) says x q
 
         go : (f : ℕ) → length t ≤ at + f → before v.so_far (read_args term t f at (rows_below cells known)) ≡ read_args term t (length t - start) start rows₀ → read_args term t (length t - start) start rows₀ ≡ refused w p
         go zero l s =
@@ -157,12 +164,21 @@ module _ (term : ℕ → List Row → Outcome ℕ) (t : List ℕ) (start : ℕ) 
         go (suc f) l s = sym s ∙ ap (before v.so_far) (turn_refused term t at (rows_below cells known) f w p e)
 
     -- a term was read
-    module _ (j : number.Row) (next n : ℕ) (q : r ≡ Read j next n) where
+    module _ (child : TermEnd) (q : r ≡ Ok child) where
+      abbrev pub j : number.Row
+      j = child.row
+
+      abbrev pub next : ℕ
+      next = child.next
+
+      abbrev pub n : ℕ
+      n = child.used
+
       read : term at (rows_below cells known) ≡ good j.0 next (rows_below cs n)
-      read = (said cs ss limit r (term at (rows_below cells known)) says j next n q).0
+      read = (said cs ss limit r (term at (rows_below cells known)) says child q).0
 
       pub list_ready : Ready cs ss n limit
-      list_ready = (said cs ss limit r (term at (rows_below cells known)) says j next n q).1
+      list_ready = (said cs ss limit r (term at (rows_below cells known)) says child q).1
 
       pub list_ahead : (at < length t) × (at < next) × (count < next)
       list_ahead = let a = ahead at (rows_below cells known) j.0 next (rows_below cs n) read in (a.0, a.1, omega (arith, v.few))

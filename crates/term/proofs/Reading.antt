@@ -14,15 +14,15 @@ use Rattle.names.specs.Names.{letter?}
 use Rattle.term.specs.Scan.{byte_at, Got, name_at, Scalar, scalar, scalar_at}
 use Rattle.term.specs.Answer.{scalar_of}
 use Rattle.term.specs.Grammar.{Setting, refused, row_of, end_term, after_args, after_scalar, read_args, named, unnamed, symbol_of, read_term}
-use Rattle.term.specs.declared.scan.ScalarRead.{ScalarRead}
-use Rattle.term.specs.declared.scan.ScalarRead.TheVariants.{Is, Fault}
+use Rattle.std.specs.Prelude.{Result, Ok, Err}
+use Rattle.base.specs.declared.text.Fault.{Fault}
 
 -- after a scalar that was read
-module _ (S : Setting) (at s : ℕ) (rows : List Row) (r : ScalarRead) (g : Got Scalar) (read : scalar_of r ≡ g) where
-  pub leaf_scalar : (k : Value) (next : ℕ) → r ≡ Is k next → after_scalar S at s rows g ≡ end_term S.arity S.limit at (row_of s (scalar (kind_of k) (payload_of k)) []) next rows
-  leaf_scalar k next q = ap (after_scalar S at s rows) (sym read ∙ ap scalar_of q)
+module _ (S : Setting) (at s : ℕ) (rows : List Row) (r : Result (Value × ℕ) Fault) (g : Got Scalar) (read : scalar_of r ≡ g) where
+  pub leaf_scalar : (k : Value × ℕ) → r ≡ Ok k → after_scalar S at s rows g ≡ end_term S.arity S.limit at (row_of s (scalar (kind_of k.0) (payload_of k.0)) []) k.1 rows
+  leaf_scalar k q = ap (after_scalar S at s rows) (sym read ∙ ap scalar_of q)
 
-  pub leaf_fault : (p : ℕ) → r ≡ Fault p → after_scalar S at s rows g ≡ refused 63 p
+  pub leaf_fault : (p : Fault) → r ≡ Err p → after_scalar S at s rows g ≡ refused 63 p.0
   leaf_fault p q = ap (after_scalar S at s rows) (sym read ∙ ap scalar_of q)
 
 module _ (S : Setting) (t : List ℕ) (at : ℕ) (rows : List Row) where

@@ -15,8 +15,9 @@ use Rattle.automaton.proofs.Passes.{check_most}
 use Rattle.names.specs.Check.{names_check_of}
 use Rattle.term.specs.Grammar.{Outcome}
 use Rattle.term.specs.Read.{Reading, rows_read, refused_at, whole_text, read_text, setting_for, unless_refused, read_of, reading_map, read_answer}
-use Rattle.term.specs.declared.TermRead.{TermRead}
-use Rattle.term.specs.declared.TermRead.TheVariants.{Refused}
+use Rattle.std.specs.Prelude.{Result, Err}
+use Rattle.base.specs.Refusals as refusals
+use Rattle.base.specs.declared.refusal.TextRefusal.{TextRefusal}
 use Rattle.term.proofs.Meaning.{Gives, gives, gives_none, IsTerm, term_gives}
 use Rattle.term.proofs.TextTable.{known}
 
@@ -62,9 +63,9 @@ module _ (set site built_in text : List ℕ) (space : ℕ) where
       after_most (check_of set) _ (set_most set)
       (after_most (names_check_of (length (decode set).arities) site built_in) _ (names_most (length (decode set).arities) site built_in) text_most)
 
-  pub refused_most : (r : TermRead) (n p : ℕ) → read_answer r ≡ reading_map length (read_of set site built_in text space) → r ≡ Refused n p → n ≤ 67
-  refused_most r n p = go (read_of set site built_in text space) read_most
+  pub refused_most : (r : Result ℕ TextRefusal) (e : TextRefusal) → read_answer r ≡ reading_map length (read_of set site built_in text space) → r ≡ Err e → refusals.number e.refusal ≤ 67
+  refused_most r e = go (read_of set site built_in text space) read_most
     where
-      go : (v : Reading (List Row)) → number v ≤ 67 → read_answer r ≡ reading_map length v → r ≡ Refused n p → n ≤ 67
-      go (rows_read rows) l e q = let f : ◌≡◌ {A = Reading ℕ} (rows_read (length rows)) (refused_at n p) = sym e ∙ ap read_answer q in let z : ◌≡◌ {A = ℕ} 0 1 = cc in absurd (omega arith)
-      go (refused_at w s) l e q = let f : ◌≡◌ {A = Reading ℕ} (refused_at w s) (refused_at n p) = sym e ∙ ap read_answer q in let g : w ≡ n = cc in omega arith
+      go : (v : Reading (List Row)) → number v ≤ 67 → read_answer r ≡ reading_map length v → r ≡ Err e → refusals.number e.refusal ≤ 67
+      go (rows_read rows) l f q = let z : ◌≡◌ {A = Reading ℕ} (rows_read (length rows)) (refused_at (refusals.number e.refusal) e.place) = sym f ∙ ap read_answer q in cc
+      go (refused_at w s) l f q = let z : ◌≡◌ {A = Reading ℕ} (refused_at w s) (refused_at (refusals.number e.refusal) e.place) = sym f ∙ ap read_answer q in let g : w ≡ refusals.number e.refusal = cc in omega arith

@@ -18,8 +18,8 @@ use Rattle.document.specs.Scalars.{row_rate, kind_of, payload_of}
 use Rattle.document.proofs.Rates.{kind_row_rate, payload_row_rate}
 use Rattle.term.specs.Scan.{byte_at, Got, got, fault, digit_value, digits_from, number_at, hex_digit?, hex_value, hex_from, word_bytes, word_at, Scalar, scalar, of_kind, of_rate, value_at, scalar_at}
 use Rattle.term.specs.Answer.{number_of}
-use Rattle.term.specs.declared.scan.NumberRead.{NumberRead}
-use Rattle.term.specs.declared.scan.NumberRead.TheVariants.{Number, Fault}
+use Rattle.std.specs.Prelude.{Result, Ok, Err}
+use Rattle.base.specs.declared.text.Fault.{Fault}
 use Rattle.term.proofs.Bytes.{digit_range, hex_value_below}
 
 -- a number, b being the byte at i
@@ -194,20 +194,19 @@ scalar_reads t i = go (eqb (byte_at t i) 61) (eqb (byte_at t i) 126) (eqb (byte_
     go false false false = reads (tt, le_refl i)
 
 -- a number's answer as a scalar's
-module _ (k n e : ℕ) {r : NumberRead} {g : Got ℕ} (read : number_of r ≡ g) where
-  pub kind_number : r ≡ Number n e → got (scalar k n) e ≡ of_kind k g
-  kind_number q = ap (of_kind k) (sym (ap number_of q) ∙ read)
+module _ {r : Result (ℕ × ℕ) Fault} {g : Got ℕ} (read : number_of r ≡ g) where
+  pub kind_number : (k : ℕ) (n : ℕ × ℕ) → r ≡ Ok n → got (scalar k n.0) n.1 ≡ of_kind k g
+  kind_number k n q = ap (of_kind k) (sym (ap number_of q) ∙ read)
 
-  pub kind_fault : r ≡ Fault e → fault e ≡ of_kind k g
-  kind_fault q = ap (of_kind k) (sym (ap number_of q) ∙ read)
+  pub kind_fault : (k : ℕ) (p : Fault) → r ≡ Err p → fault p.0 ≡ of_kind k g
+  kind_fault k p q = ap (of_kind k) (sym (ap number_of q) ∙ read)
 
--- a rate's answer as a scalar's
-module _ (e : ℕ) {r : NumberRead} {g : Got ℕ} (read : number_of r ≡ g) where
-  pub rate_number : (s : Value) (n : ℕ) → s ≡ row_rate n → n < 2 ^ 64 → r ≡ Number n e → got (scalar (kind_of s) (payload_of s)) e ≡ of_rate g
+  -- a rate's answer as a scalar's
+  pub rate_number : (s : Value) (n : ℕ × ℕ) → s ≡ row_rate n.0 → n.0 < 2 ^ 64 → r ≡ Ok n → got (scalar (kind_of s) (payload_of s)) n.1 ≡ of_rate g
   rate_number s n q h f =
-      let k : kind_of s ≡ 3 = ap kind_of q ∙ kind_row_rate n in
-      let p : payload_of s ≡ one_zero n = ap payload_of q ∙ payload_row_rate n h in
+      let k : kind_of s ≡ 3 = ap kind_of q ∙ kind_row_rate n.0 in
+      let p : payload_of s ≡ one_zero n.0 = ap payload_of q ∙ payload_row_rate n.0 h in
       rw (k, p) (ap of_rate (sym (ap number_of f) ∙ read))
 
-  pub rate_fault : r ≡ Fault e → fault e ≡ of_rate g
-  rate_fault f = ap of_rate (sym (ap number_of f) ∙ read)
+  pub rate_fault : (p : Fault) → r ≡ Err p → fault p.0 ≡ of_rate g
+  rate_fault p f = ap of_rate (sym (ap number_of f) ∙ read)

@@ -10,8 +10,7 @@ use lib.Dec.{leb}
 use lib.ListN.{length, take, drop}
 use Rattle.names.specs.Names.{letter?, name_byte?, max_name}
 use Rattle.names.specs.Check.{found_of}
-use Rattle.names.specs.declared.table.Found.{Found}
-use Rattle.names.specs.declared.table.Found.TheVariants.{Symbol, Unknown}
+use Rattle.std.specs.Prelude.{Some, None, Option as Maybe}
 use Rattle.term.specs.Scan.{byte_at, leading, name_bytes, name_at}
 use Rattle.term.specs.Grammar.{named, unnamed, known_as, symbol_of}
 use Rattle.term.proofs.Bytes.{name_inside}
@@ -51,14 +50,14 @@ module _ (t : List ℕ) (at : ℕ) (letter : letter? (byte_at t at) ≡ true) wh
     name_whole h = let f : leb (name_bytes t at) max_name ≡ true = le-leb (name_bytes t at) max_name (omega arith) in rw (f, ← count)
 
     -- the bytes up to place at + n were looked up
-    module _ (short : n ≤ max_name) (r : Found) (look : found_of r ≡ symbol (take (at + n - at) (drop at t))) where
+    module _ (short : n ≤ max_name) (r : Maybe ℕ) (look : found_of r ≡ symbol (take (at + n - at) (drop at t))) where
       looked : found_of r ≡ symbol (take n (drop at t))
       looked = let e : at + n - at ≡ n = omega arith in rw e at look
 
-      pub symbol_found : (s : ℕ) → r ≡ Symbol s → named s (at + n) ≡ symbol_of symbol at (name_at t at)
+      pub symbol_found : (s : ℕ) → r ≡ Some s → named s (at + n) ≡ symbol_of symbol at (name_at t at)
       symbol_found s q = ap (known_as at (at + n)) (sym (ap found_of q) ∙ looked) ∙ name_whole short
 
-      pub symbol_unknown : r ≡ Unknown → unnamed 65 at ≡ symbol_of symbol at (name_at t at)
+      pub symbol_unknown : r ≡ None → unnamed 65 at ≡ symbol_of symbol at (name_at t at)
       symbol_unknown q = ap (known_as at (at + n)) (sym (ap found_of q) ∙ looked) ∙ name_whole short
 
   -- the bytes that stand for a symbol

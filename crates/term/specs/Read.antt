@@ -1,5 +1,5 @@
 -- Reading a whole text against a stored set and two name lists. Assumes nothing.
-use Rattle.std.specs.Prelude.{◌≡◌, List, [], ◌++◌, cond, ℕ, zero, suc, ◌*◌, ◌/◌, min, eqb, length, drop}
+use Rattle.std.specs.Prelude.{◌≡◌, List, [], ◌++◌, cond, ℕ, zero, suc, ◌*◌, ◌/◌, min, eqb, length, drop, Result, Ok, Err}
 use Rattle.model.specs.Limits.{max_rows, max_levels}
 use Rattle.model.specs.Automaton.{arity_of}
 use Rattle.model.specs.Table.{Row}
@@ -9,8 +9,8 @@ use Rattle.names.specs.Names.{find_name}
 use Rattle.names.specs.Check.{names_check_of}
 use Rattle.document.specs.Rows.{row_cells, encode_rows}
 use Rattle.term.specs.Grammar.{Setting, Outcome, good, refused, read_term}
-use Rattle.term.specs.declared.TermRead.{TermRead}
-use Rattle.term.specs.declared.TermRead.TheVariants.{Rows, Refused}
+use Rattle.base.specs.Refusals.{number}
+use Rattle.base.specs.declared.refusal.TextRefusal.{TextRefusal}
 
 -- what reading a text gives: the rows, or of them what is asked; or a refusal's number and place
 pub data Reading (A : Type 0) : Type 0 where
@@ -51,9 +51,9 @@ read_of set site built_in text space =
     (unless_refused (names_check_of (length (decode set).arities) site built_in) (read_text (setting_for set site built_in space) text))
 
 -- the answer: the number of rows, or a refusal
-abbrev pub read_answer : TermRead → Reading ℕ
-read_answer (Rows n) = rows_read n
-read_answer (Refused w p) = refused_at w p
+abbrev pub read_answer : Result ℕ TextRefusal → Reading ℕ
+read_answer (Ok n) = rows_read n
+read_answer (Err e) = refused_at (number e.refusal) e.place
 
 -- what lies in the lent space afterwards: rows go to its front, a refusal writes nothing
 abbrev pub space_after : Reading (List Row) → List ℕ → List ℕ
@@ -61,6 +61,6 @@ space_after (rows_read rows) space = encode_rows rows ++ drop (length rows * row
 space_after (refused_at w p) space = space
 
 -- an answer, and the space after it
-pub record Answers (v : Reading (List Row)) (r : TermRead) (before after : List ℕ) : Type 0 where
+pub record Answers (v : Reading (List Row)) (r : Result ℕ TextRefusal) (before after : List ℕ) : Type 0 where
   pub answer : read_answer r ≡ reading_map length v
   pub space : after ≡ space_after v before

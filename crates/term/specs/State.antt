@@ -1,5 +1,5 @@
 -- What the reader's parts work on and answer: rows so far in cells, with an index over them. Assumes nothing.
-use Rattle.std.specs.Prelude.{◌≡◌, cond, ℕ, ◌<◌, ltb, length, set}
+use Rattle.std.specs.Prelude.{◌≡◌, cond, ℕ, ◌<◌, ltb, length, set, Result, Ok, Err}
 use mathlib.Core.List.{List, [], Memᴰ as In}
 use Rattle.model.specs.Limits.{max_children, unused}
 use Rattle.model.specs.Automaton.{arity_of}
@@ -13,10 +13,9 @@ use Rattle.document.specs.declared.fields.RowFields.{RowFields}
 use Rattle.names.specs.Names.{find_in}
 use Rattle.names.specs.Table.{name_in}
 use Rattle.term.specs.Grammar.{Setting, Outcome, good, refused, Named, named, unnamed}
-use Rattle.term.specs.declared.reader.SymbolRead.{SymbolRead}
-use Rattle.term.specs.declared.reader.SymbolRead.TheVariants.{Symbol, Unnamed}
-use Rattle.term.specs.declared.reader.TermPart.{TermPart}
-use Rattle.term.specs.declared.reader.TermPart.TheVariants.{Read, Refused}
+use Rattle.base.specs.Refusals as refusals
+use Rattle.base.specs.declared.refusal.TextRefusal.{TextRefusal}
+use Rattle.term.specs.declared.reader.TermEnd.{TermEnd}
 
 -- a stored set, a table of names for so many symbols, and the most rows
 abbrev pub setting_of : List ℕ → List ℕ → ℕ → ℕ → Setting
@@ -37,10 +36,10 @@ pub record Held (js : List ℕ) (count : ℕ) (places : List number.Row) : Type 
   pub rows : (j : ℕ) → In j js → j < unused
 
 -- what an answer, with the cells and slots left behind, says of what was to be read
-abbrev pub Says : List ℕ → List ℕ → ℕ → TermPart → Outcome ℕ → Type 0
-Says cells slots limit r (good j next rows) = (r ≡ Read (as_row j) next (length rows)) × (rows ≡ rows_below cells (length rows)) × Ready cells slots (length rows) limit
-Says cells slots limit r (refused w p) = r ≡ Refused w p
+abbrev pub Says : List ℕ → List ℕ → ℕ → Result TermEnd TextRefusal → Outcome ℕ → Type 0
+Says cells slots limit r (good j next rows) = (r ≡ Ok (record { row = as_row j; next = next; used = length rows })) × (rows ≡ rows_below cells (length rows)) × Ready cells slots (length rows) limit
+Says cells slots limit r (refused w p) = (e : TextRefusal) × (r ≡ Err e) × (refusals.number e.refusal ≡ w) × (e.place ≡ p)
 
-abbrev pub named_of : SymbolRead → Named
-named_of (Symbol s next) = named s next
-named_of (Unnamed w p) = unnamed w p
+abbrev pub named_of : Result (ℕ × ℕ) TextRefusal → Named
+named_of (Ok s) = named s.0 s.1
+named_of (Err e) = unnamed (refusals.number e.refusal) e.place

@@ -2,15 +2,6 @@
 use Rattle.automaton.proofs.Decode.{reads}
 use Rattle.automaton.proofs.arity.Goals as goal
 
-pub header_word-requires : goal.header_word-requires
-header_word-requires c = search reads
-
-pub symbols_at-requires : goal.symbols_at-requires
-symbols_at-requires c = search reads
-
-pub symbol_byte-requires : goal.symbol_byte-requires
-symbol_byte-requires c = search reads
-
 pub returns-then-symbol-header_word : goal.returns-then-symbol-header_word
 returns-then-symbol-header_word c = search reads
 

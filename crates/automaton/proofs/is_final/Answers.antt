@@ -2,18 +2,6 @@
 use Rattle.automaton.proofs.Decode.{reads}
 use Rattle.automaton.proofs.is_final.Goals as goal
 
-pub header_word-requires : goal.header_word-requires
-header_word-requires c = search reads
-
-pub form_at-requires : goal.form_at-requires
-form_at-requires c = search reads
-
-pub states_at-requires : goal.states_at-requires
-states_at-requires c = search reads
-
-pub final_byte-requires : goal.final_byte-requires
-final_byte-requires c = search reads
-
 pub returns-then-q-header_word : goal.returns-then-q-header_word
 returns-then-q-header_word c = search reads
 

@@ -5,7 +5,7 @@ use Rattle.automaton.proofs.place_of.Goals as goal
 
 pub returns-then-k-n : goal.returns-then-k-n
 unfolding place_of
-returns-then-k-n c = rw (lt-ltb _ _ c.if-k-n.true) c.place_word.ensures
+returns-then-k-n c = rw (lt-ltb _ _ c.if-k-n.true) c.place.ensures
 
 pub returns-else-k-n : goal.returns-else-k-n
 unfolding place_of

@@ -4,4 +4,4 @@ use Rattle.cidhomba.specs.Code.{check_code}
 use Rattle.cidhomba.proofs.cidhomba_check_document.Goals as goal
 
 pub returns : goal.returns
-returns c = c.check_code.ensures ∙ ap check_code c.check.ensures
+returns c = c.code.ensures ∙ ap check_code c.check.ensures

@@ -4,4 +4,4 @@ use Rattle.cidhomba.specs.Code.{count_code}
 use Rattle.cidhomba.proofs.cidhomba_narrow_rules.Goals as goal
 
 pub returns : goal.returns
-returns c = record { answer = c.written_code.ensures ∙ ap count_code c.narrow_rules.ensures.answer; space = c.narrow_rules.ensures.space }
+returns c = record { answer = c.code.ensures ∙ ap count_code c.narrow_rules.ensures.answer; space = c.narrow_rules.ensures.space }

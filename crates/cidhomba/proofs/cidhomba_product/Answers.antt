@@ -4,4 +4,4 @@ use Rattle.cidhomba.specs.Code.{count_code}
 use Rattle.cidhomba.proofs.cidhomba_product.Goals as goal
 
 pub returns : goal.returns
-returns c = record { answer = c.written_code.ensures ∙ ap count_code c.product.ensures.answer; space = c.product.ensures.space }
+returns c = record { answer = c.code.ensures ∙ ap count_code c.product.ensures.answer; space = c.product.ensures.space }

@@ -1,16 +1,8 @@
 -- `cidhomba::cidhomba_read_json` meets its contract: the reader's answer, as a number. Assumes nothing.
-use mathlib.Core.Path.{sym, ap, ◌∙◌}
-use native.Mathlib.Omega.{arith}
-use Rattle.jsonrows.specs.Answer.{read_answer}
-use Rattle.jsonrows.proofs.Refusals.{refused_most}
+use mathlib.Core.Path.{ap, ◌∙◌}
 use Rattle.cidhomba.specs.Code.{json_code}
+use Rattle.cidhomba.proofs.Coded.{json_coded}
 use Rattle.cidhomba.proofs.cidhomba_read_json.Goals as goal
 
-pub refusal_code-requires : goal.refusal_code-requires
-refusal_code-requires c = omega (arith, refused_most _ _ _ _ _ _ c.read.ensures.answer c.in-Refused.is)
-
-pub returns-in-Rows : goal.returns-in-Rows
-returns-in-Rows c = record { answer = ap json_code (ap read_answer (sym c.in-Rows.is) ∙ c.read.ensures.answer); space = c.read.ensures.space }
-
-pub returns-in-Refused : goal.returns-in-Refused
-returns-in-Refused c = record { answer = c.refusal_code.ensures ∙ ap json_code (ap read_answer (sym c.in-Refused.is) ∙ c.read.ensures.answer); space = c.read.ensures.space }
+pub returns : goal.returns
+returns c = record { answer = c.text_code.ensures ∙ json_coded c.read.result ∙ ap json_code c.read.ensures.answer; space = c.read.ensures.space }

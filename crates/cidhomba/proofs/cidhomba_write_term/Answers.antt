@@ -4,4 +4,4 @@ use Rattle.cidhomba.specs.Code.{count_code}
 use Rattle.cidhomba.proofs.cidhomba_write_term.Goals as goal
 
 pub returns : goal.returns
-returns c = record { answer = c.write_code.ensures ∙ ap count_code c.write.ensures.answer; space = c.write.ensures.space }
+returns c = record { answer = c.code.ensures ∙ ap count_code c.write.ensures.answer; space = c.write.ensures.space }

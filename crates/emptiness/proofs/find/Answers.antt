@@ -1,9 +1,9 @@
 -- `emptiness::find` meets its contract: without a state there is no witness, else the rows built are its. Assumes nothing.
-use Rattle.emptiness.proofs.Verdicts.{dead_answer, dead_space, live_answer, live_space}
+use Rattle.emptiness.proofs.Verdicts.{live_answer, live_space}
 use Rattle.emptiness.proofs.find.Goals as goal
 
-pub returns-then-q : goal.returns-then-q
-returns-then-q c = record { answer = search (dead_answer, dead_space); space = search (dead_answer, dead_space) }
-
 pub returns : goal.returns
-returns c = record { answer = search live_answer; space = search live_space }
+returns c = record {
+  answer = live_answer _ _ c.mark.ensures _ c.in_ok-m.was _ _ _ _ _ _ c.args.set.sound c.args.set.all_states (rw c.args.set.all_states c.requires) c.build.ensures;
+  space = live_space _ _ c.mark.ensures _ c.in_ok-m.was _ _ _ _ _ _ c.args.set.sound c.args.set.all_states (rw c.args.set.all_states c.requires) c.build.ensures;
+}

@@ -2,8 +2,8 @@
 use Rattle.emptiness.proofs.Verdicts.{sampling}
 use Rattle.emptiness.proofs.sample_check.Goals as goal
 
-pub returns-then-space-size : goal.returns-then-space-size
-returns-then-space-size c = search sampling
+pub returns-then-space-from : goal.returns-then-space-from
+returns-then-space-from c = search sampling
 
 pub returns-then-not-all_apart : goal.returns-then-not-all_apart
 returns-then-not-all_apart c = search sampling

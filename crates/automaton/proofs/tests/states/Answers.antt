@@ -1,39 +1,10 @@
-use Rattle.model.proofs.Below.{loops}
-use Rattle.automaton.proofs.Passes.{bound_is}
+-- `automaton::tests::states` meets its contract: every state is asked. Assumes nothing.
+use Rattle.std.proofs.Common.{rules}
+use borrow.Author.Tests.{tests}
+use Rattle.model.proofs.Ranges.{all_in_range}
+use Rattle.automaton.specs.Stored.{state_count}
+use Rattle.automaton.specs.Check.{state_ok}
 use Rattle.automaton.proofs.tests.states.Goals as goal
 
-pub header_word-n-requires : goal.header_word-n-requires
-header_word-n-requires c = search loops
-
-pub form_at-form-requires : goal.form_at-form-requires
-form_at-form-requires c = search loops
-
-pub states_at-first-requires : goal.states_at-first-requires
-states_at-first-requires c = search loops
-
-pub header_word-requires : goal.header_word-requires
-header_word-requires c = search loops
-
-pub power-bound-requires : goal.power-bound-requires
-power-bound-requires c = search loops
-
-pub loop-i-init : goal.loop-i-init
-loop-i-init c = search loops
-
-pub state-requires : goal.state-requires
-state-requires c = search (loops, bound_is)
-
-pub overflow_add-i : goal.overflow_add-i
-overflow_add-i c = search loops
-
-pub loop-i-smaller : goal.loop-i-smaller
-loop-i-smaller c = search loops
-
-pub loop-i-preserved : goal.loop-i-preserved
-loop-i-preserved c = search loops
-
-pub returns-else-state : goal.returns-else-state
-returns-else-state c = search loops
-
 pub returns : goal.returns
-returns c = search loops
+returns c = all_in_range (state_ok c.args.set.now) (state_count c.args.set.now) _ _ _ c.header_word-2.ensures c.all.ensures.ran (λ x b q k. search (rules, tests))

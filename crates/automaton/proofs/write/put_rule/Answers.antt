@@ -16,6 +16,7 @@ use borrow.Author.Rules.{rules}
 use Rattle.automaton.proofs.write.put_rule.Goals as goal
 
 -- the numbers that are put are the rule
+
 as-rule : (form : Form) (r : StoredRule) (n : ℕ) → length r.places ≡ max_children → n ≡ rule_numbers form → (out out' : List ℕ) (at end : ℕ)
     → Put out at (concat_map encode_word (take n (r.symbol ∷ r.target.0 ∷ tab max_children (λ k. (get_or r.places k (record { 0 = 0 })).0) ++ r.forget ∷ []))) out' end
     → Put out at (encode_places form r.symbol r.target.0 (map (λ (q : State). q.0) r.places) r.forget) out' end

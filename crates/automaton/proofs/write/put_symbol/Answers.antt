@@ -12,7 +12,7 @@ pub returns-then-at-out : goal.returns-then-at-out
 unfolding encode_symbol
 returns-then-at-out c =
     let h : c.args.at + 1 ≤ length c.args.out.now = omega arith in
-    put_done c.args.out.now c.args.at (encode_symbol c.args.arity) h 1 _ refl (rw c.low.ensures (sets-eq (encode_symbol c.args.arity) c.args.out.now c.args.at h))
+    put_done c.args.out.now c.args.at (encode_symbol c.args.arity) h 1 _ refl (sets-eq (encode_symbol c.args.arity) c.args.out.now c.args.at h)
 
 pub returns : goal.returns
 unfolding encode_symbol

@@ -6,16 +6,7 @@ use Rattle.model.specs.Lists.{concat_map}
 use Rattle.automaton.specs.Encode.{encode_word}
 use Rattle.automaton.proofs.Words.{length_words}
 use Rattle.automaton.proofs.Put.{fits_so, fits_not, put_done, put_stays}
-use borrow.Author.Rules.{rules}
 use Rattle.automaton.proofs.write.put_words.Goals as goal
-
-pub paste_words-requires : goal.paste_words-requires
-paste_words-requires c = fits_so _ _ _ c.fits.ensures c.if-fits.true
-
-pub overflow_add-result : goal.overflow_add-result
-overflow_add-result c =
-    let h : c.args.at + 2 * length c.args.words.now ≤ length c.args.out.now = fits_so _ _ _ c.fits.ensures c.if-fits.true in
-    search rules
 
 pub returns-then-fits : goal.returns-then-fits
 returns-then-fits c =

@@ -1,39 +1,17 @@
+-- `base::space::put` meets its contract. Assumes nothing.
+use mathlib.Core.Path.{sym}
 use native.Mathlib.Omega.{arith}
-use Rattle.base.proofs.Copying.{copied_none, not_copied, copying}
+use Rattle.std.proofs.lemmas.Grind.{common_steps}
+use Rattle.model.proofs.Space.{put_fits, put_not}
 use Rattle.base.proofs.space.put.Goals as goal
-
-pub returns-then-bytes-out : goal.returns-then-bytes-out
-returns-then-bytes-out c = not_copied _ _ _ (omega arith)
-
-pub overflow_sub-out : goal.overflow_sub-out
-overflow_sub-out c = search copying
+use Rattle.base.proofs.space.put.Goals.{else-n-out-via-then-n-out+else-at-out, else-n-out-via-else-n-out}
 
 pub returns-then-at-out : goal.returns-then-at-out
-returns-then-at-out c = not_copied _ _ _ (omega arith)
+returns-then-at-out g c = grind (arith, common_steps, put_fits c.args.out.now c.args.at c.args.items.now (omega arith), c.copy_from_slice.ensures.after)
 
-pub loop-i-init : goal.loop-i-init
-loop-i-init c = copied_none _ _ _ (omega arith)
-
-pub bounds-bytes-i : goal.bounds-bytes-i
-bounds-bytes-i c = search copying
-
-pub overflow_add-out : goal.overflow_add-out
-overflow_add-out c = search copying
-
-pub bounds-out-at : goal.bounds-out-at
-bounds-out-at c = search copying
-
-pub overflow_add-i : goal.overflow_add-i
-overflow_add-i c = search copying
-
-pub loop-i-smaller : goal.loop-i-smaller
-loop-i-smaller c = search copying
-
-pub loop-i-preserved : goal.loop-i-preserved
-loop-i-preserved c = search copying
-
-pub shape_of-out : goal.shape_of-out
-shape_of-out c = search copying
-
-pub returns : goal.returns
-returns c = search copying
+pub returns-else-n-out : goal.returns-else-n-out
+returns-else-n-out g c =
+    elim c.else-n-out.branch [
+      | else-n-out-via-then-n-out+else-at-out w ↦ sym (put_not _ _ _ (omega arith))
+      | else-n-out-via-else-n-out w ↦ sym (put_not _ _ _ (omega arith))
+    ]

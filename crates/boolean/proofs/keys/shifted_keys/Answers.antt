@@ -18,11 +18,8 @@ loop-i-init c =
     let d = length-map (decode c.args.set.now).rules (shift_rule c.args.n c.args.t) in
     (c.header-count.ensures.rules, filling_none _ _ _ (omega arith))
 
-pub offset_bounds-keys-at : goal.offset_bounds-keys-at
-offset_bounds-keys-at c = omega (arith, c.well_formed)
-
-pub bounds-keys-at : goal.bounds-keys-at
-bounds-keys-at c =
+pub bounds-keys-from : goal.bounds-keys-from
+bounds-keys-from c =
     let d = laid_length c.loop-i.invariant.1.laid in
     omega arith
 
@@ -31,7 +28,7 @@ loop-i-preserved c =
     let l : c.loop-i.i < length (decode c.args.set.now).rules = omega (arith, c.loop-i.invariant.0) in
     let e = length-map (map (shift_rule c.args.n c.args.t) (decode c.args.set.now).rules) packed in
     let d = length-map (decode c.args.set.now).rules (shift_rule c.args.n c.args.t) in
-    (c.loop-i.invariant.0, filling_front _ _ _ _ _ c.loop-i.invariant.1 refl _ (omega arith) (shifted_key_at (decode c.args.set.now) (sound_decode c.args.set.now c.requires.0) _ l c.rule.result c.rule.ensures c.args.n c.args.t _ c.shifted_key.ensures))
+    (c.loop-i.invariant.0, filling_front _ _ _ _ _ c.loop-i.invariant.1 refl _ _ c.from.ensures (omega arith) (shifted_key_at (decode c.args.set.now) (sound_decode c.args.set.now c.requires.0) _ l c.rule.result c.rule.ensures c.args.n c.args.t _ c.shifted_key.ensures))
 
 pub shape_of-keys : goal.shape_of-keys
 shape_of-keys c = laid_length c.loop-i.invariant.1.laid

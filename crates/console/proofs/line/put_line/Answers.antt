@@ -3,8 +3,5 @@ use native.Mathlib.Omega.{arith}
 use Rattle.console.proofs.Printing.{line_put}
 use Rattle.console.proofs.line.put_line.Goals as goal
 
-pub put_end-requires : goal.put_end-requires
-put_end-requires c = omega arith
-
 pub returns : goal.returns
 returns c = (line_put _ _ _ _ _ _ _ (omega (arith, c.put_bytes-end.ensures.place, c.requires)) c.put_bytes-end.ensures c.put_end.ensures).0

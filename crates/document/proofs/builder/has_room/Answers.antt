@@ -4,4 +4,4 @@ use Rattle.document.proofs.builder.has_room.Goals as goal
 
 pub returns : goal.returns
 unfolding room_for?
-returns c = rw c.size-m.ensures.0
+returns c = rw c.from-m.ensures

@@ -1,16 +1,10 @@
 use borrow.Author.Rules.{rules}
-use mathlib.Core.Path.{sym}
 use Rattle.document.specs.Rows.{places_in}
 use Rattle.document.specs.Fields.{numbers_of}
 use Rattle.document.specs.Check.{place_in}
-use Rattle.document.proofs.Numbers.{number_at, numbers_length}
-use Rattle.document.proofs.Children.{alike_none, alike_not, alike_end, alike_more, alike_all}
+use Rattle.document.proofs.Numbers.{number_at}
+use Rattle.document.proofs.Children.{alike_not, alike_end, alike_more}
 use Rattle.document.proofs.fields.same_places.Goals as goal
-
-pub loop-k-init : goal.loop-k-init
-loop-k-init c =
-    let four = numbers_length c.args.places 4 (search rules) in
-    (four, alike_none (numbers_of c.args.places) (places_in c.args.rows.now c.args.i.0) (sym four))
 
 pub returns-then-x-y : goal.returns-then-x-y
 unfolding place_in
@@ -26,6 +20,3 @@ loop-k-preserved c = (
   c.loop-k.invariant.0,
   alike_more (numbers_of c.args.places) (places_in c.args.rows.now c.args.i.0) c.loop-k.k _ _ c.loop-k.invariant.1 (rw c.loop-k.invariant.0 (search rules)) (number_at c.args.places c.loop-k.k) c.place-y.ensures c.if-x-y.false c.if-x.false,
 )
-
-pub returns : goal.returns
-returns c = alike_all (numbers_of c.args.places) (places_in c.args.rows.now c.args.i.0) c.loop-k.k c.loop-k.invariant.1 (rw c.loop-k.invariant.0 (search rules))

@@ -1,5 +1,4 @@
 -- `document::fields::same_places` meets its contract: the places passed are used and the same on both sides. Assumes nothing.
-use Prim.Native.Nat.{◌-◌}
 use mathlib.Core.Path.{◌≡◌}
 use lib.ListN.{length}
 use Rattle.document.specs.Rows.{places_in}
@@ -9,6 +8,3 @@ use Rattle.document.proofs.fields.same_places.Given as goal
 
 abbrev pub invariant-loop-k : goal.invariant-loop-k
 invariant-loop-k l = (length (numbers_of l.places) ≡ 4) × Alike (numbers_of l.places) (places_in l.rows l.i.0) l.k
-
-abbrev pub decreases-loop-k : goal.decreases-loop-k
-decreases-loop-k l = 4 - l.k

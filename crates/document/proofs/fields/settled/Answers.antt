@@ -1,19 +1,14 @@
 use Prim.Native.Nat.{◌+◌}
 use borrow.Author.Rules.{rules}
-use mathlib.Core.Path.{◌≡◌, ◌∙◌, ap}
-use lib.ListN.{length, get_or}
+use mathlib.Core.Path.{◌∙◌, ap}
+use lib.ListN.{get_or}
 use Rattle.model.specs.Limits.{unused}
 use Rattle.model.specs.Lists.{tab}
 use Rattle.document.specs.Rows.{used}
 use Rattle.document.specs.Fields.{numbers_of}
 use Rattle.document.proofs.Numbers.{number_at, numbers_length, numbers_set, rows_of}
-use Rattle.document.proofs.Children.{settled_first, settled_next, settled_all}
+use Rattle.document.proofs.Children.{settled_next, settled_all}
 use Rattle.document.proofs.fields.settled.Goals as goal
-
-pub loop-k-init : goal.loop-k-init
-loop-k-init c =
-    let four : length c.args.places ≡ 4 = search rules in
-    (four, settled_first (numbers_of c.args.places) (rw (numbers_length c.args.places 4 four) (search rules)))
 
 pub loop-k-preserved : goal.loop-k-preserved
 loop-k-preserved c = (

@@ -1,5 +1,4 @@
 -- `document::fields::settled` meets its contract: each place is settled by the one before it. Assumes nothing.
-use Prim.Native.Nat.{◌-◌}
 use mathlib.Core.Path.{◌≡◌}
 use lib.ListN.{length}
 use Rattle.document.specs.Fields.{numbers_of}
@@ -8,6 +7,3 @@ use Rattle.document.proofs.fields.settled.Given as goal
 
 abbrev pub invariant-loop-k : goal.invariant-loop-k
 invariant-loop-k l = (length l.initial.p ≡ 4) × Settled (numbers_of l.initial.p) (numbers_of l.p) l.k
-
-abbrev pub decreases-loop-k : goal.decreases-loop-k
-decreases-loop-k l = 3 - l.k

@@ -11,7 +11,7 @@ use Rattle.document.proofs.Nearby.{new_probed}
 use Rattle.document.proofs.fresh.add_new.Goals as goal
 
 pub returns-then-not-has_room : goal.returns-then-not-has_room
-returns-then-not-has_room c x w e ready new = did_full c.args.rows.now c.args.slots.now c.args.n c.args.limit x (words_cells c.args.a c.args.b c.args.c) (c.args.hash % 2048) c.free_slot.result (sym w.cells) (ap (λ t. t % 2048) (e ∙ ap row_hash w.cells)) (new_probed c.args.rows.now c.args.slots.now c.args.n c.args.limit ready x new (c.args.hash % 2048) c.free_slot.result c.free_slot.ensures) c.in-Free.t c.in-Free.is c.has_room.result c.has_room.ensures c.if-not-has_room.true
+returns-then-not-has_room c x w e ready new = did_full c.args.rows.now c.args.slots.now c.args.n c.args.limit x (words_cells c.args.w.a c.args.w.b c.args.w.c) (c.args.hash % 2048) c.free_slot.result (sym w.cells) (ap (λ t. t % 2048) (e ∙ ap row_hash w.cells)) (new_probed c.args.rows.now c.args.slots.now c.args.n c.args.limit ready x new (c.args.hash % 2048) c.free_slot.result c.free_slot.ensures) c.in-Free.t c.in-Free.is c.has_room.result c.has_room.ensures c.if-not-has_room.true
 
 pub put_words-requires : goal.put_words-requires
 put_words-requires c = (room c.args.rows.now c.args.n c.args.limit c.has_room.result c.has_room.ensures c.if-not-has_room.false).fits
@@ -28,10 +28,10 @@ pub offset_bounds-slots-t : goal.offset_bounds-slots-t
 offset_bounds-slots-t c = let l = slot_inside c.args.slots.now (λ _. false) (c.args.hash % 2048) c.in-Free.t (sym c.free_slot.ensures ∙ c.in-Free.is) in record { fits = omega (arith, l) }
 
 pub returns-in-Found : goal.returns-in-Found
-returns-in-Found c x w e ready new = did_known c.args.rows.now c.args.slots.now c.args.n c.args.limit x (words_cells c.args.a c.args.b c.args.c) (c.args.hash % 2048) c.free_slot.result (sym w.cells) (ap (λ t. t % 2048) (e ∙ ap row_hash w.cells)) (new_probed c.args.rows.now c.args.slots.now c.args.n c.args.limit ready x new (c.args.hash % 2048) c.free_slot.result c.free_slot.ensures) c.in-Found.i c.in-Found.is
+returns-in-Found c x w e ready new = did_known c.args.rows.now c.args.slots.now c.args.n c.args.limit x (words_cells c.args.w.a c.args.w.b c.args.w.c) (c.args.hash % 2048) c.free_slot.result (sym w.cells) (ap (λ t. t % 2048) (e ∙ ap row_hash w.cells)) (new_probed c.args.rows.now c.args.slots.now c.args.n c.args.limit ready x new (c.args.hash % 2048) c.free_slot.result c.free_slot.ensures) c.in-Found.i c.in-Found.is
 
 pub returns-else-not-has_room : goal.returns-else-not-has_room
-returns-else-not-has_room c x w e ready new = did_add c.args.rows.now c.args.slots.now c.args.n c.args.limit x (words_cells c.args.a c.args.b c.args.c) (c.args.hash % 2048) c.free_slot.result (sym w.cells) (ap (λ t. t % 2048) (e ∙ ap row_hash w.cells)) (new_probed c.args.rows.now c.args.slots.now c.args.n c.args.limit ready x new (c.args.hash % 2048) c.free_slot.result c.free_slot.ensures) c.in-Free.t c.in-Free.is c.has_room.result c.has_room.ensures c.if-not-has_room.false c.put_words.new.rows c.put_words.ensures
+returns-else-not-has_room c x w e ready new = did_add c.args.rows.now c.args.slots.now c.args.n c.args.limit x (words_cells c.args.w.a c.args.w.b c.args.w.c) (c.args.hash % 2048) c.free_slot.result (sym w.cells) (ap (λ t. t % 2048) (e ∙ ap row_hash w.cells)) (new_probed c.args.rows.now c.args.slots.now c.args.n c.args.limit ready x new (c.args.hash % 2048) c.free_slot.result c.free_slot.ensures) c.in-Free.t c.in-Free.is c.has_room.result c.has_room.ensures c.if-not-has_room.false c.put_words.new.rows c.put_words.ensures
 
 pub returns-in-Crowded : goal.returns-in-Crowded
-returns-in-Crowded c x w e ready new = did_crowded c.args.rows.now c.args.slots.now c.args.n c.args.limit x (words_cells c.args.a c.args.b c.args.c) (c.args.hash % 2048) c.free_slot.result (sym w.cells) (ap (λ t. t % 2048) (e ∙ ap row_hash w.cells)) (new_probed c.args.rows.now c.args.slots.now c.args.n c.args.limit ready x new (c.args.hash % 2048) c.free_slot.result c.free_slot.ensures) c.in-Crowded.is
+returns-in-Crowded c x w e ready new = did_crowded c.args.rows.now c.args.slots.now c.args.n c.args.limit x (words_cells c.args.w.a c.args.w.b c.args.w.c) (c.args.hash % 2048) c.free_slot.result (sym w.cells) (ap (λ t. t % 2048) (e ∙ ap row_hash w.cells)) (new_probed c.args.rows.now c.args.slots.now c.args.n c.args.limit ready x new (c.args.hash % 2048) c.free_slot.result c.free_slot.ensures) c.in-Crowded.is

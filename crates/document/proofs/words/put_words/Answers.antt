@@ -10,5 +10,5 @@ use Rattle.document.proofs.words.put_words.Goals as goal
 
 pub returns : goal.returns
 returns c =
-    put_row_words c.args.rows.now (c.size-at.result * 10) c.args.a c.args.b c.args.c c.put_four.new.rows c.put_four-2.new.rows c.put_two.new.rows (omega (arith, c.requires, c.size-at.ensures.0)) c.put_four.ensures c.put_four-2.ensures c.put_two.ensures
-    ∙ ap (λ i. put_at c.args.rows.now (i * row_cells) (words_cells c.args.a c.args.b c.args.c)) c.size-at.ensures.0
+    put_row_words c.args.rows.now (c.from-at.result * 10) c.args.w.a c.args.w.b c.args.w.c c.put_four.new.rows c.put_four-2.new.rows c.put_two.new.rows (omega (arith, c.requires, c.from-at.ensures)) c.put_four.ensures c.put_four-2.ensures c.put_two.ensures
+    ∙ ap (λ i. put_at c.args.rows.now (i * row_cells) (words_cells c.args.w.a c.args.w.b c.args.w.c)) c.from-at.ensures

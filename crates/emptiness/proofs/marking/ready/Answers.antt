@@ -1,30 +1,15 @@
-use borrow.Author.Rules.{rules}
-use Rattle.emptiness.proofs.Marks.{child_few, readying}
+-- `emptiness::marking::ready` meets its contract: every child is asked. Assumes nothing.
+use lib.ListN.{length}
+use borrow.Author.Tests.{tests}
+use Rattle.std.proofs.Common.{rules}
+use Rattle.model.specs.Written.{rule_at}
+use Rattle.model.proofs.Ranges.{all_in_range}
+use Rattle.automaton.specs.Stored.{decode}
+use Rattle.emptiness.proofs.Marks.{width_is, read_marked, ready_all}
 use Rattle.emptiness.proofs.marking.ready.Goals as goal
 
-pub rule-r-requires : goal.rule-r-requires
-rule-r-requires c = search readying
-
-pub arity-n-requires : goal.arity-n-requires
-arity-n-requires c = search readying
-
-pub loop-k-init : goal.loop-k-init
-loop-k-init c = search readying
-
-pub child_marked-requires : goal.child_marked-requires
-child_marked-requires c = search (child_few, rules)
-
-pub overflow_add-k : goal.overflow_add-k
-overflow_add-k c = search readying
-
-pub loop-k-smaller : goal.loop-k-smaller
-loop-k-smaller c = search readying
-
-pub loop-k-preserved : goal.loop-k-preserved
-loop-k-preserved c = search readying
-
-pub returns-else-child_marked : goal.returns-else-child_marked
-returns-else-child_marked c = search readying
-
 pub returns : goal.returns
-returns c = search readying
+returns c =
+    ready_all _ c.args.set.sound c.args.marks.now c.args.i c.requires c.rule-r.result c.rule-r.ensures _
+    (all_in_range (read_marked c.args.set.bytes.now c.args.set.sound c.args.marks.now c.args.i c.requires c.rule-r.result c.rule-r.ensures) (length (rule_at (decode c.args.set.bytes.now) c.args.i).children) _ _ _
+    (width_is _ c.args.set.sound c.args.i _ _ c.requires c.rule-r.ensures.symbol c.arity.ensures) c.all.ensures.ran (λ x b q k. search (rules, tests)))

@@ -1,29 +1,14 @@
-use Rattle.emptiness.proofs.Shared.{looking}
+use mathlib.Core.Path.{refl, sym}
+use mathlib.Core.Bool.{true, false}
+use borrow.Author.Tests.{eq-eqb, ne_eqb}
+use Rattle.emptiness.proofs.Shared.{looked_more, looked_shared, looking}
 use Rattle.emptiness.proofs.tags.all_apart.Goals as goal
 
 pub loop-q-init : goal.loop-q-init
 loop-q-init c = search looking
 
-pub tags_of-tags-requires : goal.tags_of-tags-requires
-tags_of-tags-requires c = search looking
-
-pub apart-requires : goal.apart-requires
-apart-requires c = search looking
-
-pub both-seen-requires : goal.both-seen-requires
-both-seen-requires c = search looking
-
-pub overflow_add-q : goal.overflow_add-q
-overflow_add-q c = search looking
-
-pub loop-q-smaller : goal.loop-q-smaller
-loop-q-smaller c = search looking
-
 pub loop-q-preserved : goal.loop-q-preserved
-loop-q-preserved c = search looking
+loop-q-preserved c = looked_more _ _ _ _ _ true c.loop-q.invariant c.loop-q-test.true c.tags_of-tags.ensures (sym (eq-eqb _ 0 c.if-seen-tags-ne0.false)) c.args.set.sound _ refl refl
 
-pub returns-else-apart : goal.returns-else-apart
-returns-else-apart c = search looking
-
-pub returns : goal.returns
-returns c = search looking
+pub returns-then-seen-tags-ne0 : goal.returns-then-seen-tags-ne0
+returns-then-seen-tags-ne0 c = looked_shared _ _ _ _ _ false c.loop-q.invariant c.loop-q-test.true c.tags_of-tags.ensures (sym (ne_eqb _ 0 c.if-seen-tags-ne0.true)) c.args.set.sound refl

@@ -1,6 +1,6 @@
 -- At the loop's head the first n lines are entered and the next one starts at a. Assumes nothing.
 use native.Mathlib.Omega.{arith}
-use Rattle.jsonrows.proofs.KeyFilling.{filling_none, filling_more, entered_when, unfit_when, too_many, list_fills, list_fails}
+use Rattle.jsonrows.proofs.KeyFilling.{filling_none, filling_more, entered_when, too_many, list_fills, list_fails}
 use Rattle.jsonrows.proofs.keys.fill_keys.Goals as goal
 
 pub loop-a-init : goal.loop-a-init
@@ -12,16 +12,8 @@ returns-then-n-eq-MAX_KEYS c = let r = list_fails (too_many c.loop-a.invariant c
 pub enter-requires : goal.enter-requires
 enter-requires c = record { few = omega (arith, c.loop-a.invariant.entered.few, c.if-n-eq-MAX_KEYS.false); entered = c.loop-a.invariant.entered; line = (c.loop-a.invariant.starts, c.line_end-e.ensures c.loop-a.invariant.starts.inside, c.loop-a-test.true) }
 
-pub overflow_add-e : goal.overflow_add-e
-overflow_add-e c =
-    let d = c.line_end-e.ensures c.loop-a.invariant.starts.inside in
-    record { fits = omega (arith, d.inside, c.well_formed.0) }
-
 pub loop-a-preserved : goal.loop-a-preserved
-loop-a-preserved c = filling_more c.loop-a.invariant.starts (c.line_end-e.ensures c.loop-a.invariant.starts.inside) c.smaller-a.ensures (entered_when c.enter.ensures c.if-enter.true)
-
-pub returns-else-enter : goal.returns-else-enter
-returns-else-enter c = let r = list_fails (unfit_when c.enter.ensures c.if-enter.false) in record { value = r.0; filled = r.1 }
+loop-a-preserved c = filling_more c.loop-a.invariant.starts (c.line_end-e.ensures c.loop-a.invariant.starts.inside) c.min-a.ensures (entered_when c.enter.ensures c.if-enter.true)
 
 pub returns : goal.returns
 returns c = let r = list_fills c.loop-a.invariant c.loop-a-test.false in record { value = r.0; filled = r.1 }

@@ -1,7 +1,7 @@
 -- The slots tried held lines that differ. Assumes nothing.
 use mathlib.Core.Bool.{Bool}
 use mathlib.Core.List.{List}
-use Prim.Native.Nat.{ℕ, ◌-◌}
+use Prim.Native.Nat.{ℕ}
 use Rattle.model.specs.Lists.{eq_list}
 use Rattle.document.proofs.Searching.{Searched}
 use Rattle.jsonrows.specs.KeyTable.{key_at}
@@ -13,6 +13,3 @@ same? line list k = eq_list line (key_at list k)
 
 abbrev pub invariant-loop-d : goal.invariant-loop-d
 invariant-loop-d l = Searched l.key_slots (same? l.line l.list) l.slot l.d
-
-abbrev pub decreases-loop-d : goal.decreases-loop-d
-decreases-loop-d l = 2048 - l.d

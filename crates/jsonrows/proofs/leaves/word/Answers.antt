@@ -13,8 +13,5 @@ overflow_add-result c = omega (arith, word_short _ _ _ _ c.word_bytes-n.ensures,
 pub returns-then-n-letters : goal.returns-then-n-letters
 returns-then-n-letters c = word_fault _ _ (word_broken _ _ _ _ _ c.word_bytes-n.ensures c.if-n-letters.true)
 
-pub finish-requires : goal.finish-requires
-finish-requires c = record { holds = c.requires.holds; behind = omega (arith, c.if-n-letters.false, c.requires.some) }
-
 pub returns : goal.returns
-returns c = word_is (built_in c.args.text.now c.args.rows.now c.args.starts.now c.args.used c.args.texts) _ (word_whole _ _ _ _ _ c.word_bytes-n.ensures c.if-n-letters.false) refl (c.finish.ensures _ c.leaf-w.ensures (no_text _ _ refl c.requires.plain no_child))
+returns c = word_is (built_in c.args.source.now.text.now c.args.tables.now.rows c.args.tables.now.starts c.args.counts.used c.args.counts.texts) _ (word_whole _ _ _ _ _ c.word_bytes-n.ensures c.if-n-letters.false) refl (c.finish.ensures _ c.leaf.ensures (no_text _ _ refl c.requires.plain no_child))

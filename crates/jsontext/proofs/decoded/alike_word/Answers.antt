@@ -1,13 +1,8 @@
 -- Up to the lowest bit that tells the words apart or marks a byte. Assumes nothing.
 use native.Mathlib.Omega.{arith}
-use lib.Bits.{bit_or, bit_xor}
-use lib.Count.{trailing_le}
 use Rattle.jsontext.proofs.Bytewise.{word_marked}
 use Rattle.jsontext.proofs.Agreeing.{alike_word}
 use Rattle.jsontext.proofs.decoded.alike_word.Goals as goal
-
-pub overflow_cast-result : goal.overflow_cast-result
-overflow_cast-result c = omega (arith, trailing_le 64 (bit_or (bit_xor c.word-w.result c.word.result) c.marks.result))
 
 pub returns : goal.returns
 returns c =

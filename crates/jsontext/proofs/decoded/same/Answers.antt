@@ -11,6 +11,3 @@ returns-then-byte_at-ne34-2 c l = second_none c.args.text.now _ c.args.b _ c.byt
 
 pub same_quoted-requires : goal.same_quoted-requires
 same_quoted-requires c = (scan_start _ _ _ c.byte_at.ensures c.if-byte_at-ne34.false, scan_start _ _ _ c.byte_at-2.ensures c.if-byte_at-ne34-2.false)
-
-pub returns : goal.returns
-returns c = c.same_quoted.ensures

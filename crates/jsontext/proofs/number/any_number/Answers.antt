@@ -1,13 +1,8 @@
 -- A minus stands inside the text. Assumes nothing.
 use mathlib.Core.Path.{sym, ap, ◌∙◌}
-use native.Mathlib.Omega.{arith}
-use Rattle.base.proofs.Bytes.{byte_inside}
 use Rattle.jsontext.specs.Number.{as_scalar}
 use Rattle.jsontext.proofs.NumberWays.{number_negative, number_plain}
 use Rattle.jsontext.proofs.number.any_number.Goals as goal
-
-pub overflow_add-at : goal.overflow_add-at
-overflow_add-at c = omega (arith, byte_inside c.args.text.now c.args.at c.byte_at.result c.byte_at.ensures (omega (arith, c.if-byte_at-eq45.true)))
 
 pub returns-then-byte_at-eq45 : goal.returns-then-byte_at-eq45
 returns-then-byte_at-eq45 c = λ l. c.behind_sign.ensures l ∙ ap as_scalar (sym (number_negative _ _ _ c.byte_at.ensures c.if-byte_at-eq45.true))

@@ -7,19 +7,6 @@ use Rattle.jsontext.specs.NumberAnswer.{Short}
 use Rattle.jsontext.proofs.ShortRuns.{strictly_between, carried_short, fraction_short, fraction_is}
 use Rattle.jsontext.proofs.number.short_fraction.Goals as goal
 
-pub few_digits-run-requires : goal.few_digits-run-requires
-few_digits-run-requires c = record { order = (omega (arith, c.requires.early), c.requires.inside); fitting = (c.args.whole.end - c.args.at, c.requires.short, omega (arith, c.requires.some)) }
-
-pub returns-then-next-first : goal.returns-then-next-first
-returns-then-next-first c l _ _ = c.any_number.ensures l
-
--- the digits end between the point and the last place
-pub behind_digits-requires : goal.behind_digits-requires
-behind_digits-requires c =
-    let ends = strictly_between _ _ _ c.if-next-first.false c.few_digits-run.ensures.within.forward c.few_digits-run.ensures.within.inside in
-    let short : Short c.few_digits-run.result.value (c.few_digits-run.result.end - c.args.at - 1) = fraction_short _ _ _ c.requires _ ends.0 c.few_digits-run.ensures.within in
-    (short, omega (arith, ends, c.requires.some))
-
 pub returns : goal.returns
 returns c l is point =
     let ends = strictly_between _ _ _ c.if-next-first.false c.few_digits-run.ensures.within.forward c.few_digits-run.ensures.within.inside in

@@ -1,26 +1,14 @@
 -- Each way through the definition; a 0 stands inside the text. Assumes nothing.
-use Prim.Native.Nat.{◌<◌}
 use mathlib.Core.Path.{refl, sym, ap, ◌∙◌}
-use lib.ListN.{length}
 use native.Mathlib.Omega.{arith}
-use Rattle.base.proofs.Bytes.{byte_inside}
 use Rattle.classes.specs.Classes.{digit?}
 use Rattle.jsontext.specs.Number.{no_digits}
 use Rattle.jsontext.specs.NumberAnswer.{carried_at}
 use Rattle.jsontext.proofs.NumberWays.{whole_digits, whole_more, whole_zero}
 use Rattle.jsontext.proofs.number.whole_part.Goals as goal
 
-pub some_digits-requires : goal.some_digits-requires
-some_digits-requires c = record { short = omega arith; few = omega arith }
-
 pub returns-then-byte_at-ne48 : goal.returns-then-byte_at-ne48
 returns-then-byte_at-ne48 c = record { value = λ l. c.some_digits.ensures.value l no_digits refl ∙ ap carried_at (whole_digits _ _ _ c.byte_at.ensures c.if-byte_at-ne48.true); bounds = c.some_digits.ensures.bounds }
-
-pub overflow_add-at : goal.overflow_add-at
-overflow_add-at c = omega (arith, (let h-inside : c.args.at < length c.args.text.now = byte_inside c.args.text.now c.args.at c.byte_at.result c.byte_at.ensures (omega (arith, c.if-byte_at-ne48.false)) in h-inside))
-
-pub overflow_add-result : goal.overflow_add-result
-overflow_add-result c = omega (arith, (let h-inside : c.args.at < length c.args.text.now = byte_inside c.args.text.now c.args.at c.byte_at.result c.byte_at.ensures (omega (arith, c.if-byte_at-ne48.false)) in h-inside))
 
 pub returns-then-is_digit : goal.returns-then-is_digit
 returns-then-is_digit c =
@@ -31,14 +19,11 @@ returns-then-is_digit c =
       bounds = tt;
     }
 
-pub overflow_add-result-2 : goal.overflow_add-result-2
-overflow_add-result-2 c = omega (arith, (let h-inside : c.args.at < length c.args.text.now = byte_inside c.args.text.now c.args.at c.byte_at.result c.byte_at.ensures (omega (arith, c.if-byte_at-ne48.false)) in h-inside))
-
 pub returns : goal.returns
 returns c =
     record {
       value = λ l. ap carried_at
           (whole_zero _ _ _ c.byte_at.ensures c.if-byte_at-ne48.false
           (ap digit? (sym c.byte_at-2.ensures) ∙ sym (c.is_digit.ensures.compared l) ∙ c.if-is_digit.false));
-      bounds = (record { short = omega arith; few = omega arith }, omega arith);
+      bounds = (record { short = record { short = omega arith }; few = omega arith }, omega arith);
     }

@@ -1,21 +1,14 @@
 -- The definition's tests. Assumes nothing.
 use mathlib.Core.Path.{◌≡◌, ◌∙◌}
 use mathlib.Core.Bool.{true}
-use native.Mathlib.Omega.{arith}
 use Rattle.base.specs.Text.{byte_at}
 use Rattle.jsontext.specs.Strings.{dee?, low?}
 use Rattle.jsontext.proofs.Tested.{tested}
-use Rattle.jsontext.proofs.Ways.{dee_inside, first_other, first_low, first_high}
+use Rattle.jsontext.proofs.Ways.{first_other, first_low, first_high}
 use Rattle.jsontext.proofs.pieces.first_unit.Goals as goal
 
 pub returns-then-not-is_dee : goal.returns-then-not-is_dee
 returns-then-not-is_dee c = record { answer = λ l. c.hex.ensures.answer l ∙ first_other _ _ (tested dee? c.byte_at.ensures c.is_dee.ensures c.if-not-is_dee.true); inside = c.hex.ensures.inside }
-
-pub overflow_add-at : goal.overflow_add-at
-overflow_add-at c = omega (arith, dee_inside c.args.text.now c.args.at (let h-dee : dee? (byte_at c.args.text.now c.args.at) ≡ true = tested dee? c.byte_at.ensures c.is_dee.ensures c.if-not-is_dee.false in h-dee))
-
-pub overflow_add-result : goal.overflow_add-result
-overflow_add-result c = omega (arith, dee_inside c.args.text.now c.args.at (let h-dee : dee? (byte_at c.args.text.now c.args.at) ≡ true = tested dee? c.byte_at.ensures c.is_dee.ensures c.if-not-is_dee.false in h-dee))
 
 pub returns-then-is_low : goal.returns-then-is_low
 returns-then-is_low c = record { answer = λ l. first_low _ _ (let h-dee : dee? (byte_at c.args.text.now c.args.at) ≡ true = tested dee? c.byte_at.ensures c.is_dee.ensures c.if-not-is_dee.false in h-dee) (tested low? c.byte_at-2.ensures c.is_low.ensures c.if-is_low.true); inside = tt }

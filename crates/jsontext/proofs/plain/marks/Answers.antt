@@ -1,10 +1,7 @@
 -- Each operation works on each byte apart. Assumes nothing.
 use native.Mathlib.Omega.{arith}
-use Rattle.jsontext.proofs.Bytewise.{marks_of, above_room, other_room}
+use Rattle.jsontext.proofs.Bytewise.{marks_of, other_room}
 use Rattle.jsontext.proofs.plain.marks.Goals as goal
-
-pub overflow_add-above : goal.overflow_add-above
-overflow_add-above c = omega (arith, above_room c.args.w)
 
 pub overflow_add-no_quote : goal.overflow_add-no_quote
 overflow_add-no_quote c = omega (arith, other_room c.args.w 2459565876494606882 (omega arith))

@@ -3,14 +3,11 @@ use mathlib.Core.Path.{sym, ◌∙◌}
 use mathlib.Core.List.{[]}
 use Rattle.jsontext.proofs.shorts.short_to.Goals as goal
 
-pub returns-then-byte_at-ne34 : goal.returns-then-byte_at-ne34
-returns-then-byte_at-ne34 c h = absurd (h c.no_short.ensures)
-
 pub returns : goal.returns
-returns c _ =
+returns c =
     record {
       opens = c.requires.0;
       plain = c.requires.1;
       closes = sym c.byte_at.ensures ∙ c.if-byte_at-ne34.false;
-      slot_is = c.kept_slot.ensures _ (c.keep_part.ensures.kept [] c.keep_none.ensures);
+      slot_is = c.kept_slot-slot.ensures _ (c.keep_part.ensures [] c.keep_none.ensures);
     }

@@ -8,9 +8,6 @@ use Rattle.jsontext.proofs.slots.keep_few.Goals as goal
 
 pub returns : goal.returns
 returns c =
-    record {
-      kept = λ bs xs v u e f.
-          c.keep.ensures.kept bs xs v u e (f ∙ ap join_bytes (sym (take_all 8 xs (omega (arith, c.requires)))))
-          (last_shifted bs xs _ _ _ v.bytes u e (omega (arith, c.requires)) f v.last);
-      few = c.keep.ensures.few;
-    }
+    λ bs xs v u e f.
+    c.keep.ensures bs xs v u e (f ∙ ap join_bytes (sym (take_all 8 xs (omega (arith, c.requires)))))
+    (last_shifted bs xs _ _ _ v.bytes u e (omega (arith, c.requires)) f v.last)

@@ -3,4 +3,4 @@ use Rattle.jsontext.proofs.Keeping.{slot_kept}
 use Rattle.jsontext.proofs.slots.kept_slot.Goals as goal
 
 pub returns : goal.returns
-returns c bs v = slot_kept bs _ v
+returns c bs v = rw c.from.ensures (slot_kept bs c.args.k v)

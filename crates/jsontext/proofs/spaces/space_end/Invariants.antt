@@ -1,5 +1,5 @@
 -- At the loop's head all bytes so far are spaces. Assumes nothing.
-use Prim.Native.Nat.{◌-◌}
+use Prim.Native.Nat.{◌≤◌, max}
 use mathlib.Core.Path.{◌≡◌}
 use lib.ListN.{length}
 use Rattle.classes.specs.Classes.{class_table}
@@ -7,7 +7,4 @@ use Rattle.jsontext.proofs.Blanks.{Blank}
 use Rattle.jsontext.proofs.spaces.space_end.Given as goal
 
 abbrev pub invariant-loop-i : goal.invariant-loop-i
-invariant-loop-i l = l.classes ≡ class_table → Blank l.text l.at l.i
-
-abbrev pub decreases-loop-i : goal.decreases-loop-i
-decreases-loop-i l = length l.text - l.i
+invariant-loop-i l = (l.i ≤ max l.at (length l.text)) × (l.classes ≡ class_table → Blank l.text l.at l.i)

@@ -7,8 +7,8 @@ use Rattle.base.specs.Text.{byte_at}
 use Rattle.jsontext.proofs.DecodedSlots.{Keeping}
 use Rattle.jsontext.proofs.strings.read_on.Given as goal
 
-abbrev pub invariant-loop-p : goal.invariant-loop-p
-invariant-loop-p l = (l.i ≤ length l.text) × (l.k.few ≤ 8) × (byte_at l.text l.i ≡ 34 → ⊥) × (l.classes ≡ class_table → Keeping l.text l.at l.i l.k)
+abbrev pub invariant-loop-c : goal.invariant-loop-c
+invariant-loop-c l = (l.i ≤ length l.text) × (byte_at l.text l.i ≡ 34 → ⊥) × (l.classes ≡ class_table → Keeping l.text l.at l.i l.k)
 
-abbrev pub decreases-loop-p : goal.decreases-loop-p
-decreases-loop-p l = length l.text - l.i
+abbrev pub decreases-loop-c : goal.decreases-loop-c
+decreases-loop-c l = length l.text - l.i

@@ -1,22 +1,9 @@
 -- The words of the text are those of the token, so the string is its bytes. Assumes nothing.
-use mathlib.Core.Path.{sym}
 use borrow.Author.Tests.{eqb-true}
 use native.Mathlib.Omega.{arith}
-use Rattle.jsontext.proofs.Places.{never, both}
+use Rattle.jsontext.proofs.Places.{both}
 use Rattle.jsontext.proofs.Quoting.{short_string, long_string}
 use Rattle.jsontext.proofs.tokens.has_token.Goals as goal
-
-pub returns-then-text-lt-LONGEST : goal.returns-then-text-lt-LONGEST
-returns-then-text-lt-LONGEST c e = never (sym e)
-
-pub returns-then-at-text : goal.returns-then-at-text
-returns-then-at-text c e = never (sym e)
-
-pub returns-then-n-eq0 : goal.returns-then-n-eq0
-returns-then-n-eq0 c e = never (sym e)
-
-pub returns-then-n-gt-LONGEST : goal.returns-then-n-gt-LONGEST
-returns-then-n-gt-LONGEST c e = never (sym e)
 
 pub returns-then-n-lt-WORD : goal.returns-then-n-lt-WORD
 returns-then-n-lt-WORD c e key v = short_string _ (λ i l. omega (arith, c.shared_slice_known-1.given i)) _ _ _ _ (omega (arith, c.if-at-text.false, c.if-text-lt-LONGEST.false)) key v _ c.word.ensures c.if-n-lt-WORD.true (eqb-true _ _ e)

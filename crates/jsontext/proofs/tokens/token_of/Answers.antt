@@ -1,24 +1,17 @@
 -- Too many bytes or one that does not stand for itself, and there is none; else the words of what was put between quotes. Assumes nothing.
-use mathlib.Core.Path.{refl, sym, ◌∙◌}
+use mathlib.Core.Path.{refl}
 use Prim.Native.Nat.{◌+◌}
 use native.Mathlib.Omega.{arith}
 use lib.ListN.{length}
-use Rattle.jsontext.proofs.Places.{never}
 use Rattle.jsontext.proofs.Quoting.{short_token, long_token}
 use Rattle.jsontext.proofs.tokens.token_of.Goals as goal
 
-pub returns-then-bytes : goal.returns-then-bytes
-returns-then-bytes c = record { token_of = λ h. absurd (h c.no_token.ensures); some = λ v l. absurd (omega (arith, c.if-bytes.true, l)) }
-
-pub returns-then-not-put_quoted : goal.returns-then-not-put_quoted
-returns-then-not-put_quoted c = record { token_of = λ h. absurd (h c.no_token-then-not-put_quoted.ensures); some = λ v l. never (sym (c.put_quoted.ensures.done v) ∙ c.if-not-put_quoted.true) }
-
-pub returns-then-n-lt-WORD : goal.returns-then-n-lt-WORD
-returns-then-n-lt-WORD c =
+pub returns-then-length-lt-WORD : goal.returns-then-length-lt-WORD
+returns-then-length-lt-WORD c =
     let t = c.if-not-put_quoted.false in
-    record { token_of = λ _. short_token c.args.bytes.now _ (length c.args.bytes.now + 2) refl (omega (arith, c.if-bytes.false)) (c.put_quoted.ensures.plain t) (c.put_quoted.ensures.put t) c.few_bytes.result c.if-n-lt-WORD.true c.few_bytes.ensures; some = λ v l. refl }
+    record { token_of = short_token c.args.bytes.now _ (length c.args.bytes.now + 2) refl (omega (arith, c.if-bytes.false)) (c.put_quoted.ensures.plain t) (c.put_quoted.ensures.put t) c.few_bytes.result c.if-length-lt-WORD.true c.few_bytes.ensures; some = λ v l. refl }
 
 pub returns : goal.returns
 returns c =
     let t = c.if-not-put_quoted.false in
-    record { token_of = λ _. long_token c.args.bytes.now _ (length c.args.bytes.now + 2) refl (omega (arith, c.if-bytes.false)) (c.put_quoted.ensures.plain t) (c.put_quoted.ensures.put t) c.word.result c.word-2.result c.if-n-lt-WORD.false c.word.ensures c.word-2.ensures; some = λ v l. refl }
+    record { token_of = long_token c.args.bytes.now _ (length c.args.bytes.now + 2) refl (omega (arith, c.if-bytes.false)) (c.put_quoted.ensures.plain t) (c.put_quoted.ensures.put t) c.word.result c.word-2.result c.if-length-lt-WORD.false c.word.ensures c.word-2.ensures; some = λ v l. refl }

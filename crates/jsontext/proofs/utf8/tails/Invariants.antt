@@ -1,11 +1,9 @@
--- What is left comes to the whole. Assumes nothing.
+-- So far each byte is one of these, inside the text; the others come to the whole. Assumes nothing.
 use mathlib.Core.Path.{◌≡◌}
-use lib.ListN.{replicate}
+use Prim.Native.Nat.{◌+◌, ◌-◌, ◌<◌, ◌≤◌}
+use lib.ListN.{length, replicate}
 use Rattle.jsontext.specs.Utf8.{tail, pass_at}
 use Rattle.jsontext.proofs.utf8.tails.Given as goal
 
-abbrev pub invariant-loop-left : goal.invariant-loop-left
-invariant-loop-left l = pass_at (replicate l.left tail) l.text l.i ≡ pass_at (replicate l.count tail) l.text l.at
-
-abbrev pub decreases-loop-left : goal.decreases-loop-left
-decreases-loop-left l = l.left
+abbrev pub invariant-loop-k : goal.invariant-loop-k
+invariant-loop-k l = (0 < l.k → l.at + l.k ≤ length l.text) × (pass_at (replicate (l.count - l.k) tail) l.text (l.at + l.k) ≡ pass_at (replicate l.count tail) l.text l.at)

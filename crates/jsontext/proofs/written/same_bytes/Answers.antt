@@ -1,22 +1,8 @@
--- At the loop's head k bytes agree. Assumes nothing.
-use mathlib.Core.Path.{◌≡◌, refl, sym, subst, ◌∙◌}
-use native.Mathlib.Omega.{arith}
-use Rattle.jsontext.specs.Compared.{Alike}
-use Rattle.jsontext.proofs.Places.{never}
-use Rattle.jsontext.proofs.Agreeing.{alike_none, alike_more}
+-- All of the one stand for themselves, and are those of the other. Assumes nothing.
+use mathlib.Core.Path.{sym, ◌∙◌}
+use lib.Pointwise.{bytes_decides}
+use Rattle.jsontext.proofs.Agreeing.{alike_parts}
 use Rattle.jsontext.proofs.written.same_bytes.Goals as goal
 
-pub loop-k-init : goal.loop-k-init
-loop-k-init c = (omega arith, alike_none _ _ _ _ (omega arith) (omega arith))
-
-pub returns-then-not-is_plain : goal.returns-then-not-is_plain
-returns-then-not-is_plain c e = never (sym e)
-
-pub returns-then-bytes-j : goal.returns-then-bytes-j
-returns-then-bytes-j c e = never (sym e)
-
-pub loop-k-preserved : goal.loop-k-preserved
-loop-k-preserved c = (omega arith, alike_more _ _ _ _ _ _ _ c.loop-k.invariant.1 refl (sym c.is_plain.ensures ∙ c.if-not-is_plain.false) refl c.if-bytes-j.false)
-
-pub returns : goal.returns
-returns c e = let z : c.loop-k.k ≡ c.args.n = omega arith in subst (Alike _ _ _ _) z c.loop-k.invariant.1
+pub returns-then-are_plain : goal.returns-then-are_plain
+returns-then-are_plain c e = alike_parts _ _ _ _ _ c.requires.first c.requires.second (c.are_plain.ensures.plain c.if-are_plain.true) ((bytes_decides _ _).0 (sym c.eq.ensures ∙ e))

@@ -1,16 +1,8 @@
 -- At the loop's head k bytes agree. Assumes nothing.
-use mathlib.Core.Path.{refl, sym}
+use mathlib.Core.Path.{refl}
 use native.Mathlib.Omega.{arith}
-use Rattle.jsontext.proofs.Places.{never}
-use Rattle.jsontext.proofs.Agreeing.{alike_none}
 use Rattle.jsontext.proofs.Writing.{alike_join}
 use Rattle.jsontext.proofs.written.same_part.Goals as goal
-
-pub loop-k-init : goal.loop-k-init
-loop-k-init c = (omega arith, alike_none _ _ _ _ (omega arith) (omega arith))
-
-pub returns-then-not-same_word : goal.returns-then-not-same_word
-returns-then-not-same_word c e = never (sym e)
 
 pub loop-k-preserved : goal.loop-k-preserved
 loop-k-preserved c = (omega arith, alike_join _ _ _ _ _ _ refl c.loop-k.invariant.1 (c.same_word.ensures c.if-not-same_word.false))

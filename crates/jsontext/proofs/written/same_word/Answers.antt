@@ -1,13 +1,8 @@
 -- What is shifted out is not compared. Assumes nothing.
-use mathlib.Core.Path.{sym}
 use borrow.Author.Tests.{eqb-true}
 use native.Mathlib.Omega.{arith}
-use Rattle.jsontext.proofs.Places.{never}
 use Rattle.jsontext.proofs.Writing.{alike_word}
 use Rattle.jsontext.proofs.written.same_word.Goals as goal
-
-pub returns-then-word-others : goal.returns-then-word-others
-returns-then-word-others c e = never (sym e)
 
 pub returns : goal.returns
 returns c e =

@@ -3,4 +3,4 @@ use Rattle.judging.proofs.States.{class_read}
 use Rattle.judging.proofs.chains.class_at.Goals as goal
 
 pub returns : goal.returns
-returns c = class_read c.args.work.now c.args.j c.size.result c.size.ensures.0
+returns c = class_read c.args.work.now c.args.j c.from.result c.from.ensures

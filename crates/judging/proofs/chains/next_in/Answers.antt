@@ -7,4 +7,4 @@ pub returns-then-high-low : goal.returns-then-high-low
 returns-then-high-low c = next_scan (class_in c.args.work.now) c.args.c c.args.j c.args.low c.args.high c.scan.result c.scan.ensures
 
 pub returns : goal.returns
-returns c = next_link (class_in c.args.work.now) c.args.c c.args.j c.args.low c.args.high c.args.links.now c.size.result (c.requires.chained.0 c.if-high-low.false) c.requires.bounds.0 c.requires.bounds.1 c.requires.chained.1 c.size.ensures.0
+returns c = next_link (class_in c.args.work.now) c.args.c c.args.j c.args.low c.args.high c.args.chains.now.links c.from.result (c.requires.chained.0 c.if-high-low.false) c.requires.bounds.0 c.requires.bounds.1 c.requires.chained.1 c.from.ensures

@@ -1,23 +1,13 @@
-use Rattle.judging.proofs.States.{scans}
+-- `judging::chains::scan` meets its contract. Assumes nothing.
+use mathlib.Core.Path.{◌≡◌}
+use borrow.Author.Rules.{rules}
+use borrow.Author.Tests.{tests}
+use Rattle.std.proofs.lemmas.Iterator.{first_from_Range}
+use Rattle.judging.specs.Chains.{class_in}
+use Rattle.judging.proofs.States.{scanned}
 use Rattle.judging.proofs.chains.scan.Goals as goal
 
-pub loop-j-init : goal.loop-j-init
-loop-j-init c = search scans
-
-pub class_at-requires : goal.class_at-requires
-class_at-requires c = search scans
-
-pub returns-then-class_at-c : goal.returns-then-class_at-c
-returns-then-class_at-c c = search scans
-
-pub overflow_add-j : goal.overflow_add-j
-overflow_add-j c = search scans
-
-pub loop-j-smaller : goal.loop-j-smaller
-loop-j-smaller c = search scans
-
-pub loop-j-preserved : goal.loop-j-preserved
-loop-j-preserved c = search scans
-
 pub returns : goal.returns
-returns c = search scans
+returns c =
+    let f = class_in c.args.work.now in
+    rw c.unwrap_or.ensures (scanned f c.args.c c.args.low c.args.high c.find.result c.requires.0 (first_from_Range (record { start = c.args.low; end = c.args.high }) _ _ _ (λ j. f j ≡ c.args.c) (λ j. f j ≡ c.args.c → ⊥) c.find.ensures.ran (λ x q k. search (rules, tests)) (λ x q k. search (rules, tests))))

@@ -9,18 +9,18 @@ bounds-work-at-2 c = simp length-set (omega arith)
 
 -- the space keeps its length
 pub bounds-work-at-3 : goal.bounds-work-at-3
-bounds-work-at-3 c = let e = simp length-set at c.put_cells.auto.out in omega arith
+bounds-work-at-3 c = let e = simp length-set at c.put.auto.out in omega arith
 
 pub bounds-work-at-4 : goal.bounds-work-at-4
-bounds-work-at-4 c = let e = simp length-set at c.put_cells.auto.out in simp length-set (omega arith)
+bounds-work-at-4 c = let e = simp length-set at c.put.auto.out in simp length-set (omega arith)
 
 pub shape_of-work : goal.shape_of-work
 shape_of-work c =
-    let e = simp length-set at c.put_cells.auto.out in
-    let f = simp length-set at c.put_cells-2.auto.out in
+    let e = simp length-set at c.put.auto.out in
+    let f = simp length-set at c.put-2.auto.out in
     omega arith
 
 pub returns : goal.returns
 returns c =
-    let e = simp length-set at c.put_cells.auto.out in
-    stored c.args.tags c.args.work.now c.put_cells.new.out c.put_cells-2.new.out c.args.n c.args.row.0 c.args.state.0 c.args.rule c.args.memory.now c.args.children.now (omega arith) (omega arith) (omega arith) (omega arith) c.requires.2 (omega arith) c.put_cells.ensures c.put_cells-2.ensures
+    let e = simp length-set at c.put.auto.out in
+    stored c.args.tags c.args.work.now c.put.new.out c.put-2.new.out c.args.n c.args.row.0 c.args.state.0 c.args.rule c.args.memory.now c.args.children.now (omega arith) (omega arith) (omega arith) (omega arith) c.requires.2 (omega arith) c.put.ensures c.put-2.ensures

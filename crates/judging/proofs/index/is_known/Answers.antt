@@ -4,9 +4,6 @@ use Rattle.judging.proofs.index.is_known.Goals as goal
 pub loop-i-init : goal.loop-i-init
 loop-i-init c = search walks
 
-pub is_same-requires : goal.is_same-requires
-is_same-requires c = search walks
-
 pub returns-then-is_same : goal.returns-then-is_same
 returns-then-is_same c = search walks
 

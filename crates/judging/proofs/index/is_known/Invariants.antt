@@ -1,7 +1,7 @@
 -- `judging::index::is_known` meets its contract. Assumes nothing.
 use Rattle.model.specs.Annotation.{annotation}
-use Rattle.judging.specs.Cells.{memory_of}
-use Rattle.judging.proofs.Chain.{Walking}
+use Rattle.membership.specs.Cells.{memory_of}
+use Rattle.membership.proofs.Chain.{Walking}
 use Rattle.judging.proofs.index.is_known.Given as goal
 
 abbrev pub invariant-loop-i : goal.invariant-loop-i

@@ -7,30 +7,6 @@ ruleset filling = (zeros, masks)
 pub returns-then-mask-eq0 : goal.returns-then-mask-eq0
 returns-then-mask-eq0 c = (nothing_dropped c.args.mask c.args.tags c.args.memory.now c.if-mask-eq0.true, c.requires.1)
 
-pub loop-k-init : goal.loop-k-init
-loop-k-init c = search filling
-
-pub offset_bounds-memory-k : goal.offset_bounds-memory-k
-offset_bounds-memory-k c = search filling
-
-pub bounds-memory-k : goal.bounds-memory-k
-bounds-memory-k c = search filling
-
-pub kept_place-requires : goal.kept_place-requires
-kept_place-requires c = search filling
-
-pub offset_bounds-out-k : goal.offset_bounds-out-k
-offset_bounds-out-k c = search filling
-
-pub bounds-out-k : goal.bounds-out-k
-bounds-out-k c = search filling
-
-pub overflow_add-k : goal.overflow_add-k
-overflow_add-k c = search filling
-
-pub loop-k-smaller : goal.loop-k-smaller
-loop-k-smaller c = search filling
-
 pub loop-k-preserved : goal.loop-k-preserved
 loop-k-preserved c = search filling
 

@@ -1,4 +1,3 @@
-use mathlib.Core.Path.{◌∙◌}
 use native.Mathlib.Omega.{arith}
 use Rattle.judging.specs.Chains.{class_in}
 use Rattle.judging.specs.Search.{tags_in}
@@ -15,7 +14,7 @@ pub slot_for-slot-requires : goal.slot_for-slot-requires
 slot_for-slot-requires t c = omega (arith, c.requires.0.few_children, c.requires.1, c.if-left-eq0.false)
 
 pub is_tried-requires : goal.is_tried-requires
-is_tried-requires t c = record { in_bounds = omega arith; row_bound = (c.requires.2.few_rows, c.requires.2.few_rules, omega (arith, c.requires.0.few_children, c.requires.1), c.requires.0.few_tags) }
+is_tried-requires t c = record { in_bounds = c.slot_for-slot.ensures; row_bound = (c.requires.2.few_rows, c.requires.2.few_rules, omega (arith, c.requires.0.few_children, c.requires.1), c.requires.0.few_tags) }
 
 pub returns-then-is_tried : goal.returns-then-is_tried
 returns-then-is_tried t c = tried_already c.args.work.now c.args.slots.now c.args.own.now c.args.plan.now c.args.asked.now c.args.left c.args.n c.args.memory.now c.args.children.now c.requires.0 c.args.tried.now c.requires.2 (c.is_tried.ensures c.if-is_tried.true)
@@ -25,15 +24,15 @@ overflow_sub-rest t c = omega (arith, c.if-left-eq0.false)
 
 pub first_in-j-requires : goal.first_in-j-requires
 first_in-j-requires t c =
-    let (four, order, few, fits, opened) = first_needs c.args.work.now c.args.slots.now c.args.own.now c.args.plan.now c.args.asked.now c.args.left c.args.n c.args.memory.now c.args.children.now c.requires.0 c.requires.1 c.if-left-eq0.false c.args.heads.now c.args.links.now c.requires.5 in
+    let (four, order, few, fits, opened) = first_needs c.args.work.now c.args.slots.now c.args.own.now c.args.plan.now c.args.asked.now c.args.left c.args.n c.args.memory.now c.args.children.now c.requires.0 c.requires.1 c.if-left-eq0.false c.args.chains.now.heads c.args.chains.now.links c.requires.5 in
     record { bounds = (four, c.class_of-c.ensures.1, order, few, fits); opened = opened }
 
 pub loop-j-init : goal.loop-j-init
-loop-j-init t c = choosing c.args.work.now c.args.slots.now c.args.own.now c.args.plan.now c.args.asked.now c.args.left c.args.n c.args.memory.now c.args.children.now c.args.heads.now c.args.links.now c.args.work.now c.args.slots.now c.args.children.now c.args.tried.now c.args.n _ (start c.args.work.now c.args.slots.now c.args.own.now c.args.plan.now c.args.asked.now c.args.left c.args.n c.args.memory.now c.args.children.now c.requires.0 c.requires.1 c.if-left-eq0.false c.args.tried.now c.requires.2) c.requires.5 (omega arith) (class_in c.args.work.now) (class_start c.args.work.now c.args.slots.now c.args.own.now c.args.plan.now c.args.asked.now c.args.left c.args.n c.args.memory.now c.args.children.now c.requires.0 c.requires.1 c.if-left-eq0.false c.args.heads.now c.args.links.now c.requires.5) c.class_of-c.result c.first_in-j.result c.class_of-c.ensures.0 c.first_in-j.ensures
+loop-j-init t c = choosing c.args.work.now c.args.slots.now c.args.own.now c.args.plan.now c.args.asked.now c.args.left c.args.n c.args.memory.now c.args.children.now c.args.chains.now.heads c.args.chains.now.links c.args.work.now c.args.slots.now c.args.children.now c.args.tried.now c.args.n _ (start c.args.work.now c.args.slots.now c.args.own.now c.args.plan.now c.args.asked.now c.args.left c.args.n c.args.memory.now c.args.children.now c.requires.0 c.requires.1 c.if-left-eq0.false c.args.tried.now c.requires.2) c.requires.5 (omega arith) (class_in c.args.work.now) (class_start c.args.work.now c.args.slots.now c.args.own.now c.args.plan.now c.args.asked.now c.args.left c.args.n c.args.memory.now c.args.children.now c.requires.0 c.requires.1 c.if-left-eq0.false c.args.chains.now.heads c.args.chains.now.links c.requires.5) c.class_of-c.result c.first_in-j.result c.class_of-c.ensures.0 c.first_in-j.ensures
 
 pub next_in-j-requires : goal.next_in-j-requires
 next_in-j-requires t c =
-    let (few, fits, chained, is) = next_needs c.args.work.now c.args.slots.now c.args.own.now c.args.plan.now c.args.asked.now c.args.left c.args.n c.args.memory.now c.args.children.now c.args.heads.now c.args.links.now c.loop-j.work c.loop-j.slots c.loop-j.children c.loop-j.tried c.loop-j.m c.loop-j.j c.loop-j.invariant c.loop-j-test.true in
+    let (few, fits, chained, is) = next_needs c.args.work.now c.args.slots.now c.args.own.now c.args.plan.now c.args.asked.now c.args.left c.args.n c.args.memory.now c.args.children.now c.args.chains.now.heads c.args.chains.now.links c.loop-j.work c.loop-j.slots c.loop-j.children c.loop-j.tried c.loop-j.m c.loop-j.j c.loop-j.invariant c.loop-j-test.true in
     record { bounds = (c.loop-j.invariant.from, c.loop-j-test.true, few, fits); chained = (chained, is c.class_of-c.result c.class_of-c.ensures.0) }
 
 pub choosable-requires : goal.choosable-requires
@@ -61,32 +60,23 @@ bounds-children-p t c =
     let (four, e, less) = in_place c.args.work.now c.args.slots.now c.args.own.now c.args.plan.now c.args.asked.now c.args.left c.args.n c.args.memory.now c.args.children.now c.loop-j.work c.loop-j.slots c.loop-j.children c.loop-j.tried c.loop-j.m c.loop-j.j c.loop-j.invariant.searching in
     omega (arith, four)
 
-pub search-m-requires : goal.search-m-requires
-search-m-requires t c =
+pub search-requires : goal.search-requires
+search-requires t c =
     let (four, e, less) = in_place c.args.work.now c.args.slots.now c.args.own.now c.args.plan.now c.args.asked.now c.args.left c.args.n c.args.memory.now c.args.children.now c.loop-j.work c.loop-j.slots c.loop-j.children c.loop-j.tried c.loop-j.m c.loop-j.j c.loop-j.invariant.searching in
     let is = c.decreases in let p = c.requires in
-    (omega (arith, c.loop-j.invariant.searching.some, is), (next_ready c.args.work.now c.args.slots.now c.args.own.now c.args.plan.now c.args.asked.now c.args.left c.args.n c.args.memory.now c.args.children.now c.loop-j.work c.loop-j.slots c.loop-j.children c.loop-j.tried c.loop-j.m c.loop-j.j c.loop-j.invariant.searching, less, c.loop-j.invariant.searching.tried, p.3, more_short c.args.work.now c.args.slots.now c.args.own.now c.args.plan.now c.args.asked.now c.args.left c.args.n c.args.memory.now c.args.children.now c.loop-j.work c.loop-j.slots c.loop-j.children c.loop-j.tried c.loop-j.m c.loop-j.j c.loop-j.invariant.searching c.loop-j-test.true c.joined_with-more.result p.4 c.joined_with-more.ensures, next_windows c.args.work.now c.args.slots.now c.args.own.now c.args.plan.now c.args.asked.now c.args.left c.args.n c.args.memory.now c.args.children.now c.args.heads.now c.args.links.now c.loop-j.work c.loop-j.slots c.loop-j.children c.loop-j.tried c.loop-j.m c.loop-j.j c.loop-j.invariant c.loop-j-test.true))
+    (omega (arith, c.loop-j.invariant.searching.some, is), (next_ready c.args.work.now c.args.slots.now c.args.own.now c.args.plan.now c.args.asked.now c.args.left c.args.n c.args.memory.now c.args.children.now c.loop-j.work c.loop-j.slots c.loop-j.children c.loop-j.tried c.loop-j.m c.loop-j.j c.loop-j.invariant.searching, less, c.loop-j.invariant.searching.tried, p.3, more_short c.args.work.now c.args.slots.now c.args.own.now c.args.plan.now c.args.asked.now c.args.left c.args.n c.args.memory.now c.args.children.now c.loop-j.work c.loop-j.slots c.loop-j.children c.loop-j.tried c.loop-j.m c.loop-j.j c.loop-j.invariant.searching c.loop-j-test.true c.joined_with-more.result p.4 c.joined_with-more.ensures, next_windows c.args.work.now c.args.slots.now c.args.own.now c.args.plan.now c.args.asked.now c.args.left c.args.n c.args.memory.now c.args.children.now c.args.chains.now.heads c.args.chains.now.links c.loop-j.work c.loop-j.slots c.loop-j.children c.loop-j.tried c.loop-j.m c.loop-j.j c.loop-j.invariant c.loop-j-test.true))
 
-pub shape_of-work-then-m-room : goal.shape_of-work-then-m-room
-shape_of-work-then-m-room t c = c.search-m.auto.work ∙ c.loop-j.invariant.searching.turning.space
+pub returns-in_err-m : goal.returns-in_err-m
+returns-in_err-m t c = rw c.from_residual.ensures (full c.args.work.now c.args.slots.now c.args.own.now c.args.plan.now c.args.asked.now c.args.left c.args.n c.args.memory.now c.args.children.now c.loop-j.work c.loop-j.slots c.loop-j.children c.loop-j.tried c.loop-j.m c.loop-j.j c.loop-j.invariant.searching c.loop-j-test.true c.choosable.result c.choosable.ensures c.narrow.result c.joined_with-more.result c.if-choosable.true (c.joined_with-more.ensures (tags_in c.args.plan.now) c.loop-j.invariant.searching.ready.few_tags) c.narrow.ensures c.search.new.work c.search.new.slots c.search.new.children c.search.new.tried c.in_err-m.ensures.0 c.in_err-m.ensures.1)
 
-pub returns-then-m-room : goal.returns-then-m-room
-returns-then-m-room t c = full c.args.work.now c.args.slots.now c.args.own.now c.args.plan.now c.args.asked.now c.args.left c.args.n c.args.memory.now c.args.children.now c.loop-j.work c.loop-j.slots c.loop-j.children c.loop-j.tried c.loop-j.m c.loop-j.j c.loop-j.invariant.searching c.loop-j-test.true c.choosable.result c.choosable.ensures c.narrow.result c.joined_with-more.result c.search-m.new.work c.search-m.new.slots c.search-m.new.children c.search-m.new.tried c.search-m.result c.if-choosable.true (c.joined_with-more.ensures (tags_in c.args.plan.now) c.loop-j.invariant.searching.ready.few_tags) c.narrow.ensures c.search-m.ensures.0 c.search-m.ensures.1 c.search-m.ensures.2 c.if-m-room.true
-
-pub loop-j-smaller-else-m-room : goal.loop-j-smaller-else-m-room
-loop-j-smaller-else-m-room t c = omega (arith, c.next_in-j.ensures.from, c.next_in-j.ensures.to, c.loop-j-test.true)
-
-pub loop-j-preserved-else-m-room : goal.loop-j-preserved-else-m-room
-loop-j-preserved-else-m-room t c = choosing_next c.args.work.now c.args.slots.now c.args.own.now c.args.plan.now c.args.asked.now c.args.left c.args.n c.args.memory.now c.args.children.now c.args.heads.now c.args.links.now c.search-m.new.work c.search-m.new.slots c.search-m.new.children c.search-m.new.tried c.search-m.result c.loop-j.j (again c.args.work.now c.args.slots.now c.args.own.now c.args.plan.now c.args.asked.now c.args.left c.args.n c.args.memory.now c.args.children.now c.loop-j.work c.loop-j.slots c.loop-j.children c.loop-j.tried c.loop-j.m c.loop-j.j c.loop-j.invariant.searching c.loop-j-test.true c.choosable.result c.choosable.ensures c.narrow.result c.joined_with-more.result c.search-m.new.work c.search-m.new.slots c.search-m.new.children c.search-m.new.tried c.search-m.result c.if-choosable.true (c.joined_with-more.ensures (tags_in c.args.plan.now) c.loop-j.invariant.searching.ready.few_tags) c.narrow.ensures c.search-m.ensures.0 c.search-m.ensures.1 c.search-m.ensures.2 c.search-m.auto.work c.if-m-room.false) c.loop-j.invariant.windows c.loop-j.invariant.from (class_in c.loop-j.work) (class_known c.args.work.now c.args.slots.now c.args.own.now c.args.plan.now c.args.asked.now c.args.left c.args.n c.args.memory.now c.args.children.now c.loop-j.work c.loop-j.slots c.loop-j.children c.loop-j.tried c.loop-j.m c.loop-j.j c.loop-j.invariant.searching) c.class_of-c.result c.next_in-j.result c.class_of-c.ensures.0 c.next_in-j.ensures
-
-pub loop-j-smaller : goal.loop-j-smaller
-loop-j-smaller t c = omega (arith, c.next_in-j.ensures.from, c.next_in-j.ensures.to, c.loop-j-test.true)
+pub loop-j-preserved-then-choosable : goal.loop-j-preserved-then-choosable
+loop-j-preserved-then-choosable t c = choosing_next c.args.work.now c.args.slots.now c.args.own.now c.args.plan.now c.args.asked.now c.args.left c.args.n c.args.memory.now c.args.children.now c.args.chains.now.heads c.args.chains.now.links c.search.new.work c.search.new.slots c.search.new.children c.search.new.tried c.in_ok-m.m c.loop-j.j (again c.args.work.now c.args.slots.now c.args.own.now c.args.plan.now c.args.asked.now c.args.left c.args.n c.args.memory.now c.args.children.now c.loop-j.work c.loop-j.slots c.loop-j.children c.loop-j.tried c.loop-j.m c.loop-j.j c.loop-j.invariant.searching c.loop-j-test.true c.choosable.result c.choosable.ensures c.narrow.result c.joined_with-more.result c.if-choosable.true (c.joined_with-more.ensures (tags_in c.args.plan.now) c.loop-j.invariant.searching.ready.few_tags) c.narrow.ensures c.search.new.work c.search.new.slots c.search.new.children c.search.new.tried c.in_ok-m.m c.in_ok-m.ensures.0 c.in_ok-m.ensures.1 c.in_ok-m.ensures.2 c.search.auto.work) c.loop-j.invariant.windows c.loop-j.invariant.from (class_in c.loop-j.work) (class_known c.args.work.now c.args.slots.now c.args.own.now c.args.plan.now c.args.asked.now c.args.left c.args.n c.args.memory.now c.args.children.now c.loop-j.work c.loop-j.slots c.loop-j.children c.loop-j.tried c.loop-j.m c.loop-j.j c.loop-j.invariant.searching) c.class_of-c.result c.next_in-j.result c.class_of-c.ensures.0 c.next_in-j.ensures
 
 pub loop-j-preserved : goal.loop-j-preserved
-loop-j-preserved t c = choosing_next c.args.work.now c.args.slots.now c.args.own.now c.args.plan.now c.args.asked.now c.args.left c.args.n c.args.memory.now c.args.children.now c.args.heads.now c.args.links.now c.loop-j.work c.loop-j.slots c.loop-j.children c.loop-j.tried c.loop-j.m c.loop-j.j (skip c.args.work.now c.args.slots.now c.args.own.now c.args.plan.now c.args.asked.now c.args.left c.args.n c.args.memory.now c.args.children.now c.loop-j.work c.loop-j.slots c.loop-j.children c.loop-j.tried c.loop-j.m c.loop-j.j c.loop-j.invariant.searching c.loop-j-test.true c.choosable.result c.choosable.ensures c.if-choosable.false) c.loop-j.invariant.windows c.loop-j.invariant.from (class_in c.loop-j.work) (class_known c.args.work.now c.args.slots.now c.args.own.now c.args.plan.now c.args.asked.now c.args.left c.args.n c.args.memory.now c.args.children.now c.loop-j.work c.loop-j.slots c.loop-j.children c.loop-j.tried c.loop-j.m c.loop-j.j c.loop-j.invariant.searching) c.class_of-c.result c.next_in-j.result c.class_of-c.ensures.0 c.next_in-j.ensures
+loop-j-preserved t c = choosing_next c.args.work.now c.args.slots.now c.args.own.now c.args.plan.now c.args.asked.now c.args.left c.args.n c.args.memory.now c.args.children.now c.args.chains.now.heads c.args.chains.now.links c.loop-j.work c.loop-j.slots c.loop-j.children c.loop-j.tried c.loop-j.m c.loop-j.j (skip c.args.work.now c.args.slots.now c.args.own.now c.args.plan.now c.args.asked.now c.args.left c.args.n c.args.memory.now c.args.children.now c.loop-j.work c.loop-j.slots c.loop-j.children c.loop-j.tried c.loop-j.m c.loop-j.j c.loop-j.invariant.searching c.loop-j-test.true c.choosable.result c.choosable.ensures c.if-choosable.false) c.loop-j.invariant.windows c.loop-j.invariant.from (class_in c.loop-j.work) (class_known c.args.work.now c.args.slots.now c.args.own.now c.args.plan.now c.args.asked.now c.args.left c.args.n c.args.memory.now c.args.children.now c.loop-j.work c.loop-j.slots c.loop-j.children c.loop-j.tried c.loop-j.m c.loop-j.j c.loop-j.invariant.searching) c.class_of-c.result c.next_in-j.result c.class_of-c.ensures.0 c.next_in-j.ensures
 
 pub keep-requires : goal.keep-requires
-keep-requires t c = (c.requires.2.few_rows, c.requires.2.few_rules, omega (arith, c.requires.0.few_children, c.requires.1))
+keep-requires t c = (c.slot_for-slot.ensures, c.requires.2.few_rows, c.requires.2.few_rules, omega (arith, c.requires.0.few_children, c.requires.1))
 
 pub shape_of-work : goal.shape_of-work
 shape_of-work t c = c.loop-j.invariant.searching.turning.space

@@ -2,8 +2,5 @@
 use Rattle.judging.proofs.Storing.{leaves}
 use Rattle.judging.proofs.search.leave.Goals as goal
 
-pub returns-then-forget-eq0 : goal.returns-then-forget-eq0
-returns-then-forget-eq0 c = search leaves
-
-pub returns : goal.returns
-returns c = search leaves
+pub returns-then-asked-eq0 : goal.returns-then-asked-eq0
+returns-then-asked-eq0 c = search leaves

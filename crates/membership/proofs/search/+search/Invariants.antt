@@ -1,5 +1,4 @@
 -- `membership::search::search` meets its contract: the measure is the number of places left. Assumes nothing.
-use Prim.Native.Nat.{◌-◌}
 use Rattle.membership.proofs.Searching.{Searching}
 use Rattle.membership.proofs.search.+search.Given as goal
 
@@ -8,6 +7,3 @@ decreases-search l = l.left
 
 abbrev pub invariant-loop-j : goal.invariant-loop-j
 invariant-loop-j l = Searching l.initial.work l.own l.want l.left l.n l.memory l.children l.work l.m l.j
-
-abbrev pub decreases-loop-j : goal.decreases-loop-j
-decreases-loop-j l = l.end - l.j

@@ -4,6 +4,3 @@ use Rattle.membership.proofs.search.leave.Goals as goal
 
 pub returns-then-want-eq0 : goal.returns-then-want-eq0
 returns-then-want-eq0 c = search leaves
-
-pub returns : goal.returns
-returns c = search leaves

@@ -1,11 +1,7 @@
 -- `membership::table::annotate` meets its contract. Assumes nothing.
-use Prim.Native.Nat.{◌-◌}
 use lib.ListN.{length}
 use Rattle.membership.proofs.Annotating.{Annotating}
 use Rattle.membership.proofs.table.annotate.Given as goal
 
 abbrev pub invariant-loop-i : goal.invariant-loop-i
 invariant-loop-i l = Annotating l.set l.rows l.room l.tags (length l.initial.work) l.starts l.work l.n l.i
-
-abbrev pub decreases-loop-i : goal.decreases-loop-i
-decreases-loop-i l = l.end - l.i

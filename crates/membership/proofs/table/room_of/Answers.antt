@@ -2,8 +2,5 @@
 use Rattle.membership.proofs.Own.{rooms}
 use Rattle.membership.proofs.table.room_of.Goals as goal
 
-pub returns-then-n-le-MAX_ROOM : goal.returns-then-n-le-MAX_ROOM
-returns-then-n-le-MAX_ROOM c = search rooms
-
-pub returns-else-n-le-MAX_ROOM : goal.returns-else-n-le-MAX_ROOM
-returns-else-n-le-MAX_ROOM c = search rooms
+pub returns : goal.returns
+returns c = search rooms

@@ -2,17 +2,5 @@
 use Rattle.membership.proofs.Marks.{reads}
 use Rattle.membership.proofs.trace.child.Goals as goal
 
-pub source-requires : goal.source-requires
-source-requires c = search reads
-
-pub overflow_add-p : goal.overflow_add-p
-overflow_add-p c = search reads
-
-pub cell-requires : goal.cell-requires
-cell-requires c = search reads
-
-pub size-requires : goal.size-requires
-size-requires c = search reads
-
 pub returns : goal.returns
 returns c = search reads

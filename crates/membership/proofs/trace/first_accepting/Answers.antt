@@ -1,23 +1,15 @@
-use Rattle.membership.proofs.Marks.{seeks}
+-- `membership::trace::first_accepting` meets its contract. Assumes nothing.
+use mathlib.Core.Path.{◌≡◌}
+use mathlib.Core.Bool.{true, false}
+use borrow.Author.Rules.{rules}
+use borrow.Author.Tests.{tests}
+use Rattle.std.proofs.lemmas.Iterator.{first_from_Range}
+use Rattle.automaton.specs.Stored.{decode}
+use Rattle.membership.specs.Trace.{accepting_in}
+use Rattle.membership.proofs.Marks.{first_of}
 use Rattle.membership.proofs.trace.first_accepting.Goals as goal
 
-pub loop-j-init : goal.loop-j-init
-loop-j-init c = search seeks
-
-pub is_accepting-requires : goal.is_accepting-requires
-is_accepting-requires c = search seeks
-
-pub returns-then-is_accepting : goal.returns-then-is_accepting
-returns-then-is_accepting c = search seeks
-
-pub overflow_add-j : goal.overflow_add-j
-overflow_add-j c = search seeks
-
-pub loop-j-smaller : goal.loop-j-smaller
-loop-j-smaller c = search seeks
-
-pub loop-j-preserved : goal.loop-j-preserved
-loop-j-preserved c = search seeks
-
 pub returns : goal.returns
-returns c = search seeks
+returns c =
+    let f = accepting_in (decode c.args.set.now) c.args.last.0 c.args.work.now in
+    first_of f c.args.n c.find.result (first_from_Range (record { start = 0; end = c.args.n }) _ _ _ (λ j. f j ≡ true) (λ j. f j ≡ false) c.find.ensures.ran (λ x q k. search (rules, tests)) (λ x q k. search (rules, tests)))

@@ -2,8 +2,5 @@
 use Rattle.membership.proofs.Marks.{reads}
 use Rattle.membership.proofs.trace.is_reached.Goals as goal
 
-pub cell-requires : goal.cell-requires
-cell-requires c = search reads
-
 pub returns : goal.returns
 returns c = search reads

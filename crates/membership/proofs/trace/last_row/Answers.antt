@@ -2,12 +2,6 @@
 use Rattle.membership.proofs.Marks.{lasts}
 use Rattle.membership.proofs.trace.last_row.Goals as goal
 
-pub count-requires : goal.count-requires
-count-requires c = search lasts
-
-pub overflow_sub-count : goal.overflow_sub-count
-overflow_sub-count c = search lasts
-
 pub narrow-requires : goal.narrow-requires
 narrow-requires c = search lasts
 

@@ -1,41 +1,19 @@
-use Rattle.membership.proofs.Writing.{writes}
+use Prim.Native.Nat.{◌≤◌}
+use native.Mathlib.Omega.{arith}
+use Rattle.membership.proofs.Writing.{writing_skip, writing_more, writes}
 use Rattle.membership.proofs.write.write_steps.Goals as goal
+use Rattle.membership.proofs.write.write_steps.Goals.{then-is_reached, else-is_reached}
 
 pub loop-j-init : goal.loop-j-init
 loop-j-init c = search writes
 
-pub overflow_add-j : goal.overflow_add-j
-overflow_add-j c = search writes
-
-pub is_reached-requires : goal.is_reached-requires
-is_reached-requires c = search writes
-
-pub write_step-requires : goal.write_step-requires
-write_step-requires c = search writes
-
 pub overflow_add-s : goal.overflow_add-s
 overflow_add-s c = search writes
 
-pub loop-j-smaller-then-is_reached : goal.loop-j-smaller-then-is_reached
-loop-j-smaller-then-is_reached c = search writes
-
-pub loop-j-preserved-then-is_reached : goal.loop-j-preserved-then-is_reached
-loop-j-preserved-then-is_reached c = search writes
-
-pub loop-j-smaller : goal.loop-j-smaller
-loop-j-smaller c = search writes
-
 pub loop-j-preserved : goal.loop-j-preserved
-loop-j-preserved c = search writes
-
-pub size-requires : goal.size-requires
-size-requires c = search writes
-
-pub shape_of-work : goal.shape_of-work
-shape_of-work c = search writes
-
-pub shape_of-run : goal.shape_of-run
-shape_of-run c = search writes
-
-pub returns : goal.returns
-returns c = search writes
+loop-j-preserved c =
+    let l : c.loop-j.j ≤ c.args.root = omega (arith, c.loop-j-test.true) in
+    elim c.if-is_reached.branch [
+      | then-is_reached w ↦ rw (w.work-is, w.run-is, w.s-is) (writing_more c.args.work.now c.args.run.now c.args.root c.loop-j.work c.loop-j.run c.loop-j.s c.loop-j.j c.loop-j.invariant c.requires.reached l (omega (arith, c.requires.bounds)) (omega (arith, c.requires.bounds)) c.is_reached.result c.is_reached.ensures w.if-is_reached.true w.write_step.new.work w.write_step.new.run w.write_step.ensures.0 w.write_step.ensures.1)
+      | else-is_reached w ↦ rw (w.work-is, w.run-is, w.s-is) (writing_skip c.args.work.now c.args.run.now c.args.root c.loop-j.work c.loop-j.run c.loop-j.s c.loop-j.j c.loop-j.invariant c.is_reached.result l c.is_reached.ensures w.if-is_reached.false)
+    ]

@@ -2,11 +2,8 @@
 use mathlib.Core.Path.{◌∙◌}
 use mathlib.Core.List.{[], ◌∷◌}
 use native.Mathlib.Omega.{arith}
-use Rattle.names.proofs.Cells.{number_put, one_digit, two_digits, cells}
+use Rattle.names.proofs.Cells.{number_put, one_digit, two_digits}
 use Rattle.names.proofs.table.put_shown.Goals as goal
-
-pub returns-then-part-gt0 : goal.returns-then-part-gt0
-returns-then-part-gt0 c = search cells
 
 pub returns-then-i-lt10 : goal.returns-then-i-lt10
 returns-then-i-lt10 c =

@@ -1,5 +1,4 @@
--- `runs::memories::note` meets its contract: the cells of the steps passed are noted. Assumes nothing.
-use Prim.Native.Nat.{◌-◌}
+-- `runs::memories::note` meets its contract: the steps passed are noted. Assumes nothing.
 use lib.ListN.{length}
 use Rattle.automaton.specs.Stored.{decode}
 use Rattle.runs.specs.Steps.{decode_steps}
@@ -7,7 +6,4 @@ use Rattle.runs.proofs.ByTag.{Noting}
 use Rattle.runs.proofs.memories.note.Given as goal
 
 abbrev pub invariant-loop-i : goal.invariant-loop-i
-invariant-loop-i l = Noting (decode l.set) (decode_steps l.run) l.n (length l.initial.masks) (length l.initial.forgets) l.masks l.forgets l.i
-
-abbrev pub decreases-loop-i : goal.decreases-loop-i
-decreases-loop-i l = l.n - l.i
+invariant-loop-i l = Noting (decode l.set) (decode_steps l.run) l.n (length l.initial.notes) l.notes l.i

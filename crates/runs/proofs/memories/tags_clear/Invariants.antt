@@ -1,12 +1,8 @@
 -- `runs::memories::tags_clear` meets its contract: no tag passed clashes. Assumes nothing.
-use Prim.Native.Nat.{◌-◌}
 use Rattle.automaton.specs.Stored.{decode}
 use Rattle.runs.specs.Steps.{decode_steps}
 use Rattle.runs.proofs.ByTag.{Clearing}
 use Rattle.runs.proofs.memories.tags_clear.Given as goal
 
 abbrev pub invariant-loop-k : goal.invariant-loop-k
-invariant-loop-k l = Clearing (decode l.set) (decode_steps l.run) l.n l.tags l.masks l.forgets l.cells l.k
-
-abbrev pub decreases-loop-k : goal.decreases-loop-k
-decreases-loop-k l = l.tags - l.k
+invariant-loop-k l = Clearing (decode l.set) (decode_steps l.run) l.n l.tags l.notes l.cells l.k

@@ -1,39 +1,25 @@
-use native.Mathlib.Omega.{arith}
-use Rattle.spelling.proofs.Summing.{summed_end, summed_over, summed_more, place_in_use, summing}
+use mathlib.Core.Path.{◌≡◌, ◌∙◌}
+use mathlib.Core.List.{[]}
+use Rattle.document.proofs.Places.{rest_in, rest_last}
+use Rattle.spelling.proofs.Summing.{summed_end, summed_over, summed_more, rest_none, summing}
 use Rattle.spelling.proofs.lengths.list_length.Goals as goal
+use Rattle.spelling.proofs.lengths.list_length.Goals.{else-loop-k-test, then-loop-k-test+then-c}
 
-pub loop-i-init : goal.loop-i-init
-loop-i-init c = search summing
+pub loop-k-init : goal.loop-k-init
+loop-k-init c = search summing
 
-pub place-c-requires : goal.place-c-requires
-place-c-requires c = search summing
+pub returns-in_err-n : goal.returns-in_err-n
+returns-in_err-n c =
+    c.from_residual.ensures
+    ∙ summed_over _ _ _ _ _ _ _ c.loop-k.invariant c.place-c.ensures c.if-c.false _ _ _ c.length_at.ensures c.sum.ensures c.in_err-n.was
 
-pub sum-requires : goal.sum-requires
-sum-requires c = search summing
+pub loop-k-preserved : goal.loop-k-preserved
+loop-k-preserved c = summed_more _ _ _ _ _ _ _ c.loop-k.invariant c.place-c.ensures c.if-c.false _ _ _ c.length_at.ensures c.sum.ensures _ c.in_ok-n.was
 
-pub returns-then-c : goal.returns-then-c
-returns-then-c c = summed_end _ _ _ _ _ _ _ c.loop-i.invariant.1 c.place-c.ensures _ _ c.if-c.true c.sum.ensures
-
-pub length_at-requires : goal.length_at-requires
-length_at-requires c = search summing
-
-pub sum-requires-in-loop-i : goal.sum-requires-in-loop-i
-sum-requires-in-loop-i c = search summing
-
-pub enum_known-m : goal.enum_known-m
-enum_known-m c = search summing
-
-pub enum_told-1 : goal.enum_told-1
-enum_told-1 c = search summing
-
-pub returns-in_default : goal.returns-in_default
-returns-in_default c = summed_over _ _ _ _ _ _ _ c.loop-i.invariant.1 c.place-c.ensures c.if-c.false _ _ _ c.length_at.ensures c.sum-in-loop-i.ensures c.in_default.is
-
-pub overflow_add-k : goal.overflow_add-k
-overflow_add-k c = omega (arith, place_in_use _ _ _ _ c.place-c.ensures c.if-c.false)
-
-pub loop-i-smaller : goal.loop-i-smaller
-loop-i-smaller c = omega (arith, place_in_use _ _ _ _ c.place-c.ensures c.if-c.false)
-
-pub loop-i-preserved : goal.loop-i-preserved
-loop-i-preserved c = (omega (arith, place_in_use _ _ _ _ c.place-c.ensures c.if-c.false), summed_more _ _ _ _ _ _ _ c.loop-i.invariant.1 c.place-c.ensures c.if-c.false _ _ _ c.length_at.ensures c.sum-in-loop-i.ensures _ c.in-Fits.is)
+pub returns : goal.returns
+returns c =
+    let none : rest_in c.args.rows.now c.args.i.0 c.loop-k.k ≡ [] = elim c.loop-k-test.branch [
+      | else-loop-k-test w ↦ rest_last _ _ _ w.loop-k-test.false
+      | then-loop-k-test+then-c w ↦ rest_none _ _ _ _ w.place-c.ensures w.if-c.true
+    ] in
+    summed_end _ _ _ _ _ _ c.loop-k.invariant none _ _ c.sum-2.ensures

@@ -1,26 +1,12 @@
-use Rattle.spelling.proofs.Pieces.{hexes}
+use native.Mathlib.Omega.{arith}
+use Rattle.spelling.proofs.Pieces.{hex_room, hex_more, hex_all}
 use Rattle.spelling.proofs.piece.hex_of.Goals as goal
 
-pub nothing-p-requires : goal.nothing-p-requires
-nothing-p-requires c = search hexes
-
-pub loop-left-init : goal.loop-left-init
-loop-left-init c = search hexes
-
-pub hex_digit-requires : goal.hex_digit-requires
-hex_digit-requires c = search hexes
-
 pub before-p-requires : goal.before-p-requires
-before-p-requires c = search hexes
+before-p-requires c = hex_room _ _ _ _ c.loop.invariant (omega arith)
 
-pub overflow_sub-left : goal.overflow_sub-left
-overflow_sub-left c = search hexes
-
-pub loop-left-smaller : goal.loop-left-smaller
-loop-left-smaller c = search hexes
-
-pub loop-left-preserved : goal.loop-left-preserved
-loop-left-preserved c = search hexes
+pub loop-preserved : goal.loop-preserved
+loop-preserved c = hex_more _ _ _ _ c.loop.invariant _ _ _ (omega arith) (omega arith) c.hex_digit.ensures c.before-p.ensures
 
 pub returns : goal.returns
-returns c = search hexes
+returns c = hex_all _ _ _ _ c.loop.invariant (omega arith)

@@ -1,4 +1,5 @@
 -- `spelling::piece::scalar_text` meets its contract, kind by kind. Assumes nothing.
+use borrow.Author.Rules.{rules}
 use Rattle.spelling.proofs.Pieces.{bare_holds, flag_holds, count_holds, rate_holds, name_holds, hex_start}
 use Rattle.spelling.proofs.piece.scalar_text.Goals as goal
 
@@ -19,5 +20,4 @@ returns-in-3 c = rw c.in-3.is (rate_holds _ _ _ c.before-in-3.ensures c.hex_of.e
 
 pub returns-in_default : goal.returns-in_default
 returns-in_default c =
-    let ((((_, a), b), d), e) = c.in_default.in_default-own.rest in
-    name_holds _ _ _ _ a b d e c.before-in_default.ensures c.decimal_of-in_default.ensures.0
+    name_holds _ _ _ _ (search rules) (search rules) (search rules) (search rules) c.before-in_default.ensures c.decimal_of-in_default.ensures.0

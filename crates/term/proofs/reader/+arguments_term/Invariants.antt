@@ -12,11 +12,11 @@ use Rattle.term.proofs.reader.+arguments_term.Given as goal
 abbrev pub decreases-arguments : goal.decreases-arguments
 decreases-arguments l = 2 * l.level + 1
 
-abbrev pub invariant-arguments-loop-w : goal.invariant-arguments-loop-w
-invariant-arguments-loop-w l = Listing (read_term (setting_of l.set l.names l.symbols l.limit) l.text l.level) l.text l.start (rows_below l.initial.rows l.used) l.limit l.rows l.slots l.at l.known l.count l.fields.places × (length l.rows ≡ length l.initial.rows) × (l.fields.symbol ≡ l.symbol) × (l.fields.scalar ≡ Bare)
+abbrev pub invariant-arguments-loop-child : goal.invariant-arguments-loop-child
+invariant-arguments-loop-child l = Listing (read_term (setting_of l.source.set.now l.source.names.now l.source.symbols l.source.limit) l.source.text.now l.level) l.source.text.now l.start (rows_below l.initial.rows l.used) l.source.limit l.rows l.slots l.at l.known l.count l.fields.places × (length l.rows ≡ length l.initial.rows) × (l.fields.symbol ≡ l.symbol) × (l.fields.scalar ≡ Bare)
 
-abbrev pub decreases-arguments-loop-w : goal.decreases-arguments-loop-w
-decreases-arguments-loop-w l = length l.text - l.at
+abbrev pub decreases-arguments-loop-child : goal.decreases-arguments-loop-child
+decreases-arguments-loop-child l = length l.source.text.now - l.at
 
 abbrev pub decreases-term : goal.decreases-term
 decreases-term l = 2 * l.level

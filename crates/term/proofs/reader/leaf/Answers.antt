@@ -7,10 +7,10 @@ use Rattle.model.specs.Automaton.{arity_of}
 use Rattle.automaton.specs.Stored.{decode}
 use Rattle.term.proofs.reader.leaf.Goals as goal
 
-pub returns-in-Is : goal.returns-in-Is
-returns-in-Is c find =
-    says_by _ _ _ _ (leaf_scalar (record { symbol = find; arity = arity_of (decode c.args.set.now); limit = c.args.limit }) _ _ _ _ _ c.scalar_at.ensures _ _ c.in-Is.is)
+pub returns-in-Ok : goal.returns-in-Ok
+returns-in-Ok c find =
+    says_by _ _ _ _ (leaf_scalar (record { symbol = find; arity = arity_of (decode c.args.source.now.set.now); limit = c.args.source.now.limit }) _ _ _ _ _ c.scalar_at.ensures _ c.in-Ok.is)
     (says_childless _ _ _ _ _ _ _ _ _ _ _ c.no_children-fields.ensures c.end_term.ensures)
 
-pub returns-in-Fault : goal.returns-in-Fault
-returns-in-Fault c find = says_by _ _ _ _ (leaf_fault (record { symbol = find; arity = arity_of (decode c.args.set.now); limit = c.args.limit }) _ _ _ _ _ c.scalar_at.ensures _ c.in-Fault.is) refl
+pub returns-in-Err : goal.returns-in-Err
+returns-in-Err c find = says_by _ _ _ _ (leaf_fault (record { symbol = find; arity = arity_of (decode c.args.source.now.set.now); limit = c.args.source.now.limit }) _ _ _ _ _ c.scalar_at.ensures _ c.in-Err.is) (_, c.refused.ensures, refl, refl)

@@ -1,14 +1,9 @@
 -- By the test. Assumes nothing.
-use borrow.Author.Rules.{rules}
 use borrow.Author.Tests.{lt-ltb, le-ltb}
-use Rattle.document.proofs.Numbers.{rows_long}
 use Rattle.term.proofs.reader.with_child.Goals as goal
 
 pub returns-then-k-ge-PLACES : goal.returns-then-k-ge-PLACES
 returns-then-k-ge-PLACES c = rw (le-ltb c.args.k 4 c.if-k-ge-PLACES.true)
-
-pub bounds-places-k : goal.bounds-places-k
-bounds-places-k c = search (rows_long, rules)
 
 pub returns : goal.returns
 returns c = rw (lt-ltb c.args.k 4 c.if-k-ge-PLACES.false)

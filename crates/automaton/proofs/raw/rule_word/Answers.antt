@@ -1,7 +1,0 @@
--- `automaton::raw::rule_word` meets its contract: a rule's numbers stand from its place on. Assumes nothing.
-use Rattle.automaton.specs.Stored.{rule_word}
-use Rattle.automaton.proofs.raw.rule_word.Goals as goal
-
-pub returns : goal.returns
-unfolding rule_word
-returns c = cc

@@ -1,9 +1,0 @@
--- `emptiness::building::remember` meets its contract. Assumes nothing.
-use Rattle.emptiness.proofs.Puts.{puts}
-use Rattle.emptiness.proofs.building.remember.Goals as goal
-
-pub returns-then-at-ge-STATES : goal.returns-then-at-ge-STATES
-returns-then-at-ge-STATES c = search puts
-
-pub returns : goal.returns
-returns c = search puts

@@ -1,9 +1,0 @@
--- `judging::memory::kept_place` meets its contract. Assumes nothing.
-use Rattle.judging.proofs.Own.{masks}
-use Rattle.judging.proofs.memory.kept_place.Goals as goal
-
-pub returns-then-mask-eq1 : goal.returns-then-mask-eq1
-returns-then-mask-eq1 c = search masks
-
-pub returns-else-mask-eq1 : goal.returns-else-mask-eq1
-returns-else-mask-eq1 c = search masks
