@@ -1,3 +1,4 @@
+pub mod Copying
 pub mod Leading
 pub mod Refusing
 pub mod Bytes

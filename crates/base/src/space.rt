@@ -7,6 +7,8 @@ pub fn put<T: Copy>(out: &mut [T], at: usize, items: &[T])
 {
     let n = items.len();
     if n <= out.len() && at <= out.len() - n {
-        out[at..at + n].copy_from_slice(items);
+        for i in 0..n {
+            out[at + i] = items[i];
+        }
     }
 }

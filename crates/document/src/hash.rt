@@ -5,7 +5,7 @@ ghost use Rattle.document.specs.Hash.{fnv_byte, fnv_cell, fnv_from, fnv1a, cell_
 ghost use Rattle.document.specs.Words.{words_cells};
 
 use crate::rows::ROW_CELLS;
-use crate::words::{RowWords, TWO_CELLS, low_cell};
+use crate::words::{TWO_CELLS, low_cell};
 use base::limits::UNUSED;
 
 pub const FNV_START: u32 = 2166136261;
@@ -123,11 +123,11 @@ fn add_rest(h: u32, x: u64, c: u64) -> u32
     times(add_two(h, x), FACTOR_4)
 }
 
-// The hash of a row's words.
-pub fn words_hash(w: RowWords) -> u32
-    ensures { result ≡ row_hash (words_cells w.a w.b w.c) }
+// The hash of a row's words, one by one: as a struct they go through memory, and reading arrays of large numbers took an eighth longer.
+pub fn words_hash(a: u64, b: u64, c: u64) -> u32
+    ensures { result ≡ row_hash (words_cells a b c) }
 {
-    add_rest(middle_hash(w.a, w.b % TWO_CELLS), w.b / TWO_CELLS, w.c)
+    add_rest(middle_hash(a, b % TWO_CELLS), b / TWO_CELLS, c)
 }
 
 // The hash of a row of up to three children and no scalar, by its first four cells, which then need not be taken out of words.

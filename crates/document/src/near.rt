@@ -46,7 +46,7 @@ pub fn place_row(
     ensures { (x : table.Row) → Words x w.a w.b w.c → Ready rows.old slots.old n limit → Did (find_or_add rows.old slots.old n limit x) result rows.new slots.new }
 {
     let at = near_place(w);
-    let start = words_hash(w) as usize % SLOTS;
+    let start = words_hash(w.a, w.b, w.c) as usize % SLOTS;
     match look_up_words(&*rows, &*slots, start, w) {
         Probed::Found(i) => {
             near[at] = i.0;

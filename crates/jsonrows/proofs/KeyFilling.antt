@@ -22,7 +22,7 @@ use Rattle.jsontext.specs.Decoded.{text_slot}
 use Rattle.jsontext.specs.Tokens.{TokenOf}
 use Rattle.jsonrows.specs.declared.keys.Line.{Line}
 use Rattle.jsonrows.specs.Keys.{max_keys, key?, keys_fit?}
-use Rattle.jsonrows.specs.KeyTable.{key_at, no_line, line_at, key_start, key_end, Stands, Tokened, Entered, Told, line_entered, list_unfit, KeyTable, free_in, free_of}
+use Rattle.jsonrows.specs.KeyTable.{key_at, no_line, line_at, key_start, key_end, Stands, Tokened, LinePut, Entered, Told, line_entered, list_unfit, KeyTable, free_in, free_of}
 use Rattle.jsonrows.proofs.Finding.{eq_eq_list, eq_list_eq}
 use Rattle.jsonrows.proofs.Numbered.{each_more, distinct_more}
 use Rattle.jsonrows.proofs.KeyLines.{all_apart, no_key, twice, lines_fit, many_lines, lines_unfit}
@@ -45,6 +45,21 @@ tokened_same places more k s x t e = x t (sym (ap (λ (l : Line). l.token) s) �
 -- what is said of a token that there is
 pub token_told : {line : List ℕ} (o : Maybe Token) → IfSome o (λ t. TokenOf line t.first t.last t.length) → (k : Token) → o ≡ Some k → TokenOf line k.first k.last k.length
 token_told {line} o h k e = subst (λ (o : Maybe Token). IfSome o (λ t. TokenOf line t.first t.last t.length)) e h
+
+-- a line that is written is there with its places and its token, and other lines are as they were
+module _ (places : List Line) (n a e : ℕ) (put : Line) (room : length places ≡ 64) (few : n < max_keys) (start : put.start ≡ a) (end : put.end ≡ e) where
+  put_here : line_at (set places n put) n ≡ put
+  put_here = get_or-set_same places n put no_line (omega (arith, room, few))
+
+  pub line_put : {line : List ℕ} → ((k : Token) → put.token ≡ Some k → TokenOf line k.first k.last k.length) → LinePut line places (set places n put) n a e
+  line_put token =
+      record {
+        room = length-set places n put ∙ room;
+        start = ap (λ (l : Line). l.start) put_here ∙ start;
+        end = ap (λ (l : Line). l.end) put_here ∙ end;
+        token = λ k q. token k (sym (ap (λ (l : Line). l.token) put_here) ∙ q);
+        others = λ k d. get_or-set_other places n k put no_line d;
+      }
 
 -- line n, which stands from a to e, is to be entered
 module _ {list : List ℕ} {places : List Line} {slots : List ℕ} {n a e : ℕ} (x : Entered list places slots n) (s : Starts list n a) (d : Ended list a e) (before : a < length list) where
@@ -99,16 +114,13 @@ module _ {list : List ℕ} {places : List Line} {slots : List ℕ} {n a e : ℕ}
         abbrev more : List Line
         more = set places i put
 
-        at_n : line_at more n ≡ put
-        at_n = ap (λ j. line_at (set places j put) n) is ∙ get_or-set_same places n put no_line (omega (arith, x.room, few))
-
-        beside : (k : ℕ) → (k ≡ n → ⊥) → line_at more k ≡ line_at places k
-        beside k d = get_or-set_other places i k put no_line (λ q. d (q ∙ is))
+        written : LinePut line places more n a e
+        written = subst (λ j. LinePut line places (set places j put) n a e) (sym is) (line_put places n a e put x.room few start end token)
 
         stands_here : Stands list more n
         stands_here =
-            let s : key_start more n ≡ a = ap (λ (l : Line). l.start) at_n ∙ start in
-            let f : key_end more n ≡ e = ap (λ (l : Line). l.end) at_n ∙ end in
+            let s = written.start in
+            let f = written.end in
             record {
               from = omega (arith, s, f, d.from);
               inside = omega (arith, f, d.inside);
@@ -116,7 +128,7 @@ module _ {list : List ℕ} {places : List Line} {slots : List ℕ} {n a e : ℕ}
             }
 
         same_before : (k : ℕ) → k < n → line_at more k ≡ line_at places k
-        same_before k l = beside k (λ q. omega (arith, q, l))
+        same_before k l = written.others k (λ q. omega (arith, q, l))
 
         still_indexed : Indexed (set slots t (suc n)) (suc n) (λ k. text_slot (key_at list k))
         still_indexed = indexed_more slots n (λ k. text_slot (key_at list k)) t x.indexed (subst (λ l. Opens slots (text_slot l) t) line_is fresh.1)
@@ -125,16 +137,16 @@ module _ {list : List ℕ} {places : List Line} {slots : List ℕ} {n a e : ℕ}
         places_entered key =
             record {
               few = omega (arith, few);
-              room = length-set places i put ∙ x.room;
+              room = written.room;
               inside = omega (arith, there);
               stands = each_more (Stands list more) n stands_here (λ k l. stands_same (same_before k l) (x.stands k l));
               keys = each_more (λ k. key? (key_at list k) ≡ true) n (ap key? (sym line_is) ∙ key) x.keys;
               distinct = distinct_more (key_at list) n x.distinct differs;
               indexed = subst (λ m. Indexed (set slots t m) m (λ k. text_slot (key_at list k))) (sym (add-one n)) still_indexed;
               tokens = each_more (λ k. Tokened (key_at list k) more k) n
-                  (subst (λ bs. Tokened bs more n) line_is (λ k q. token k (sym (ap (λ (l : Line). l.token) at_n) ∙ q)))
+                  (subst (λ bs. Tokened bs more n) line_is written.token)
                   (λ k l. tokened_same places more k (same_before k l) (x.tokens k l));
-              others = λ k l. beside k (λ q. omega (arith, q, l)) ∙ x.others k (omega (arith, l));
+              others = λ k l. written.others k (λ q. omega (arith, q, l)) ∙ x.others k (omega (arith, l));
             }
 
 module _ {list : List ℕ} {places : List Line} {slots : List ℕ} {n : ℕ} where

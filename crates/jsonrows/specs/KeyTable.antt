@@ -44,6 +44,14 @@ pub record Stands (list : List ℕ) (places : List Line) (k : ℕ) : Type 0 wher
   pub inside : key_end places k ≤ length list
   pub line : take (key_end places k - key_start places k) (drop (key_start places k) list) ≡ key_at list k
 
+-- Line n, from a to e, got its places and its token; those of others are as they were.
+pub record LinePut (line : List ℕ) (places more : List Line) (n a e : ℕ) : Type 0 where
+  pub room : length more ≡ 64
+  pub start : key_start more n ≡ a
+  pub end : key_end more n ≡ e
+  pub token : Tokened line more n
+  pub others : (k : ℕ) → (k ≡ n → ⊥) → line_at more k ≡ line_at places k
+
 -- The first n lines are keys, no two of them equal; the places and tokens are theirs, the slots are an index of them, and in the other places stands no line.
 pub record Entered (list : List ℕ) (places : List Line) (slots : List ℕ) (n : ℕ) : Type 0 where
   pub few : n ≤ max_keys

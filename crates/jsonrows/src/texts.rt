@@ -95,7 +95,7 @@ pub(crate) fn new_text(
         &mut tables.slots,
         counts.used,
         source.limit,
-        words_hash(w),
+        words_hash(w.a, w.b, w.c),
         w,
     ) {
         Placed::Added(row) => {

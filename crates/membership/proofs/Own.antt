@@ -12,13 +12,14 @@ use borrow.Author.Tests.{eq-eqb, ne_eqb, leb-true, leb-false}
 use lib.Dec.{eqb, leb}
 use lib.ListN.{length, get_or, set, length-set}
 use lib.Seq.{get_or-set_same, get_or-set_other}
-use Rattle.model.specs.Limits.{max_steps}
+use Rattle.model.specs.Limits.{max_children, max_steps}
 use Rattle.model.specs.Lists.{tab}
 use Rattle.model.specs.Automaton.{bit?}
 use Rattle.model.proofs.Tab.{tab_at}
 use Rattle.automaton.proofs.Parts.{tab_same}
 use Rattle.document.specs.Check.{place_in}
 use Rattle.membership.specs.Cells.{annotation_cells, room_of, memory_of, without}
+use Rattle.membership.specs.Plan.{Bounds}
 
 -- a list filled from the front, place by place: what each place holds is a function of its number
 pub record Filled (n : ℕ) (f : ℕ → ℕ) (width : ℕ) (out : List ℕ) (k : ℕ) : Type 0 where
@@ -96,6 +97,10 @@ pub ruleset masks = (masking_none, masking_more, masking_all, kept_all, bit_set,
 -- the counts before the children's rows
 abbrev pub bound_of : List ℕ → List ℕ → ℕ → ℕ → ℕ → ℕ
 bound_of cells starts i shift p = get_or starts (place_in cells i p + shift) 0
+
+-- of at most four children all are told
+pub bounds_whole : (cells starts : List ℕ) (i n shift : ℕ) (out : List ℕ) → n ≤ 4 → Bounds cells starts i (min n max_children) shift out → Bounds cells starts i n shift out
+bounds_whole cells starts i n shift out few told p l = told p (omega (arith, few, l))
 
 -- the room
 pub room_least : (cells n : ℕ) → n ≡ min (cells / annotation_cells) max_steps → n ≡ room_of cells

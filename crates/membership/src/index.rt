@@ -32,10 +32,9 @@ pub fn slot_of(row: Row, state: State, memory: &[u16], tags: usize, room: usize)
 
 // The link in a cell: a number and 1, at most `most`, or 0. It stays one number, as in the cell, since `link_of` says what a chain is by it.
 pub fn link_at(cells: &[u16], at: usize, most: usize) -> usize
-    requires { at < length cells.now }
     ensures { (result ≡ link_of most (get_or cells.now at 0)) × (result ≤ most) }
 {
-    let x = usize::from(cells[at]);
+    let x = usize::from(cells.get(at).copied().unwrap_or(0));
     if x <= most { x } else { 0 }
 }
 

@@ -1,5 +1,6 @@
 // The annotations of a whole table: row by row, by the rules of the row's symbol alone, with each child's window at hand.
-ghost use Rattle.std.specs.Prelude.{◌≡◌, cond, suc, ◌+◌, ◌%◌, ◌≤◌, ◌<◌, eqb, length, get_or};
+ghost use Rattle.std.specs.Prelude.{◌≡◌, cond, suc, ◌+◌, ◌%◌, ◌≤◌, ◌<◌, eqb, min, length, get_or};
+ghost use Rattle.model.specs.Limits.{max_children};
 ghost use Rattle.model.specs.Lists.{tab};
 ghost use Rattle.model.specs.Automaton.{bit?};
 ghost use Rattle.model.specs.Table.{SoundTable};
@@ -51,15 +52,14 @@ pub fn start_at(starts: &[u16], c: usize) -> usize
     usize::from(cell_at(starts, c))
 }
 
-// The number of annotations before each child's row, or before the row after it.
-pub fn bounds(rows: &[u16], starts: &[u16], i: Row, arity: usize, shift: usize) -> [usize; PLACES]
-    requires { (arity ≤ 4) × (shift ≤ 1) }
-    ensures { Bounds rows.now starts.now i.0 arity shift result }
+// The number of annotations before each child's row, or before the row that follows it by so many; there are at most four children.
+pub fn bounds(rows: &[u16], starts: &[u16], i: Row, arity: usize, shift: u16) -> [usize; PLACES]
+    ensures { Bounds rows.now starts.now i.0 (min arity max_children) shift result }
 {
     let mut out = [0usize; PLACES];
-    for p in 0..arity {
+    for p in 0..arity.min(PLACES) {
         let c = place(rows, i, p as u16);
-        out[p] = start_at(starts, usize::from(c.0) + shift);
+        out[p] = start_at(starts, usize::from(c.0) + usize::from(shift));
     }
     out
 }

@@ -78,7 +78,8 @@ fn from_children(run: &[u16], cells: &[u16], i: Step) -> Option<Place>
         if c.0 == UNUSED {
             return Some(j);
         }
-        j = join(j, place_of(cells, c))?;
+        let y = place_of(cells, c);
+        j = join(j, y)?;
     }
     Some(j)
 }

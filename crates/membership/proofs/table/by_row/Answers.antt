@@ -3,19 +3,15 @@ use Prim.Native.Nat.{◌+◌}
 use native.Mathlib.Omega.{arith}
 use Rattle.automaton.specs.Stored.{decode}
 use Rattle.membership.proofs.FirstRules.{first_at}
+use Rattle.membership.proofs.Own.{bounds_whole}
 use Rattle.membership.proofs.Rowing.{zeros, width_small, symbol_small, row_small, tags_small, rowing_start, next_ready, rowing_more, rowing_full, rowing_all}
 use Rattle.membership.proofs.table.by_row.Goals as goal
-
-pub bounds-low-requires : goal.bounds-low-requires
-bounds-low-requires c = (width_small c.args.set.now c.args.rows.now c.args.i.0 c.requires.sound.0 c.requires.sound.1 c.requires.before.row c.symbol-f.result c.from-width.result (c.from-width.ensures ∙ c.arity.ensures), omega arith)
-
-pub bounds-high-requires : goal.bounds-high-requires
-bounds-high-requires c = (width_small c.args.set.now c.args.rows.now c.args.i.0 c.requires.sound.0 c.requires.sound.1 c.requires.before.row c.symbol-f.result c.from-width.result (c.from-width.ensures ∙ c.arity.ensures), omega arith)
 
 pub loop-r-init : goal.loop-r-init
 loop-r-init c =
     let small = symbol_small c.args.set.now c.args.rows.now c.args.i.0 c.requires.sound.0 c.requires.sound.1 c.requires.before.row c.symbol-f.result c.symbol-f.ensures in
-    rowing_start c.args.set.now c.args.rows.now c.args.starts.now c.args.work.now c.args.i.0 c.args.tags c.args.room c.args.n c.symbol-f.result c.from-width.result c.bounds-low.result c.bounds-high.result c.cell_at-end.result c.cell_at-first.result c.requires.sound.0 c.requires.sound.1 c.requires.before c.requires.starts.0 c.symbol-f.ensures (c.from-width.ensures ∙ c.arity.ensures) c.bounds-low.ensures c.bounds-high.ensures (first_at (decode c.args.set.now) c.args.firsts.now c.symbol-f.result c.from-at.result c.cell_at-first.result c.requires.starts.1 (omega (arith, small)) c.from-at.ensures c.cell_at-first.ensures) (first_at (decode c.args.set.now) c.args.firsts.now (c.symbol-f.result + 1) (c.from-at.result + 1) c.cell_at-end.result c.requires.starts.1 (omega (arith, small)) (ap (λ z. z + 1) c.from-at.ensures) c.cell_at-end.ensures)
+    let width = width_small c.args.set.now c.args.rows.now c.args.i.0 c.requires.sound.0 c.requires.sound.1 c.requires.before.row c.symbol-f.result c.from-width.result (c.from-width.ensures ∙ c.arity.ensures) in
+    rowing_start c.args.set.now c.args.rows.now c.args.starts.now c.args.work.now c.args.i.0 c.args.tags c.args.room c.args.n c.symbol-f.result c.from-width.result c.bounds-low.result c.bounds-high.result c.cell_at-end.result c.cell_at-first.result c.requires.sound.0 c.requires.sound.1 c.requires.before c.requires.starts.0 c.symbol-f.ensures (c.from-width.ensures ∙ c.arity.ensures) (bounds_whole c.args.rows.now c.args.starts.now c.args.i.0 c.from-width.result 0 c.bounds-low.result width c.bounds-low.ensures) (bounds_whole c.args.rows.now c.args.starts.now c.args.i.0 c.from-width.result 1 c.bounds-high.result width c.bounds-high.ensures) (first_at (decode c.args.set.now) c.args.firsts.now c.symbol-f.result c.from-at.result c.cell_at-first.result c.requires.starts.1 (omega (arith, small)) c.from-at.ensures c.cell_at-first.ensures) (first_at (decode c.args.set.now) c.args.firsts.now (c.symbol-f.result + 1) (c.from-at.result + 1) c.cell_at-end.result c.requires.starts.1 (omega (arith, small)) (ap (λ z. z + 1) c.from-at.ensures) c.cell_at-end.ensures)
 
 pub own_memory-own-requires : goal.own_memory-own-requires
 own_memory-own-requires c = (tags_small c.args.set.now c.args.tags c.loop-r.invariant.ok c.loop-r.invariant.before.tags_are, row_small c.args.set.now c.args.rows.now c.args.i.0 c.loop-r.invariant.ok c.loop-r.invariant.table c.loop-r.invariant.before.row)
