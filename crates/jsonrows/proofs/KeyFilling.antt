@@ -28,6 +28,12 @@ use Rattle.jsonrows.proofs.Numbered.{each_more, distinct_more}
 use Rattle.jsonrows.proofs.KeyLines.{all_apart, no_key, twice, lines_fit, many_lines, lines_unfit}
 use Rattle.jsonrows.proofs.Keying.{probe_key}
 
+-- a token whose numbers are the same
+pub tokened_at : {line : List ℕ} {first last n first' last' n' : ℕ} → first' ≡ first → last' ≡ last → n' ≡ n → ((n ≡ 0 → ⊥) → TokenOf line first last n) → (n' ≡ 0 → ⊥) → TokenOf line first' last' n'
+tokened_at {line} {last = last} {n} {first'} {last'} f l c x z =
+    subst (λ k. TokenOf line first' last' k) (sym c)
+    (subst (λ k. TokenOf line first' k n) (sym l) (subst (λ k. TokenOf line k last n) (sym f) (x (λ e. z (c ∙ e)))))
+
 -- a line stands where its place is the same, and so does its token
 stands_same : {list : List ℕ} {places more : List Line} {k : ℕ} → line_at more k ≡ line_at places k → Stands list places k → Stands list more k
 stands_same {list} {places} {more} {k} s x =

@@ -1,5 +1,4 @@
 -- `judging::search::finish` meets its contract. Assumes nothing.
-use Rattle.judging.specs.Search.{tags_in}
 use Rattle.judging.proofs.Storing.{joined_short, finishing}
 use Rattle.judging.proofs.search.finish.Goals as goal
 
